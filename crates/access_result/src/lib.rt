@@ -1,0 +1,2 @@
+//! access_result
+#![tactic(auto)]

@@ -1,0 +1,2 @@
+//! cacheability
+#![tactic(auto)]

@@ -1,0 +1,2 @@
+//! content_rows
+#![tactic(auto)]

@@ -1,0 +1,2 @@
+//! content_state
+#![tactic(auto)]

@@ -1,0 +1,2 @@
+//! html_out
+#![tactic(auto)]

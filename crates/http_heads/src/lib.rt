@@ -1,0 +1,2 @@
+//! http_heads
+#![tactic(auto)]

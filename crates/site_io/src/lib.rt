@@ -1,0 +1,2 @@
+//! site_io
+#![tactic(auto)]

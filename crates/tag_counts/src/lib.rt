@@ -1,0 +1,2 @@
+//! tag_counts
+#![tactic(auto)]

@@ -1,0 +1,2 @@
+//! user_roles
+#![tactic(auto)]
