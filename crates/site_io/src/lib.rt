@@ -1,2 +1,13 @@
-//! site_io
+//! What a site reads from, writes to, and takes its moments and its chance from.
+//!
+//! Each device is a trait, so that the work on bytes is proved for every device. A device tells what it holds, what
+//! was written to it or what it gave, as a list, or doesn't tell. Those in memory tell; those of the system don't.
 #![tactic(auto)]
+
+mod device;
+mod ended;
+mod whole;
+
+pub use device::{Clock, Entropy, Failed, Gate, Point, Sink, Source};
+pub use ended::Ended;
+pub use whole::write_whole;
