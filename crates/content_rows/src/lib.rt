@@ -1,2 +1,14 @@
-//! content_rows
+//! The rows of a site: texts and lists, cells, one struct for each kind of row, what makes a row
+//! right, and the eight rows that a new site begins with.
 #![tactic(auto)]
+
+mod cell;
+mod row;
+mod text;
+
+pub use cell::Cell;
+pub use row::{
+    Block, BlockKind, FieldRow, FieldValue, Grant, GrantRow, Link, Listing, Menu, Node, NodeType,
+    Region, Role, Row, Seq, Session, Site, Term, User,
+};
+pub use text::{Duplicate, Items, Text};

@@ -1,0 +1,299 @@
+//! The rows of a site: one struct for each kind, whose fields are the row's keys.
+
+use crate::text::{Items, Text};
+use cacheability::Name;
+
+/// The settings of the site.
+#[derive(Drop, Debug)]
+pub struct Site {
+    /// The path that `/` shows: a target that is no bare `/`.
+    pub front: Text,
+    /// The name of the site, a line of at most 255 bytes.
+    pub name: Text,
+}
+
+/// The next ids to give, each from 1 to 4,294,967,295; at the last there is none left.
+#[derive(Drop, Debug)]
+pub struct Seq {
+    /// The id of the next node.
+    pub node: u32,
+    /// The id of the next term.
+    pub term: u32,
+    /// The id of the next user.
+    pub user: u32,
+}
+
+/// A field that the nodes of a content type have.
+#[derive(Drop, Debug)]
+pub struct FieldRow {
+    /// The permission that editing it takes, if any.
+    pub edit: Option<Text>,
+    /// What stands before its value, a line of at most 64 bytes.
+    pub label: Text,
+    /// Its machine name.
+    pub name: Name,
+    /// Whether it is for the node's owner alone.
+    pub owner: bool,
+    /// Whether teasers show it.
+    pub teaser: bool,
+    /// The permission that viewing it takes, if any.
+    pub view: Option<Text>,
+}
+
+/// A content type.
+#[derive(Drop, Debug)]
+pub struct NodeType {
+    /// Its fields in the order in which they are shown: at most 32, names distinct.
+    pub fields: Items<FieldRow>,
+    /// What people call it, a line of at most 255 bytes.
+    pub label: Text,
+    /// Whether its nodes show their author and day.
+    pub submitted: bool,
+}
+
+/// A grant that a role or a user holds: a number in a realm.
+#[derive(Clone, Copy, Debug)]
+pub struct Grant {
+    /// The number of the grant.
+    pub gid: u32,
+    /// The realm that the number belongs to.
+    pub realm: Name,
+}
+
+/// A role.
+#[derive(Drop, Debug)]
+pub struct Role {
+    /// Whether its holders have every permission.
+    pub admin: bool,
+    /// At most 64 grants.
+    pub grants: Items<Grant>,
+    /// What people call it, a line of at most 255 bytes.
+    pub label: Text,
+    /// At most 256 permissions, each a line of at most 128 bytes.
+    pub permissions: Items<Text>,
+}
+
+/// A user.
+#[derive(Drop, Debug)]
+pub struct User {
+    /// When it was made, in seconds since 1970.
+    pub created: u64,
+    /// The digest of its password, 64 lower-case hex digits; none where it cannot log in.
+    pub digest: Option<Text>,
+    /// At most 64 grants.
+    pub grants: Items<Grant>,
+    /// Its name, a line of at most 60 bytes.
+    pub name: Text,
+    /// At most 32 roles besides `authenticated`.
+    pub roles: Items<Name>,
+    /// The salt of the digest, 32 lower-case hex digits or empty.
+    pub salt: Text,
+    /// Whether it is active and not blocked.
+    pub status: bool,
+    /// Its universal id.
+    pub uuid: Text,
+}
+
+/// A taxonomy term.
+#[derive(Drop, Debug)]
+pub struct Term {
+    /// What it means: a text.
+    pub description: Text,
+    /// Its name, a line of at most 255 bytes.
+    pub name: Text,
+    /// Whether it is published.
+    pub status: bool,
+    /// Its universal id.
+    pub uuid: Text,
+}
+
+/// The value of a node's field.
+#[derive(Drop, Debug)]
+pub struct FieldValue {
+    /// The field's machine name.
+    pub name: Name,
+    /// Its value: a text.
+    pub value: Text,
+}
+
+/// A node's access record: which operations it lets the holders of a grant do.
+#[derive(Clone, Copy, Debug)]
+pub struct GrantRow {
+    /// Whether they may delete the node.
+    pub delete: bool,
+    /// The number of the grant.
+    pub gid: u32,
+    /// The realm that the number belongs to.
+    pub realm: Name,
+    /// Whether they may update the node.
+    pub update: bool,
+    /// Whether they may view the node.
+    pub view: bool,
+}
+
+/// A node: one piece of content.
+#[derive(Drop, Debug)]
+pub struct Node {
+    /// When it was last changed, in seconds since 1970.
+    pub changed: u64,
+    /// When it was made, in seconds since 1970.
+    pub created: u64,
+    /// The values of its fields, by the bytes of their names, each name once.
+    pub fields: Items<FieldValue>,
+    /// At most 64 access records.
+    pub grants: Items<GrantRow>,
+    /// The path that it has instead of `/node/<n>`, if any.
+    pub path: Option<Text>,
+    /// Whether front pages list it.
+    pub promote: bool,
+    /// The ids of at most 8 nodes that it embeds.
+    pub refs: Items<u32>,
+    /// Whether it is published.
+    pub status: bool,
+    /// Whether it stands before others in listings.
+    pub sticky: bool,
+    /// The ids of at most 32 terms.
+    pub terms: Items<u32>,
+    /// Its title, a line of at most 255 bytes.
+    pub title: Text,
+    /// The machine name of its content type.
+    pub node_type: Name,
+    /// The id of the user that owns it; 0 is nobody.
+    pub uid: u32,
+    /// Its universal id.
+    pub uuid: Text,
+    /// The number of its version, from 1.
+    pub vid: u32,
+}
+
+/// A link of a menu.
+#[derive(Drop, Debug)]
+pub struct Link {
+    /// Its name within the menu.
+    pub id: Name,
+    /// The link that it stands under; none at the top.
+    pub parent: Option<Name>,
+    /// The path that it leads to: a target.
+    pub path: Text,
+    /// What it shows, a line of at most 255 bytes.
+    pub title: Text,
+    /// Its weight, from -1,000 to 1,000; the least comes first.
+    pub weight: i32,
+}
+
+/// A menu.
+#[derive(Drop, Debug)]
+pub struct Menu {
+    /// What people call it, a line of at most 255 bytes.
+    pub label: Text,
+    /// At most 256 links: ids distinct, parents present, no cycle, at most 9 deep.
+    pub links: Items<Link>,
+}
+
+/// A listing: nodes of some kind, newest first, ten a page.
+#[derive(Drop, Debug)]
+pub struct Listing {
+    /// How long it may be shown once built, in seconds; none exactly where `recent` is none.
+    pub age: Option<u32>,
+    /// The path of its page, if it has one.
+    pub path: Option<Text>,
+    /// Whether it lists promoted nodes only.
+    pub promoted: bool,
+    /// How old a node may be to be listed, in seconds; none lists nodes of any age.
+    pub recent: Option<u32>,
+    /// The term that a node must have to be listed, if any.
+    pub term: Option<u32>,
+    /// Its title, a line of at most 255 bytes.
+    pub title: Text,
+    /// The content types that it lists, at most 32; all of them where there is none.
+    pub types: Items<Name>,
+}
+
+/// What a block shows.
+#[derive(Clone, Copy, Debug, PartialEq, Eq)]
+pub enum BlockKind {
+    /// A text of its own.
+    Text,
+    /// A menu.
+    Menu,
+    /// A listing.
+    Listing,
+    /// A greeting of the viewer.
+    Greeting,
+    /// The token that guards the viewer's forms.
+    Csrf,
+    /// The time.
+    Clock,
+}
+
+/// A part of the page that blocks are placed in.
+#[derive(Clone, Copy, Debug, PartialEq, Eq)]
+pub enum Region {
+    /// Above the content.
+    Header,
+    /// Beside the content.
+    Aside,
+    /// Below the content.
+    Footer,
+}
+
+/// A placed block.
+#[derive(Drop, Debug)]
+pub struct Block {
+    /// How long a clock may be shown once built, in seconds; none for every other kind.
+    pub age: Option<u32>,
+    /// Whether `paths` are those where it is hidden.
+    pub hide: bool,
+    /// What it shows.
+    pub kind: BlockKind,
+    /// Its heading, a line of at most 255 bytes; empty for none.
+    pub label: Text,
+    /// The menu or the listing that it shows; none for every other kind.
+    pub name: Option<Name>,
+    /// At most 32 paths where it is shown: targets, `/` or `<front>`; everywhere where there is none.
+    pub paths: Items<Text>,
+    /// The part of the page that it stands in.
+    pub region: Region,
+    /// At most 32 roles that see it; everybody where there is none.
+    pub roles: Items<Name>,
+    /// The text of a text block; none for every other kind.
+    pub text: Option<Text>,
+    /// Its weight, from -1,000 to 1,000; the least comes first.
+    pub weight: i32,
+}
+
+/// A session: who a token is logged in as.
+#[derive(Drop, Debug)]
+pub struct Session {
+    /// When it ends, in seconds since 1970.
+    pub expires: u64,
+    /// The id of the user.
+    pub uid: u32,
+}
+
+/// A row of any kind.
+#[derive(Drop, Debug)]
+pub enum Row {
+    /// The settings of the site.
+    Site(Site),
+    /// The next ids to give.
+    Seq(Seq),
+    /// A content type.
+    NodeType(NodeType),
+    /// A role.
+    Role(Role),
+    /// A user.
+    User(User),
+    /// A taxonomy term.
+    Term(Term),
+    /// A node.
+    Node(Node),
+    /// A menu.
+    Menu(Menu),
+    /// A listing of nodes.
+    Listing(Listing),
+    /// A placed block.
+    Block(Block),
+    /// A session.
+    Session(Session),
+}

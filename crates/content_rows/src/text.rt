@@ -1,0 +1,199 @@
+//! Texts and lists of rows: each is a `Vec` that contracts see as the list of its members.
+ghost use Rattle.std.specs.Prelude.{◌≡◌, List, ℕ, [], length, IfOk, IsTrue, ◌↔◌, Some, nat_eq, refl, take};
+ghost use Rattle.std.specs.Ordering.{nat_cmp};
+ghost use Rattle.std.specs.Cmp.{partial_equiv_from_equiv};
+ghost use Rattle.std.specs.Cmp.Lexicographic.{pointwise, slice_cmp, nat_list_eq_equiv, nat_list_cmp_total, texts_po, texts_ties};
+
+use cacheability::Name;
+use std::alloc::{AllocError, Global};
+use std::cmp::Ordering;
+use std::marker::Model;
+
+/// A value that can be written out a second time, in memory of its own.
+pub trait Duplicate: Drop {
+    /// The same value again. `Err` only where memory is wanting.
+    fn duplicate(&self, alloc: Global) -> Result<Self, AllocError>
+        ensures { IfOk result (λ copy. copy ≡ self.now) };
+}
+
+impl Duplicate for u32 {
+    fn duplicate(&self, _alloc: Global) -> Result<Self, AllocError> {
+        Ok(*self)
+    }
+}
+
+impl Duplicate for Name {
+    fn duplicate(&self, _alloc: Global) -> Result<Self, AllocError> {
+        Ok(*self)
+    }
+}
+
+/// A text of a row: bytes, mostly UTF-8 by the rules of the row that it stands in.
+#[derive(Drop, Debug)]
+pub struct Text {
+    bytes: Vec<u8>,
+}
+
+impl Model for Text {
+    ghost use Rattle.std.specs.Prelude.{List, ℕ};
+
+    ghost Value = { List ℕ };
+
+    ghost view = { λ t. t.bytes.items };
+}
+
+impl Text {
+    /// The text of these bytes, which it takes as they are, with no memory of its own.
+    pub fn from_vec(bytes: Vec<u8>) -> Text
+        ensures { result ≡ bytes.items }
+    {
+        Text { bytes }
+    }
+
+    /// The bytes of the text, handed back as the `Vec` that holds them.
+    pub fn into_vec(self) -> Vec<u8>
+        ensures { result.items ≡ self }
+    {
+        self.bytes
+    }
+
+    /// A text of a copy of these bytes. `Err` only where memory is wanting.
+    pub fn copied(alloc: Global, bytes: &[u8]) -> Result<Text, AllocError>
+        ensures { IfOk result (λ t. t ≡ bytes.now) }
+    {
+        Ok(Text {
+            bytes: Vec::from_slice(alloc, bytes)?,
+        })
+    }
+
+    /// The bytes of the text.
+    pub fn as_slice(&self) -> &[u8]
+        ensures { result.now ≡ self.now }
+    {
+        self.bytes.as_slice()
+    }
+
+    /// Whether both texts have the same bytes.
+    pub fn equals(&self, other: &Text) -> bool
+        ensures { IsTrue result ↔ (self.now ≡ other.now) }
+    {
+        self.as_slice() == other.as_slice()
+    }
+}
+
+impl Duplicate for Text {
+    fn duplicate(&self, alloc: Global) -> Result<Self, AllocError> {
+        Text::copied(alloc, self.as_slice())
+    }
+}
+
+impl PartialEq for Text {
+    ghost eq = { λ s t. pointwise nat_eq s t };
+
+    ghost laws = { partial_equiv_from_equiv nat_list_eq_equiv };
+
+    fn eq(&self, other: &Self) -> bool {
+        self.as_slice() == other.as_slice()
+    }
+}
+
+impl Eq for Text {
+    ghost laws = { nat_list_eq_equiv };
+}
+
+impl PartialOrd for Text {
+    ghost partial_cmp = { λ s t. Some (slice_cmp nat_cmp s t) };
+
+    ghost laws = { texts_po };
+
+    fn partial_cmp(&self, other: &Self) -> Option<Ordering> {
+        Some(self.cmp(other))
+    }
+}
+
+/// By the bytes, the first difference deciding; a beginning comes before what it begins.
+impl Ord for Text {
+    ghost cmp = { λ s t. slice_cmp nat_cmp s t };
+
+    ghost total = { nat_list_cmp_total };
+
+    ghost matches_partial_cmp = { λ s t. refl };
+
+    ghost matches_eq = { λ s t. texts_ties s t };
+
+    fn cmp(&self, other: &Self) -> Ordering {
+        self.as_slice().cmp(other.as_slice())
+    }
+}
+
+/// A list in a row.
+#[derive(Drop, Debug)]
+pub struct Items<T: Drop> {
+    items: Vec<T>,
+}
+
+impl<T: Drop> Model for Items<T> {
+    ghost use Rattle.std.specs.Prelude.{List};
+
+    ghost Value = { List T };
+
+    ghost view = { λ m. m.items.items };
+}
+
+impl<T: Drop> Items<T> {
+    /// The list of these members, which it takes as they are, with no memory of its own.
+    pub fn from_vec(items: Vec<T>) -> Items<T>
+        ensures { result ≡ items.items }
+    {
+        Items { items }
+    }
+
+    /// The members, handed back as the `Vec` that holds them.
+    pub fn into_vec(self) -> Vec<T>
+        ensures { result.items ≡ self }
+    {
+        self.items
+    }
+
+    /// An empty list. `Err` only where memory is wanting.
+    pub fn none(alloc: Global) -> Items<T>
+        ensures { result ≡ [] }
+    {
+        Items {
+            items: Vec::new(alloc),
+        }
+    }
+
+    /// The members in their order.
+    pub fn as_slice(&self) -> &[T]
+        ensures { result.now ≡ self.now }
+    {
+        self.items.as_slice()
+    }
+
+    /// How many members there are.
+    pub fn len(&self) -> usize
+        ensures { result ≡ length self.now }
+    {
+        self.items.len()
+    }
+}
+
+impl<T: Duplicate> Duplicate for Items<T> {
+    fn duplicate(&self, alloc: Global) -> Result<Self, AllocError> {
+        let mut copies = Vec::with_capacity(alloc, self.items.len())?;
+        'members: for member in &self.items {
+            copies.push(member.duplicate(alloc)?)?;
+        }
+        Ok(Items { items: copies })
+    }
+}
+
+impl<T: Duplicate> Duplicate for Option<T> {
+    fn duplicate(&self, alloc: Global) -> Result<Self, AllocError> {
+        match self {
+            Some(value) => Ok(Some(value.duplicate(alloc)?)),
+            None => Ok(None),
+        }
+    }
+}
