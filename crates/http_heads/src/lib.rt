@@ -1,2 +1,18 @@
-//! http_heads
+//! Requests from the bytes of a connection, and the heads of replies: a profile of HTTP/1.1
+//! (RFC 9110, RFC 9112) and of cookies (RFC 6265).
+//!
+//! `parse` says what bytes begin with, over the crate `httparse`; `reply_head` writes the head of
+//! a reply. Neither reads nor writes anything but its arguments.
 #![tactic(auto)]
+
+mod octets;
+mod parsed;
+mod parsing;
+mod reply;
+mod request;
+
+pub use octets::Octets;
+pub use parsed::Parsed;
+pub use parsing::parse;
+pub use reply::{CookieOut, Media, ReplyHead, is_reply_status, reply_head};
+pub use request::{Request, Version};

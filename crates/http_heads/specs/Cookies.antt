@@ -1,0 +1,36 @@
+-- The session's cookie (RFC 6265, sections 4.2.1 and 5.4).
+use Rattle.std.specs.Prelude.{ℕ, List, [], ◌∷◌, Bool, ◌≡◌, ◌==◌, codes, map, find, drop, if◌then◌else◌, Option, Some, None, nat_eq}
+use Rattle.std.specs.List.{slice_split, starts_with}
+use Rattle.std.specs.Option.{option_map, option_or}
+use Rattle.httparse.specs.Grammar.{trim_ows}
+use Rattle.cacheability.specs.Name.{IsName}
+use Rattle.http_heads.specs.Fields.{cookie, is_named}
+
+-- the name of the session's cookie, and the sign after it
+unfoldable pub session_mark : List ℕ
+session_mark = codes "SESS="
+
+-- the pairs of a Cookie field's value: what stands between its semicolons, without the spaces and
+-- tabs round each
+abbrev pub pairs : List ℕ → List (List ℕ)
+pairs value = map trim_ows (slice_split (λ b. b == 59) value)
+
+-- the cookie's name is `SESS`
+abbrev pub is_session_pair : List ℕ → Bool
+is_session_pair pair = starts_with nat_eq pair session_mark
+
+-- the token of the first session pair of a value
+abbrev pub token_in : List ℕ → Option (List ℕ)
+token_in value = option_map (λ pair. drop 5 pair) (find is_session_pair (pairs value))
+
+-- the token of the first session pair over all Cookie fields, in order
+abbrev pub token_of : List (List ℕ × List ℕ) → Option (List ℕ)
+token_of [] = None
+token_of (field ∷ fields) =
+    if is_named cookie field then option_or (token_in field.1) (token_of fields) else token_of fields
+
+-- the session that a token names: a token that is no name counts as none
+abbrev pub NamesSession : Option (List ℕ) → Option (List ℕ) → Type 0
+NamesSession None session = session ≡ None
+NamesSession (Some token) None = ¬ (IsName token)
+NamesSession (Some token) (Some name) = IsName token × (name ≡ token)

@@ -1,0 +1,56 @@
+-- The fields of a request's head (RFC 9110, sections 5.1 and 5.6.1; RFC 9112, section 5).
+use Rattle.std.specs.Prelude.{ℕ, List, Bool, ◌==◌, ◌&&◌, codes, map, find, Option}
+use Rattle.std.specs.List.{list_any, slice_split}
+use Rattle.std.specs.Option.{option_map}
+use Rattle.std.specs.Str.{str_eq_ignore_ascii_case}
+use Rattle.httparse.specs.Grammar.{RequestHead, trim_ows}
+use Rattle.httparse.specs.Spans.{name_and_value}
+
+unfoldable pub content_length : List ℕ
+content_length = codes "Content-Length"
+
+unfoldable pub transfer_encoding : List ℕ
+transfer_encoding = codes "Transfer-Encoding"
+
+unfoldable pub connection : List ℕ
+connection = codes "Connection"
+
+unfoldable pub content_type : List ℕ
+content_type = codes "Content-Type"
+
+unfoldable pub csrf_token : List ℕ
+csrf_token = codes "X-CSRF-Token"
+
+unfoldable pub cookie : List ℕ
+cookie = codes "Cookie"
+
+unfoldable pub close : List ℕ
+close = codes "close"
+
+-- the name of each field, and its value without the spaces and tabs round it
+abbrev pub fields_of : RequestHead → List (List ℕ × List ℕ)
+fields_of head = map name_and_value head.fields
+
+-- names compare without ASCII case
+abbrev pub is_named : List ℕ → List ℕ × List ℕ → Bool
+is_named name field = str_eq_ignore_ascii_case field.0 name
+
+-- a field of that name stands
+abbrev pub stands : List ℕ → List (List ℕ × List ℕ) → Bool
+stands name fields = list_any (is_named name) fields
+
+-- the value of the first field of that name
+abbrev pub first_value : List ℕ → List (List ℕ × List ℕ) → Option (List ℕ)
+first_value name fields = option_map (λ field. field.1) (find (is_named name) fields)
+
+-- what stands between the commas of a value, without the spaces and tabs round each element
+abbrev pub elements : List ℕ → List (List ℕ)
+elements value = map trim_ows (slice_split (λ b. b == 44) value)
+
+-- the value lists the option `close`, in any case (RFC 9110, section 7.6.1)
+abbrev pub lists_close : List ℕ → Bool
+lists_close value = list_any (λ element. str_eq_ignore_ascii_case element close) (elements value)
+
+-- some Connection field lists `close`
+abbrev pub asks_close : List (List ℕ × List ℕ) → Bool
+asks_close fields = list_any (λ field. is_named connection field && lists_close field.1) fields

@@ -1,0 +1,52 @@
+-- What a whole head says: the fields of the request that is made of it.
+use Rattle.std.specs.Prelude.{ℕ, suc, zero, List, [], ◌≡◌, ◌==◌, ◌||◌, ◌+◌, Bool, Option, Some, None, position, take, drop}
+use Rattle.percent_encoding.specs.Percent.{percent_decode}
+use Rattle.httparse.specs.Grammar.{RequestHead}
+use Rattle.http_heads.specs.declared.request.Request.{Request}
+use Rattle.http_heads.specs.declared.request.Version.{Version}
+use Rattle.http_heads.specs.declared.request.Version.TheVariants as version
+use Rattle.http_heads.specs.Fields.{fields_of, first_value, asks_close, content_type, csrf_token}
+use Rattle.http_heads.specs.Cookies.{token_of, NamesSession}
+
+-- a question mark
+abbrev pub is_question : ℕ → Bool
+is_question b = b == 63
+
+-- what stands before the place, or all
+abbrev pub cut_before : List ℕ → Option ℕ → List ℕ
+cut_before bytes None = bytes
+cut_before bytes (Some i) = take i bytes
+
+-- what stands after the place, or nothing
+abbrev pub cut_after : List ℕ → Option ℕ → List ℕ
+cut_after bytes None = []
+cut_after bytes (Some i) = drop (i + 1) bytes
+
+-- the path runs to the first question mark, percent-decoded (RFC 3986, sections 2.1 and 3.3)
+abbrev pub path_of : List ℕ → List ℕ
+path_of target = percent_decode (cut_before target (position is_question target))
+
+-- the query is what follows it (RFC 3986, section 3.4)
+abbrev pub query_of : List ℕ → List ℕ
+query_of target = cut_after target (position is_question target)
+
+-- the version of a minor number (RFC 9112, section 2.3)
+abbrev pub version_of : ℕ → Version
+version_of zero = version.Http10
+version_of (suc n) = version.Http11
+
+-- the connection is to close after the reply (RFC 9112, section 9.6)
+abbrev pub closes : RequestHead → Bool
+closes head = (head.minor == 0) || asks_close (fields_of head)
+
+-- each part of the request but its body is what the head says
+pub record IsRequestOf (head : RequestHead) (request : Request) : Type 0 where
+  pub method : request.method ≡ head.method
+  pub target : request.target ≡ head.target
+  pub path : request.path ≡ path_of head.target
+  pub query : request.query ≡ query_of head.target
+  pub version : request.version ≡ version_of head.minor
+  pub closes : request.closes ≡ closes head
+  pub content_type : request.content_type ≡ first_value content_type (fields_of head)
+  pub csrf : request.csrf ≡ first_value csrf_token (fields_of head)
+  pub session : NamesSession (token_of (fields_of head)) request.session
