@@ -6,8 +6,10 @@
 
 mod device;
 mod ended;
+mod memory;
 mod whole;
 
 pub use device::{Clock, Entropy, Failed, Gate, Point, Sink, Source};
 pub use ended::Ended;
+pub use memory::{MemorySink, MemorySource};
 pub use whole::write_whole;
