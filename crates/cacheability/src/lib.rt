@@ -2,6 +2,11 @@
 //! that it varies by, and how long it may be kept.
 #![tactic(auto)]
 
+mod context;
 mod name;
+mod tag;
+mod written;
 
+pub use context::Context;
 pub use name::{BadName, Name};
+pub use tag::Tag;

@@ -1,0 +1,156 @@
+//! Cache tags.
+ghost use Rattle.std.specs.Prelude.{◌≡◌, ◌↔◌, IfOk, IsTrue, Some, nat_eq, refl};
+ghost use Rattle.std.specs.Ordering.{nat_cmp, on};
+ghost use Rattle.std.specs.Cmp.{partial_equiv_from_equiv};
+ghost use Rattle.std.specs.Cmp.Lexicographic.{pointwise, slice_cmp};
+ghost use Rattle.std.specs.Cmp.Rules.{comparing, hashing};
+ghost use Rattle.std.specs.Hash as fed;
+ghost use Rattle.std.proofs.Common.{rules};
+
+use crate::name::Name;
+use crate::written::Written;
+use std::alloc::{AllocError, Global};
+use std::cmp::Ordering;
+use std::hash::{Hash, Hasher};
+
+/// A cache tag: a thing that what is kept was made from, so that it is made again once the thing
+/// changes (Drupal's Cache API, "Cache tags"). Tags are ordered by their texts.
+#[derive(Clone, Copy, Debug)]
+pub enum Tag {
+    /// `config:system.site`: the site's own settings.
+    Site,
+    /// `config:node.type.<type>`: a content type.
+    NodeType(Name),
+    /// `config:user.role.<role>`: a role.
+    Role(Name),
+    /// `user:<uid>`: a user.
+    User(u32),
+    /// `taxonomy_term:<tid>`: a term.
+    Term(u32),
+    /// `taxonomy_term_list`: which terms there are.
+    TermList,
+    /// `node:<nid>`: a node.
+    Node(u32),
+    /// `node_list`: which nodes there are.
+    NodeList,
+    /// `node_list:<type>`: which nodes of a content type there are.
+    NodeListOf(Name),
+    /// `config:system.menu.<menu>`: a menu.
+    Menu(Name),
+    /// `config:views.view.<listing>`: a listing.
+    Listing(Name),
+    /// `config:block.block.<block>`: a block.
+    Block(Name),
+    /// `config:block_list`: which blocks there are.
+    BlockList,
+    /// `rendered`: all that was rendered.
+    Rendered,
+    /// `4xx-response`: answers that something is absent or denied.
+    NotFound,
+}
+
+impl Tag {
+    ghost use Rattle.cacheability.specs.Tag.{tag_text};
+
+    /// The text of the tag.
+    pub fn text(&self, alloc: Global) -> Result<Vec<u8>, AllocError>
+        ensures { IfOk result (λ text. text.items ≡ tag_text self.now) }
+    {
+        Vec::from_slice(alloc, self.written().as_slice())
+    }
+
+    #[tactic(auto, using(crate::proofs::Texts::tags_apart))]
+    /// Whether two tags are the same. They are exactly where their texts are.
+    pub fn equals(&self, other: &Tag) -> bool
+        ensures same { IsTrue result ↔ (self.now ≡ other.now) }
+        ensures same_text { IsTrue result ↔ (tag_text self.now ≡ tag_text other.now) }
+    {
+        self.reads_as(other)
+    }
+
+    /// Whether two tags have the same text.
+    fn reads_as(&self, other: &Tag) -> bool
+        ensures { IsTrue result ↔ (tag_text self.now ≡ tag_text other.now) }
+    {
+        self.written().as_slice() == other.written().as_slice()
+    }
+
+    /// The text of the tag, held in place.
+    fn written(&self) -> Written
+        ensures { result ≡ tag_text self.now }
+    {
+        match self {
+            Tag::Site => Written::of(b"config:system.site"),
+            Tag::NodeType(name) => Written::with_name(b"config:node.type.", name),
+            Tag::Role(name) => Written::with_name(b"config:user.role.", name),
+            Tag::User(uid) => Written::with_number(b"user:", *uid),
+            Tag::Term(tid) => Written::with_number(b"taxonomy_term:", *tid),
+            Tag::TermList => Written::of(b"taxonomy_term_list"),
+            Tag::Node(nid) => Written::with_number(b"node:", *nid),
+            Tag::NodeList => Written::of(b"node_list"),
+            Tag::NodeListOf(name) => Written::with_name(b"node_list:", name),
+            Tag::Menu(name) => Written::with_name(b"config:system.menu.", name),
+            Tag::Listing(name) => Written::with_name(b"config:views.view.", name),
+            Tag::Block(name) => Written::with_name(b"config:block.block.", name),
+            Tag::BlockList => Written::of(b"config:block_list"),
+            Tag::Rendered => Written::of(b"rendered"),
+            Tag::NotFound => Written::of(b"4xx-response"),
+        }
+    }
+}
+
+impl PartialEq for Tag {
+    ghost use Rattle.cacheability.specs.Tag.{tag_text};
+
+    ghost eq = { on tag_text (pointwise nat_eq) };
+
+    ghost laws = { Prim.search (comparing, rules) };
+
+    fn eq(&self, other: &Self) -> bool {
+        self.written().as_slice() == other.written().as_slice()
+    }
+}
+
+impl Eq for Tag {
+    ghost laws = { Prim.search (comparing, rules) };
+}
+
+impl PartialOrd for Tag {
+    ghost use Rattle.cacheability.specs.Tag.{tag_text};
+
+    ghost partial_cmp = { λ a b. Some (slice_cmp nat_cmp (tag_text a) (tag_text b)) };
+
+    ghost laws = { Prim.search (comparing, rules) };
+
+    fn partial_cmp(&self, other: &Self) -> Option<Ordering> {
+        Some(self.cmp(other))
+    }
+}
+
+impl Ord for Tag {
+    ghost use Rattle.cacheability.specs.Tag.{tag_text};
+
+    ghost cmp = { on tag_text (slice_cmp nat_cmp) };
+
+    ghost total = { Prim.search (comparing, rules) };
+
+    ghost matches_partial_cmp = { λ a b. refl };
+
+    ghost matches_eq = { Prim.search (comparing, rules) };
+
+    fn cmp(&self, other: &Self) -> Ordering {
+        self.written().as_slice().cmp(other.written().as_slice())
+    }
+}
+
+impl Hash for Tag {
+    ghost use Rattle.cacheability.specs.Tag.{tag_text};
+
+    ghost hash_input = { λ a. fed.slice fed.u8 (tag_text a) };
+
+    ghost respects_eq = { Prim.search (hashing, rules) };
+
+    fn hash<H: Hasher>(&self, state: &mut H) {
+        self.written().as_slice().hash(state);
+    }
+}
