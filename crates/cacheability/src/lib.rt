@@ -4,9 +4,11 @@
 
 mod context;
 mod name;
+mod op;
 mod tag;
 mod written;
 
 pub use context::Context;
 pub use name::{BadName, Name};
+pub use op::Op;
 pub use tag::Tag;

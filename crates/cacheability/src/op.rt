@@ -1,0 +1,10 @@
+//! What is done to an entity.
+
+/// An operation on an entity or on a field of it.
+/// <https://www.drupal.org/docs/8/api/entity-api/access-on-entities>
+#[derive(Clone, Copy, Debug, PartialEq, Eq)]
+pub enum Op {
+    View,
+    Update,
+    Delete,
+}
