@@ -3,12 +3,14 @@
 #![tactic(auto)]
 
 mod cell;
+mod duplicate;
 mod row;
 mod text;
 
 pub use cell::Cell;
+pub use duplicate::Duplicate;
 pub use row::{
     Block, BlockKind, FieldRow, FieldValue, Grant, GrantRow, Link, Listing, Menu, Node, NodeType,
     Region, Role, Row, Seq, Session, Site, Term, User,
 };
-pub use text::{Duplicate, Items, Text};
+pub use text::{Items, Text};

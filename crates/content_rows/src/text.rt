@@ -9,25 +9,6 @@ use std::alloc::{AllocError, Global};
 use std::cmp::Ordering;
 use std::marker::Model;
 
-/// A value that can be written out a second time, in memory of its own.
-pub trait Duplicate: Drop {
-    /// The same value again. `Err` only where memory is wanting.
-    fn duplicate(&self, alloc: Global) -> Result<Self, AllocError>
-        ensures { IfOk result (λ copy. copy ≡ self.now) };
-}
-
-impl Duplicate for u32 {
-    fn duplicate(&self, _alloc: Global) -> Result<Self, AllocError> {
-        Ok(*self)
-    }
-}
-
-impl Duplicate for Name {
-    fn duplicate(&self, _alloc: Global) -> Result<Self, AllocError> {
-        Ok(*self)
-    }
-}
-
 /// A text of a row: bytes, mostly UTF-8 by the rules of the row that it stands in.
 #[derive(Drop, Debug)]
 pub struct Text {
@@ -78,12 +59,6 @@ impl Text {
         ensures { IsTrue result ↔ (self.now ≡ other.now) }
     {
         self.as_slice() == other.as_slice()
-    }
-}
-
-impl Duplicate for Text {
-    fn duplicate(&self, alloc: Global) -> Result<Self, AllocError> {
-        Text::copied(alloc, self.as_slice())
     }
 }
 
@@ -176,24 +151,5 @@ impl<T: Drop> Items<T> {
         ensures { result ≡ length self.now }
     {
         self.items.len()
-    }
-}
-
-impl<T: Duplicate> Duplicate for Items<T> {
-    fn duplicate(&self, alloc: Global) -> Result<Self, AllocError> {
-        let mut copies = Vec::with_capacity(alloc, self.items.len())?;
-        'members: for member in &self.items {
-            copies.push(member.duplicate(alloc)?)?;
-        }
-        Ok(Items { items: copies })
-    }
-}
-
-impl<T: Duplicate> Duplicate for Option<T> {
-    fn duplicate(&self, alloc: Global) -> Result<Self, AllocError> {
-        match self {
-            Some(value) => Ok(Some(value.duplicate(alloc)?)),
-            None => Ok(None),
-        }
     }
 }

@@ -1,5 +1,5 @@
 use Rattle.std.proofs.Common.{◌≡◌, take}
-use Rattle.content_rows.proofs.text.ItemsDuplicate.duplicate.Given as goal
+use Rattle.content_rows.proofs.duplicate.ItemsDuplicate.duplicate.Given as goal
 
 -- what has been copied so far
 abbrev pub invariant-members : goal.invariant-members
