@@ -1,3 +1,4 @@
 pub mod Told
 pub mod Reached
 pub mod Memory
+pub mod Series

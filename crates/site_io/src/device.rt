@@ -55,6 +55,9 @@ pub trait Sink {
         ensures { result ≡ faults self.now };
 }
 
+/// The greatest moment, 2100-01-01 00:00:00 UTC, in whole seconds since 1970-01-01.
+pub const LAST_MOMENT: u64 = 4_102_444_800;
+
 /// What gives the moments. An implementor owns what it reads: it holds no `&mut`.
 pub trait Clock {
     /// The moments that it gave, where it tells them.

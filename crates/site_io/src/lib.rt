@@ -7,9 +7,16 @@
 mod device;
 mod ended;
 mod memory;
+mod series;
+mod system;
 mod whole;
 
-pub use device::{Clock, Entropy, Failed, Gate, Point, Sink, Source};
+pub use device::{Clock, Entropy, Failed, Gate, LAST_MOMENT, Point, Sink, Source};
 pub use ended::Ended;
 pub use memory::{MemorySink, MemorySource};
+pub use series::{ListClock, ListEntropy};
+pub use system::{OpenGate, Reading, SystemClock, SystemEntropy, Writing};
 pub use whole::write_whole;
+
+#[cfg(test)]
+mod tests;
