@@ -1,2 +1,4 @@
 pub mod CellOrder
 pub mod CellText
+pub mod GrantOrder
+pub mod Permission

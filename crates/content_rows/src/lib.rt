@@ -4,11 +4,13 @@
 
 mod cell;
 mod duplicate;
+mod permission;
 mod row;
 mod text;
 
 pub use cell::Cell;
 pub use duplicate::Duplicate;
+pub use permission::{Permissions, ViewGrants};
 pub use row::{
     Block, BlockKind, FieldRow, FieldValue, Grant, GrantRow, Link, Listing, Menu, Node, NodeType,
     Region, Role, Row, Seq, Session, Site, Term, User,

@@ -52,7 +52,7 @@ pub struct NodeType {
 }
 
 /// A grant that a role or a user holds: a number in a realm.
-#[derive(Clone, Copy, Debug)]
+#[derive(Clone, Copy, Debug, PartialEq, Eq, PartialOrd, Ord)]
 pub struct Grant {
     /// The number of the grant.
     pub gid: u32,
