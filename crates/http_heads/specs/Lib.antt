@@ -4,4 +4,5 @@ pub mod Framing
 pub mod Head
 pub mod Parses
 pub mod Requests
+pub mod Laws
 pub mod Reply

@@ -10,9 +10,13 @@ mod parsed;
 mod parsing;
 mod reply;
 mod request;
+mod theorems;
 
 pub use octets::Octets;
 pub use parsed::Parsed;
 pub use parsing::parse;
 pub use reply::{CookieOut, Media, ReplyHead, is_reply_status, reply_head};
 pub use request::{Request, Version};
+pub use theorems::{
+    more_is_short, parses_once, reads_once, refused_stays, whole_stays, whole_takes,
+};
