@@ -1,2 +1,15 @@
-//! content_state
+//! The states of a site: its rows, the counts of its tags and its number, what a request asks of one, and, as plans of
+//! reads, what depends on what.
 #![tactic(auto)]
+
+mod ask;
+mod commit;
+mod element;
+mod route;
+mod rows;
+
+pub use ask::{Ask, Viewer};
+pub use commit::{Commit, Write};
+pub use element::{Hole, Library};
+pub use route::Route;
+pub use rows::Rows;
