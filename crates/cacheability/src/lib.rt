@@ -3,12 +3,16 @@
 #![tactic(auto)]
 
 mod context;
+mod max_age;
 mod name;
 mod op;
+mod ordered_set;
 mod tag;
 mod written;
 
 pub use context::Context;
+pub use max_age::MaxAge;
 pub use name::{BadName, Name};
 pub use op::Op;
+pub use ordered_set::OrderedSet;
 pub use tag::Tag;

@@ -4,7 +4,10 @@
 /// <https://www.drupal.org/docs/8/api/entity-api/access-on-entities>
 #[derive(Clone, Copy, Debug, PartialEq, Eq)]
 pub enum Op {
+    /// Sees it.
     View,
+    /// Changes it.
     Update,
+    /// Removes it.
     Delete,
 }
