@@ -1,8 +1,8 @@
 //! What the devices give and take, call after call.
 
 use crate::{
-    Clock, Entropy, Failed, Gate, LAST_MOMENT, ListClock, ListEntropy, MemorySink, MemorySource, OpenGate, Point,
-    Reading, Sink, Source, SystemClock, SystemEntropy, Writing, write_whole,
+    Clock, Entropy, Failed, Gate, LAST_MOMENT, ListClock, ListEntropy, MemorySink, MemorySource,
+    OpenGate, Point, Reading, Sink, Source, SystemClock, SystemEntropy, Writing, write_whole,
 };
 use std::alloc::{AllocError, Global};
 use std::io;
@@ -38,20 +38,24 @@ fn a_source_in_memory(rt: HostRuntime) {
     let calls: [(Result<usize, Failed>, &[u8], u64); 6] = [
         (Ok(3), b"defg", 0),
         (Err(Failed), b"defg", 1),
-        (Ok(2), b"fg", 1),
-        (Ok(2), b"", 1),
+        (Ok(3), b"g", 1),
+        (Ok(1), b"", 1),
         (Ok(0), b"", 1),
         (Ok(0), b"", 1),
     ];
-    let mut places = 4;
     for (answer, left, faults) in calls {
         let mut buffer = [0; 4];
-        let (room, _) = buffer.split_at_mut(places);
-        assert!(rt; source.read(room) == answer);
+        assert!(rt; source.read(&mut buffer) == answer);
         assert!(rt; source.left() == left);
         assert!(rt; source.faults() == faults);
-        places = 2;
     }
+    let mut source = MemorySource::new(
+        Vec::from_slice(rt.alloc(), b"abc").expect(&rt, "memory"),
+        9,
+    );
+    let mut buffer = [0; 2];
+    assert!(rt; source.read(&mut buffer) == Ok(2));
+    assert!(rt; buffer == *b"ab");
 }
 
 #[test]
