@@ -1,0 +1,62 @@
+//! What the roles of a user permit.
+ghost use Rattle.std.specs.Prelude.{◌≡◌, ◌==◌, ◌||◌, IfOk, map};
+ghost use Rattle.std.specs.List.{flat_map, list_any};
+ghost use Rattle.std.specs.Str.{bytes_eq};
+ghost use Rattle.content_rows.specs.Permission.{permissions_of as permissions_by, has as is_held, text_set};
+
+use crate::sorted::{add_all, listed};
+use content_rows::{Items, Permissions, Role, Text};
+use std::alloc::{AllocError, Global};
+use std::collections::BTreeSet;
+
+/// What a user is permitted, by the present ones of its roles: everything for user 1 and where a
+/// role is marked admin, else what any of the roles permits. `Err` only where memory is wanting.
+/// <https://www.drupal.org/docs/user_guide/en/user-concept.html>
+pub fn permissions_of(alloc: Global, uid: u32, roles: &[&Role]) -> Result<Permissions, AllocError>
+    ensures { IfOk result (λ permissions. permissions ≡ permissions_by uid (map (λ role. role.now) roles.now)) }
+{
+    if uid == 1 || is_any_admin(roles) {
+        return Ok(Permissions::All);
+    }
+    Ok(Permissions::These(texts_of(alloc, roles)?))
+}
+
+/// Whether one of the roles is marked admin.
+fn is_any_admin(roles: &[&Role]) -> bool
+    ensures { result ≡ list_any (λ role. role.admin) (map (λ role. role.now) roles.now) }
+{
+    'roles: for role in roles {
+        if role.admin {
+            return true;
+        }
+    }
+    false
+}
+
+/// What any of the roles permits, in order, each once.
+fn texts_of(alloc: Global, roles: &[&Role]) -> Result<Items<Text>, AllocError>
+    ensures { IfOk result (λ texts. texts ≡ text_set (flat_map (λ role. role.permissions) (map (λ role. role.now) roles.now))) }
+{
+    let mut texts: BTreeSet<Text> = BTreeSet::new(alloc);
+    'roles: for role in roles {
+        add_all(alloc, &mut texts, role.permissions.as_slice())?;
+    }
+    listed(alloc, texts)
+}
+
+/// Whether a permission is held.
+pub fn has(permissions: &Permissions, permission: &[u8]) -> bool
+    ensures { result ≡ is_held permissions.now permission.now }
+{
+    match permissions {
+        Permissions::All => true,
+        Permissions::These(held) => is_among(permission, held.as_slice()),
+    }
+}
+
+/// Whether the bytes are those of one of the texts.
+fn is_among(bytes: &[u8], texts: &[Text]) -> bool
+    ensures { result ≡ list_any (λ text. bytes_eq text bytes.now) texts.now }
+{
+    texts.iter().any(|text| text.as_slice() == bytes)
+}
