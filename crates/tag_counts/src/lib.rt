@@ -1,2 +1,113 @@
-//! tag_counts
+//! How often each cache tag was invalidated.
 #![tactic(auto)]
+
+ghost use Rattle.std.specs.Prelude.{◌≡◌, ◌≢◌, ◌↔◌, ◌+◌, [], IfOk, OnOk, OnErr, IsErrOf, IfErr};
+ghost use Rattle.tag_counts.specs.declared.BumpFault.TheVariants as bump_fault;
+
+use cacheability::Tag;
+use std::alloc::{AllocError, AllocFailed, Global};
+use std::collections::BTreeMap;
+use std::marker::Model;
+
+/// The count of this tag is 18,446,744,073,709,551,615 and cannot be raised.
+#[derive(Clone, Copy, Debug)]
+pub struct CountFull(pub Tag);
+
+/// Why a tag was not counted.
+#[derive(Clone, Copy, Debug)]
+pub enum BumpFault {
+    /// Its count is the greatest there is.
+    Full(CountFull),
+    /// Memory is wanting.
+    OutOfMemory,
+}
+
+impl<T: Drop> From<AllocFailed<T>> for BumpFault {
+    ghost from_gives = { λ _ e. e ≡ bump_fault.OutOfMemory };
+
+    fn from(_failed: AllocFailed<T>) -> BumpFault {
+        BumpFault::OutOfMemory
+    }
+}
+
+/// How often each tag was invalidated: a finite map from tags to counts, which contracts see as the
+/// list of its pairs in the order of the tags' texts. The count of an absent tag is 0.
+/// <https://www.drupal.org/docs/drupal-apis/cache-api/cache-tags>
+#[derive(Drop, Debug)]
+pub struct Counts {
+    map: BTreeMap<Tag, u64>,
+}
+
+impl Model for Counts {
+    ghost use Rattle.std.specs.Prelude.{List, ℕ};
+    ghost use Rattle.cacheability.specs.declared.tag.Tag.{Tag as TagValue};
+
+    ghost Value = { List (TagValue × ℕ) };
+
+    ghost view = { λ c. c.map.entries };
+}
+
+impl Counts {
+    ghost use Rattle.tag_counts.specs.Counts.{count_of, sum_of, bumped};
+    ghost use Rattle.cacheability.specs.declared.tag.Tag.{Tag as TagValue};
+
+    /// No tag was invalidated.
+    pub fn new(alloc: Global) -> Counts
+        ensures { result ≡ [] }
+    {
+        Counts {
+            map: BTreeMap::new(alloc),
+        }
+    }
+
+    /// The count of a tag.
+    pub fn count(&self, tag: &Tag) -> u64
+        ensures { result ≡ count_of self.now tag.now }
+    {
+        match self.map.get(tag) {
+            Some(count) => *count,
+            None => 0,
+        }
+    }
+
+    /// The sum of the counts of some tags; a tag that is named twice counts twice.
+    pub fn sum(&self, tags: &[Tag]) -> u128
+        ensures { result ≡ sum_of self.now tags.now }
+    {
+        let mut total = 0;
+        'tags: for tag in tags {
+            total += u128::from(self.count(tag));
+        }
+        total
+    }
+
+    /// Adds one to the count of a tag. `Full` exactly where that is 18,446,744,073,709,551,615; at an
+    /// `Err` all counts are as they were.
+    pub fn bump(&mut self, tag: &Tag) -> Result<(), BumpFault>
+        ensures ok { OnOk result (self.new ≡ bumped self.old tag.now) }
+        ensures one_more { OnOk result (count_of self.new tag.now ≡ count_of self.old tag.now + 1) }
+        ensures others { OnOk result ((t : TagValue) → t ≢ tag.now → count_of self.new t ≡ count_of self.old t) }
+        ensures err { OnErr result (self.new ≡ self.old) }
+        ensures full { IsErrOf result (BumpFault.Full (record { 0 = tag.now })) ↔ (count_of self.old tag.now ≡ 18_446_744_073_709_551_615) }
+        ensures only { IfErr result (λ e. e ≢ BumpFault.Full (record { 0 = tag.now }) → e ≡ BumpFault.OutOfMemory) }
+    {
+        let count = self.count(tag);
+        if count == u64::MAX {
+            return Err(BumpFault::Full(CountFull(*tag)));
+        }
+        self.map.insert(*tag, count + 1)?;
+        Ok(())
+    }
+
+    /// The same counts again, in memory of their own. `Err` only where memory is wanting.
+    pub fn duplicate(&self, _alloc: Global) -> Result<Counts, AllocError>
+        ensures { IfOk result (λ copy. copy ≡ self.now) }
+    {
+        Ok(Counts {
+            map: self.map.clone()?,
+        })
+    }
+}
+
+#[cfg(test)]
+mod tests;
