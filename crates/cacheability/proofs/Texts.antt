@@ -1,12 +1,18 @@
 -- Texts of tags and contexts can be read back, so different ones have different texts.
-use Rattle.std.proofs.Common.{ℕ, List, [], ◌∷◌, ◌≡◌, refl, sym, ◌∙◌, ap}
+use Rattle.std.specs.declared.cmp.Ordering.TheVariants.{Equal}
+use Rattle.std.proofs.lemmas.Map.Lookups.{exact_bytes}
+use Rattle.std.specs.Ordering.{on}
+use Rattle.std.specs.Cmp.Lexicographic.{pointwise}
+use Rattle.std.proofs.lemmas.Slice.Eq.{slice_eq-Decides, bytes_eq-Decides}
+use Rattle.std.proofs.lemmas.Bool.Decides.{Decides-like}
+use Rattle.std.proofs.Common.{◌↔◌, IsTrue, Bool, ℕ, List, [], ◌∷◌, ◌≡◌, refl, sym, ◌∙◌, ap}
 use Rattle.std.specs.Prelude.{codes, Option, Some, None, nat_eq, cond}
 use Rattle.cacheability.specs.declared.tag.Tag.{Tag}
 use Rattle.cacheability.specs.declared.tag.Tag.TheVariants as tag
-use Rattle.cacheability.specs.Tag.{tag_text}
+use Rattle.cacheability.specs.Tag.{tag_text, tag_cmp}
 use Rattle.cacheability.specs.declared.context.Context.{Context}
 use Rattle.cacheability.specs.declared.context.Context.TheVariants as context
-use Rattle.cacheability.specs.Context.{context_text}
+use Rattle.cacheability.specs.Context.{context_text, context_cmp}
 use Rattle.cacheability.proofs.Digits.{number_of, number_of-decimal}
 
 -- what stands behind a prefix
@@ -97,3 +103,19 @@ context_of-context_text (context.MenuTrail m) = refl
 -- different contexts have different texts
 pub contexts_apart : (a b : Context) → context_text a ≡ context_text b → a ≡ b
 contexts_apart a b e = sym (context_of-context_text a) ∙ ap (λ text. context_of text) e ∙ context_of-context_text b
+
+-- the order by texts tells them apart
+pub exact_tags : (a b : Tag) → tag_cmp a b ≡ Equal → a ≡ b
+exact_tags a b e = tags_apart a b (exact_bytes (tag_text a) (tag_text b) e)
+
+pub exact_contexts : (a b : Context) → context_cmp a b ≡ Equal → a ≡ b
+exact_contexts a b e = contexts_apart a b (exact_bytes (context_text a) (context_text b) e)
+
+-- a comparison of two lists by the texts of their items
+pub same_tags_told : (xs ys : List Tag) (r : Bool) → r ≡ pointwise (on tag_text (pointwise nat_eq)) xs ys → IsTrue r ↔ (xs ≡ ys)
+same_tags_told xs ys r e =
+    (slice_eq-Decides (λ a b. Decides-like (pointwise nat_eq (tag_text a) (tag_text b)) (tags_apart a b) (λ p. ap (λ t. tag_text t) p) (bytes_eq-Decides (tag_text a) (tag_text b))) xs ys r e)
+
+pub same_contexts_told : (xs ys : List Context) (r : Bool) → r ≡ pointwise (on context_text (pointwise nat_eq)) xs ys → IsTrue r ↔ (xs ≡ ys)
+same_contexts_told xs ys r e =
+    (slice_eq-Decides (λ a b. Decides-like (pointwise nat_eq (context_text a) (context_text b)) (contexts_apart a b) (λ p. ap (λ c. context_text c) p) (bytes_eq-Decides (context_text a) (context_text b))) xs ys r e)

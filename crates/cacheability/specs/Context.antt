@@ -1,5 +1,8 @@
 -- The texts of cache contexts (Drupal's Cache API, "Cache contexts").
-use Rattle.std.specs.Prelude.{ℕ, List, ◌++◌, codes}
+use Rattle.std.specs.Prelude.{ℕ, List, ◌++◌, codes, Bool, true, false}
+use Rattle.std.specs.Ordering.{nat_cmp}
+use Rattle.std.specs.Cmp.Lexicographic.{slice_cmp}
+use Rattle.std.specs.declared.cmp.Ordering.{Ordering}
 use Rattle.cacheability.specs.declared.context.Context.{Context}
 use Rattle.cacheability.specs.declared.context.Context.TheVariants as context
 
@@ -19,3 +22,13 @@ context_text (context.QueryArg name) = codes "url.query_args:" ++ name
 context_text context.Session = codes "session"
 context_text context.SessionExists = codes "session.exists"
 context_text (context.MenuTrail m) = codes "route.menu_active_trails:" ++ m
+
+-- contexts are ordered by their texts
+abbrev pub context_cmp : Context → Context → Ordering
+context_cmp a b = slice_cmp nat_cmp (context_text a) (context_text b)
+
+-- what varies by the viewer or the session is for one viewer alone
+abbrev pub is_personal : Context → Bool
+is_personal context.User = true
+is_personal context.Session = true
+is_personal _ = false

@@ -1,3 +1,4 @@
+pub mod Cacheability
 pub mod Context
 pub mod Decimal
 pub mod InOrder

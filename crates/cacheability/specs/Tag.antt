@@ -1,5 +1,8 @@
 -- The texts of cache tags (Drupal's Cache API, "Cache tags").
 use Rattle.std.specs.Prelude.{ℕ, List, ◌++◌, codes}
+use Rattle.std.specs.Ordering.{nat_cmp}
+use Rattle.std.specs.Cmp.Lexicographic.{slice_cmp}
+use Rattle.std.specs.declared.cmp.Ordering.{Ordering}
 use Rattle.cacheability.specs.declared.tag.Tag.{Tag}
 use Rattle.cacheability.specs.declared.tag.Tag.TheVariants as tag
 use Rattle.cacheability.specs.Decimal.{decimal}
@@ -21,3 +24,7 @@ tag_text (tag.Block b) = codes "config:block.block." ++ b
 tag_text tag.BlockList = codes "config:block_list"
 tag_text tag.Rendered = codes "rendered"
 tag_text tag.NotFound = codes "4xx-response"
+
+-- tags are ordered by their texts
+abbrev pub tag_cmp : Tag → Tag → Ordering
+tag_cmp a b = slice_cmp nat_cmp (tag_text a) (tag_text b)

@@ -49,7 +49,7 @@ pub enum Context {
 }
 
 impl Context {
-    ghost use Rattle.cacheability.specs.Context.{context_text};
+    ghost use Rattle.cacheability.specs.Context.{context_text, is_personal};
 
     /// The text of the context.
     pub fn text(&self, alloc: Global) -> Result<Vec<u8>, AllocError>
@@ -65,6 +65,13 @@ impl Context {
         ensures same_text { IsTrue result ↔ (context_text self.now ≡ context_text other.now) }
     {
         self.reads_as(other)
+    }
+
+    /// Whether it is the viewer or the session, so that what varies by it is for one viewer alone.
+    pub fn is_personal(&self) -> bool
+        ensures { result ≡ is_personal self.now }
+    {
+        matches!(self, Context::User | Context::Session)
     }
 
     /// Whether two contexts have the same text.

@@ -2,6 +2,7 @@
 //! that it varies by, and how long it may be kept.
 #![tactic(auto)]
 
+mod cacheability;
 mod context;
 mod max_age;
 mod name;
@@ -10,6 +11,7 @@ mod ordered_set;
 mod tag;
 mod written;
 
+pub use cacheability::Cacheability;
 pub use context::Context;
 pub use max_age::MaxAge;
 pub use name::{BadName, Name};
