@@ -1,14 +1,12 @@
 -- The order of cells is total, and tells every two cells apart.
-use Rattle.std.proofs.Common.{◌≡◌, ◌↔◌, Bool, true, rules, subst, sym, ◌∙◌, ap, arith}
+use Rattle.std.proofs.Common.{◌≡◌, true, rules, subst, ◌∙◌, ap}
 use Rattle.std.specs.Cmp.{IsTotalOrder, tied_itself}
-use Rattle.std.specs.Ordering.{eq_by_cmp, is_eq}
-use Rattle.std.specs.declared.cmp.Ordering.{Ordering}
+use Rattle.std.specs.Ordering.{is_eq}
 use Rattle.std.specs.declared.cmp.Ordering.TheVariants.{Equal}
-use Rattle.std.proofs.lemmas.Map.Lookups.{CmpEqualImpliesEq, exact_bytes, exact_unsigned}
+use Rattle.std.proofs.lemmas.Map.Lookups.{CmpEqualImpliesEq}
 use Rattle.content_rows.specs.declared.cell.Cell.{Cell}
 use Rattle.content_rows.specs.CellOrder.{cell_cmp, TellsCellsApart}
 use Rattle.content_rows.specs.contracts.cell.CellPartialEq.TheImpl as same
-use Rattle.content_rows.specs.contracts.cell.CellOrd.TheImpl as order
 use Rattle.content_rows.specs.contracts.cell.CellOrd.TheImpl.Laws as laws
 
 -- `==` answers true at equal cells alone

@@ -1,4 +1,9 @@
 pub mod CellOrder
 pub mod CellText
 pub mod GrantOrder
+pub mod Kinds
+pub mod LiteralName
+pub mod MenuTree
 pub mod Permission
+pub mod StarterRows
+pub mod ValidRow

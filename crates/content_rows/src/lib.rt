@@ -6,6 +6,7 @@ mod cell;
 mod duplicate;
 mod permission;
 mod row;
+mod starting;
 mod text;
 
 pub use cell::Cell;
@@ -15,4 +16,5 @@ pub use row::{
     Block, BlockKind, FieldRow, FieldValue, Grant, GrantRow, Link, Listing, Menu, Node, NodeType,
     Region, Role, Row, Seq, Session, Site, Term, User,
 };
+pub use starting::starter;
 pub use text::{Items, Text};
