@@ -1,0 +1,3 @@
+pub mod Board
+pub mod Canvas
+pub mod Pieces
