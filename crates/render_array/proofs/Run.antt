@@ -1,7 +1,10 @@
 -- The laws of canvases that proofs of builders apply.
-use Rattle.std.proofs.Common.{ℕ, List, [], ◌∷◌, ◌++◌, ◌≡◌, ◌≤◌, ◌+◌, ◌<◌, refl, sym, ◌∙◌, ap, subst, append_assoc, arith, Bool, true, false, Contains, append-nil, length, take, take_all, get_or, inl}
+use Rattle.std.proofs.Common.{ℕ, List, [], ◌∷◌, ◌++◌, ◌≡◌, ◌≤◌, ◌+◌, ◌<◌, refl, sym, ◌∙◌, ap, subst, append_assoc, arith, Bool, true, false, Contains, append-nil, length, take, take_all, get_or, inl, inr}
 use Rattle.std.proofs.lemmas.Grind.{take_at_read}
 use Rattle.std.specs.Prelude.{if◌then◌else◌}
+use Rattle.std.specs.Prelude.{Result, Ok, Err, OnOk}
+use Rattle.std.specs.Result.{is_err}
+use Rattle.cacheability.specs.InOrder.{AddsItem, HasBoth}
 use Rattle.html_out.specs.Escape.{escaped as escaped_bytes}
 use Rattle.cacheability.specs.declared.tag.Tag.{Tag}
 use Rattle.cacheability.specs.declared.context.Context.{Context}
@@ -129,6 +132,61 @@ opened h old new visit whole needs libraries shown = record {
     attached = libraries ∙ sym (append-nil old.libraries);
     kept = subst (λ n. Keeps old.needs n) (sym needs) (Keeps-refl old.needs);
     made = ([], refl, (refl, refl, refl));
+  };
+}
+
+-- what is ensured at `Ok`, where it is no error
+pub where_ok : {T E P : Type 0} (r : Result T E) → is_err r ≡ false → OnOk r P → P
+where_ok (Ok x) no_error p = p
+where_ok (Err x) no_error p = absurd (true_is_false no_error)
+  where
+    true_is_false : true ≡ false → ⊥
+    true_is_false e = cc
+
+pub tagged : (t : Tag) (old new : Sheet) → new.visit ≡ old.visit → new.whole ≡ old.whole → new.shown ≡ old.shown → new.libraries ≡ old.libraries → new.needs.contexts ≡ old.needs.contexts → new.needs.last ≡ old.needs.last → AddsItem old.needs.tags t new.needs.tags → AddsTags old new (t ∷ [])
+tagged t old new visit whole shown libraries contexts last adds = record {
+  visit = visit;
+  whole_before = λ w. sym whole ∙ w;
+  shown = shown;
+  libraries = libraries;
+  kept = record {
+    tags = λ u h. (adds u).1 (inl h);
+    contexts = λ c h. subst (λ cs. Contains cs c) (sym contexts) h;
+    last = omega arith;
+  };
+  added = λ w. ((adds t).1 (inr refl), tt);
+}
+
+pub varied : (c : Context) (old new : Sheet) → new.visit ≡ old.visit → new.whole ≡ old.whole → new.shown ≡ old.shown → new.libraries ≡ old.libraries → new.needs.tags ≡ old.needs.tags → new.needs.last ≡ old.needs.last → AddsItem old.needs.contexts c new.needs.contexts → AddsContext old new c
+varied c old new visit whole shown libraries tags last adds = record {
+  visit = visit;
+  whole_before = λ w. sym whole ∙ w;
+  shown = shown;
+  libraries = libraries;
+  kept = record {
+    tags = λ t h. subst (λ ts. Contains ts t) (sym tags) h;
+    contexts = λ d h. (adds d).1 (inl h);
+    last = omega arith;
+  };
+  added = λ w. (adds c).1 (inr refl);
+}
+
+-- what a decision depends on is taken in
+pub merged_in : (tags : List Tag) (contexts : List Context) (last : ℕ) (old new : Sheet) → new.visit ≡ old.visit → new.whole ≡ old.whole → new.shown ≡ old.shown → new.libraries ≡ old.libraries → new.needs.last ≡ old.needs.last → old.needs.last ≤ last → HasBoth old.needs.tags tags new.needs.tags → HasBoth old.needs.contexts contexts new.needs.contexts → Includes old new [] [] (record { tags = tags; contexts = contexts; last = last })
+merged_in tags contexts last old new visit whole shown libraries same_last below both_tags both_contexts = record {
+  visit = visit;
+  whole_before = λ w. sym whole ∙ w;
+  appended = λ w. shown ∙ sym (append-nil old.shown);
+  attached = λ w. libraries ∙ sym (append-nil old.libraries);
+  kept = λ w. record {
+    tags = λ t h. (both_tags t).1 (inl h);
+    contexts = λ c h. (both_contexts c).1 (inl h);
+    last = omega arith;
+  };
+  added = λ w. record {
+    tags = λ t h. (both_tags t).1 (inr h);
+    contexts = λ c h. (both_contexts c).1 (inr h);
+    last = omega arith;
   };
 }
 
