@@ -4,3 +4,4 @@ pub mod Read
 pub mod Viewer
 pub mod Context
 pub mod Plan
+pub mod Replay

@@ -1,7 +1,7 @@
 -- The rows of a state: a finite map from cells to rows, in cell order.
-use Rattle.std.specs.Prelude.{ℕ, List, Option, Some, None, ◌==◌, Bool, option_and_then}
+use Rattle.std.specs.Prelude.{ℕ, List, Option, Some, None, option_and_then}
 use Rattle.std.specs.List.{filter_map, filter}
-use Rattle.std.specs.Map.{lookup}
+use Rattle.std.specs.Map.{lookup, remove_entry}
 use Rattle.std.specs.BTreeMap.{is_at, insert_entry}
 use Rattle.std.specs.Str.{bytes_eq}
 use Rattle.content_rows.specs.declared.cell.Cell.{Cell}
@@ -27,6 +27,9 @@ row_at rows c = lookup (is_at (cell_cmp c)) rows
 
 abbrev pub with_row : List (Cell × Row) → Cell → Row → List (Cell × Row)
 with_row rows c r = insert_entry cell_cmp rows c r
+
+abbrev pub without_row : List (Cell × Row) → Cell → List (Cell × Row)
+without_row rows c = remove_entry (is_at (cell_cmp c)) rows
 
 -- the row, where it is of that kind
 abbrev pub as_site : Row → Option Site

@@ -7,9 +7,11 @@ mod commit;
 mod element;
 mod route;
 mod rows;
+mod state;
 
 pub use ask::{Ask, Viewer};
 pub use commit::{Commit, Write};
 pub use element::{Hole, Library};
 pub use route::Route;
 pub use rows::Rows;
+pub use state::State;
