@@ -1,3 +1,4 @@
 pub mod Room
 pub mod Begins
+pub mod Within
 pub mod Laws

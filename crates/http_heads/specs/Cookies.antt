@@ -10,24 +10,30 @@ use Rattle.http_heads.specs.Fields.{cookie, is_named}
 unfoldable pub session_mark : List ℕ
 session_mark = codes "SESS="
 
--- the pairs of a Cookie field's value: what stands between its semicolons, without the spaces and
--- tabs round each
-abbrev pub pairs : List ℕ → List (List ℕ)
-pairs value = map trim_ows (slice_split (λ b. b == 59) value)
-
--- the cookie's name is `SESS`
+-- the pair's name is `SESS`, once the spaces and tabs round the pair are dropped
 abbrev pub is_session_pair : List ℕ → Bool
-is_session_pair pair = starts_with nat_eq pair session_mark
+is_session_pair pair = starts_with nat_eq (trim_ows pair) session_mark
+
+-- the first such pair of those between the semicolons of a value
+abbrev pub session_pair : List ℕ → Option (List ℕ)
+session_pair value = find is_session_pair (slice_split (λ b. b == 59) value)
+
+-- the token of a session pair, which follows the sign
+abbrev pub pair_token : List ℕ → List ℕ
+pair_token pair = drop 5 (trim_ows pair)
 
 -- the token of the first session pair of a value
 abbrev pub token_in : List ℕ → Option (List ℕ)
-token_in value = option_map (λ pair. drop 5 pair) (find is_session_pair (pairs value))
+token_in value = option_map pair_token (session_pair value)
 
--- the token of the first session pair over all Cookie fields, in order
+-- the token of a Cookie field
+abbrev pub field_token : List ℕ × List ℕ → Option (List ℕ)
+field_token field = if is_named cookie field then token_in field.1 else None
+
+-- the first token over all Cookie fields, in order
 abbrev pub token_of : List (List ℕ × List ℕ) → Option (List ℕ)
 token_of [] = None
-token_of (field ∷ fields) =
-    if is_named cookie field then option_or (token_in field.1) (token_of fields) else token_of fields
+token_of (field ∷ fields) = option_or (field_token field) (token_of fields)
 
 -- the session that a token names: a token that is no name counts as none
 abbrev pub NamesSession : Option (List ℕ) → Option (List ℕ) → Type 0

@@ -43,14 +43,18 @@ stands name fields = list_any (is_named name) fields
 abbrev pub first_value : List ℕ → List (List ℕ × List ℕ) → Option (List ℕ)
 first_value name fields = option_map (λ field. field.1) (find (is_named name) fields)
 
--- what stands between the commas of a value, without the spaces and tabs round each element
-abbrev pub elements : List ℕ → List (List ℕ)
-elements value = map trim_ows (slice_split (λ b. b == 44) value)
+-- the element is the option `close`, in any case, with spaces and tabs round it or none
+abbrev pub is_close : List ℕ → Bool
+is_close element = str_eq_ignore_ascii_case (trim_ows element) close
 
--- the value lists the option `close`, in any case (RFC 9110, section 7.6.1)
+-- `close` is one of the elements between the commas of a value (RFC 9110, section 7.6.1)
 abbrev pub lists_close : List ℕ → Bool
-lists_close value = list_any (λ element. str_eq_ignore_ascii_case element close) (elements value)
+lists_close value = list_any is_close (slice_split (λ b. b == 44) value)
+
+-- a Connection field that lists `close`
+abbrev pub is_closing : List ℕ × List ℕ → Bool
+is_closing field = is_named connection field && lists_close field.1
 
 -- some Connection field lists `close`
 abbrev pub asks_close : List (List ℕ × List ℕ) → Bool
-asks_close fields = list_any (λ field. is_named connection field && lists_close field.1) fields
+asks_close fields = list_any is_closing fields

@@ -24,10 +24,14 @@ body_limit = 1048576
 abbrev pub is_length : List ℕ → Bool
 is_length value = nat_lt 0 (length value) && nat_le (length value) 10 && list_all is_ascii_digit value
 
--- the number that a Content-Length field gives: 0 where there is none, nothing where it is no number
+-- the number of a value, nothing where it is none
+abbrev pub value_length : List ℕ → Option ℕ
+value_length value = if is_length value then Some (digits_value 10 value) else None
+
+-- the number that a Content-Length field gives: 0 where there is none
 abbrev pub length_given : Option (List ℕ) → Option ℕ
 length_given None = Some 0
-length_given (Some value) = if is_length value then Some (digits_value 10 value) else None
+length_given (Some value) = value_length value
 
 -- the length of the body; nothing where more than one Content-Length field stands
 abbrev pub body_length : List (List ℕ × List ℕ) → Option ℕ

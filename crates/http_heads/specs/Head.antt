@@ -35,9 +35,10 @@ abbrev pub version_of : ℕ → Version
 version_of zero = version.Http10
 version_of (suc n) = version.Http11
 
--- the connection is to close after the reply (RFC 9112, section 9.6)
-abbrev pub closes : RequestHead → Bool
-closes head = (head.minor == 0) || asks_close (fields_of head)
+-- the connection is to close after the reply, by the minor version and the fields
+-- (RFC 9112, section 9.6)
+abbrev pub closes_by : ℕ → List (List ℕ × List ℕ) → Bool
+closes_by minor fields = (minor == 0) || asks_close fields
 
 -- each part of the request but its body is what the head says
 pub record IsRequestOf (head : RequestHead) (request : Request) : Type 0 where
@@ -46,7 +47,7 @@ pub record IsRequestOf (head : RequestHead) (request : Request) : Type 0 where
   pub path : request.path ≡ path_of head.target
   pub query : request.query ≡ query_of head.target
   pub version : request.version ≡ version_of head.minor
-  pub closes : request.closes ≡ closes head
+  pub closes : request.closes ≡ closes_by head.minor (fields_of head)
   pub content_type : request.content_type ≡ first_value content_type (fields_of head)
   pub csrf : request.csrf ≡ first_value csrf_token (fields_of head)
   pub session : NamesSession (token_of (fields_of head)) request.session

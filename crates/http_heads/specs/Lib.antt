@@ -5,4 +5,6 @@ pub mod Head
 pub mod Parses
 pub mod Requests
 pub mod Laws
+pub mod InTarget
+pub mod Lines
 pub mod Reply

@@ -5,12 +5,17 @@
 //! a reply. Neither reads nor writes anything but its arguments.
 #![tactic(auto)]
 
+mod build;
+mod fields;
+mod framing;
+mod in_target;
 mod octets;
 mod parsed;
 mod parsing;
 mod reply;
 mod request;
 mod theorems;
+mod values;
 
 pub use octets::Octets;
 pub use parsed::Parsed;

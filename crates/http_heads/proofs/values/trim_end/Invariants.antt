@@ -1,0 +1,10 @@
+use Rattle.std.proofs.Common.{◌≡◌, length, reverse}
+use Rattle.httparse.specs.Grammar.{skip_ows}
+use Rattle.http_heads.proofs.values.trim_end.Given as goal
+
+-- only spaces and tabs are gone from the end
+abbrev pub invariant-loop-bytes : goal.invariant-loop-bytes
+invariant-loop-bytes l = skip_ows (reverse l.bytes) ≡ skip_ows (reverse l.fn.bytes)
+
+abbrev pub decreases-loop-bytes : goal.decreases-loop-bytes
+decreases-loop-bytes l = length l.bytes

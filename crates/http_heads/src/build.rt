@@ -1,0 +1,96 @@
+//! The request of a whole head and a body.
+ghost use Rattle.std.specs.Prelude.{◌≡◌, ◌≤◌, IfOk, length, take, position};
+ghost use Rattle.std.specs.Option.{option_map};
+ghost use Rattle.percent_encoding.specs.Percent.{percent_decode};
+ghost use Rattle.httparse.specs.Grammar.{RequestHead};
+ghost use Rattle.httparse.specs.Spans.{IsRequestAt, IsRequestWithin};
+ghost use Rattle.http_heads.specs.Cookies.{NamesSession, token_of};
+ghost use Rattle.http_heads.specs.Head.{is_question, cut_before, cut_after, path_of, query_of, version_of, closes_by, IsRequestOf};
+ghost use Rattle.http_heads.specs.Lines.{lines, AreWithin};
+
+use crate::fields::{asks_close, content_type, csrf_token, session_token};
+use crate::octets::Octets;
+use crate::request::{Request, Version};
+use cacheability::Name;
+use httparse::spans::{HeaderSpan, RequestSpans};
+use percent_encoding::percent_decode;
+use std::alloc::{AllocError, Global};
+
+/// Where the first question mark stands.
+fn question_in(target: &[u8]) -> Option<usize>
+    ensures { result ≡ position is_question target.now }
+{
+    target.iter().position(|b| *b == b'?')
+}
+
+/// What stands before the first question mark, or all.
+fn before_question(target: &[u8]) -> &[u8]
+    ensures { result.now ≡ cut_before target.now (position is_question target.now) }
+{
+    match question_in(target) {
+        Some(i) => target.split_at(i).0,
+        None => target,
+    }
+}
+
+/// The path of a target.
+fn path_of(alloc: Global, target: &[u8]) -> Result<Octets, AllocError>
+    ensures { IfOk result (λ path. path ≡ path_of target.now) }
+{
+    let mut path = Vec::new(alloc);
+    percent_decode(before_question(target)).append_to(&mut path)?;
+    Ok(Octets::from_vec(path))
+}
+
+/// The query of a target.
+fn query_of(target: &[u8]) -> &[u8]
+    ensures { result.now ≡ query_of target.now }
+{
+    match question_in(target) {
+        Some(i) => target.split_at(i + 1).1,
+        None => target.split_at(target.len()).1,
+    }
+}
+
+/// The version of a minor number.
+fn version_of(minor: u8) -> Version
+    ensures { result ≡ version_of minor }
+{
+    if minor == 0 {
+        Version::Http10
+    } else {
+        Version::Http11
+    }
+}
+
+/// Whether the connection is to close.
+fn closes(minor: u8, bytes: &[u8], rows: &[HeaderSpan]) -> bool
+    requires { AreWithin bytes.now rows.now }
+    ensures { result ≡ closes_by minor (lines bytes.now rows.now) }
+{
+    minor == 0 || asks_close(bytes, rows)
+}
+
+/// A copy of a value, if there is one.
+fn copied(alloc: Global, value: Option<&[u8]>) -> Result<Option<Octets>, AllocError>
+    ensures { IfOk result (λ copy. copy ≡ option_map (λ v. v.now) value.entry) }
+{
+    match value {
+        Some(bytes) => Ok(Some(Octets::copied(alloc, bytes)?)),
+        None => Ok(None),
+    }
+}
+
+/// The session that the cookies name.
+fn session_of(bytes: &[u8], rows: &[HeaderSpan]) -> Option<Name>
+    requires { AreWithin bytes.now rows.now }
+    ensures { NamesSession (token_of (lines bytes.now rows.now)) result }
+{
+    match session_token(bytes, rows) {
+        Some(token) => match Name::new(token) {
+            Ok(name) => Some(name),
+            Err(_) => None,
+        },
+        None => None,
+    }
+}
