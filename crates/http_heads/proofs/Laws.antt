@@ -13,6 +13,7 @@ use Rattle.http_heads.specs.Cookies.{token_of, NamesSession}
 use Rattle.http_heads.specs.Framing.{head_limit, field_limit, body_limit, body_length, begins_slash, sized, judged}
 use Rattle.http_heads.specs.Head.{IsRequestOf}
 use Rattle.http_heads.specs.Parses.{HasHead, IsHeadBegun, IsHeadTooLarge, IsNoHead, IsHeadRefused, Parses}
+use Rattle.http_heads.specs.Found.{Holds, Lacks, AtHead}
 use Rattle.http_heads.specs.Requests.{End, Asks, Code, ending, ReadsAfter, ReadsOn, Reads}
 use Rattle.http_heads.specs.Laws.{Takes, pending_limit, SameReading}
 use Rattle.http_heads.proofs.Room.{head_length}
@@ -162,35 +163,32 @@ request_once h r q a b body = λ i. record {
   body = body i;
 }
 
--- what a head makes of the bytes after it
-abbrev AtHead : RequestHead → List ℕ → Parsed → Type 0
-AtHead h after (Whole r n) =
-    (rest : List ℕ) × (after ≡ r.body ++ rest) × (judged h ≡ Ok (length r.body)) × IsRequestOf h r × (n ≡ length (print_request h) + length r.body)
-AtHead h after More = (wanted : ℕ) × (judged h ≡ Ok wanted) × (length after < wanted)
-AtHead h after (Refused c) = judged h ≡ Err c
+holds_or_lacks : (h : RequestHead) (after : List ℕ) (r : Request) (n : ℕ) → Holds h after r n → Lacks h after → ⊥
+holds_or_lacks h after r n a b =
+    let len : length r.body ≡ b.wanted = ok_once (judged h) (length r.body) b.wanted a.served b.served in
+    absurd (omega (arith, ap length a.body, length-append r.body a.rest, b.short, len))
+
+err_once : (r : Result ℕ ℕ) (c d : ℕ) → r ≡ Err c → r ≡ Err d → c ≡ d
+err_once r c d e f = cc
 
 same_front : (a b c d : List ℕ) → a ++ b ≡ c ++ d → length a ≡ length c → a ≡ c
 same_front a b c d e len =
     sym (take-append_seam a b) ∙ ap (λ (l : List ℕ). take (length a) l) e ∙ ap (λ (n : ℕ). take n (c ++ d)) len ∙ take-append_seam c d
 
 at_head_once : (h : RequestHead) (after : List ℕ) (p q : Parsed) → AtHead h after p → AtHead h after q → p ≡ q
-at_head_once h after (Whole r n) (Whole q m) (rest, is, served, of, size) (rest', is', served', of', size') =
-    let len : length r.body ≡ length q.body = ok_once (judged h) (length r.body) (length q.body) served served' in
-    let body : r.body ≡ q.body = same_front r.body rest q.body rest' (sym is ∙ is') len in
-    let sizes : n ≡ m = size ∙ ap (λ (k : ℕ). length (print_request h) + k) len ∙ sym size' in
-    λ i. Whole (request_once h r q of of' body i) (sizes i)
-at_head_once h after (Whole r n) More (rest, is, served, of, size) (wanted, served', short) =
-    let len : length r.body ≡ wanted = ok_once (judged h) (length r.body) wanted served served' in
-    absurd (omega (arith, ap length is, length-append r.body rest, short, len))
-at_head_once h after (Whole r n) (Refused c) (rest, is, served, of, size) e = cc
-at_head_once h after More (Whole r n) (wanted, served', short) (rest, is, served, of, size) =
-    let len : length r.body ≡ wanted = ok_once (judged h) (length r.body) wanted served served' in
-    absurd (omega (arith, ap length is, length-append r.body rest, short, len))
+at_head_once h after (Whole r n) (Whole q m) a b =
+    let len : length r.body ≡ length q.body = ok_once (judged h) (length r.body) (length q.body) a.served b.served in
+    let body : r.body ≡ q.body = same_front r.body a.rest q.body b.rest (sym a.body ∙ b.body) len in
+    let sizes : n ≡ m = a.size_is ∙ ap (λ (k : ℕ). length (print_request h) + k) len ∙ sym b.size_is in
+    λ i. Whole (request_once h r q a.is b.is body i) (sizes i)
+at_head_once h after (Whole r n) More a b = absurd (holds_or_lacks h after r n a b)
+at_head_once h after (Whole r n) (Refused c) a e = absurd (err_not_ok (judged h) c (length r.body) e a.served)
+at_head_once h after More (Whole r n) b a = absurd (holds_or_lacks h after r n a b)
 at_head_once h after More More a b = refl
-at_head_once h after More (Refused c) (wanted, served, short) e = cc
-at_head_once h after (Refused c) (Whole r n) e (rest, is, served, of, size) = cc
-at_head_once h after (Refused c) More e (wanted, served, short) = cc
-at_head_once h after (Refused c) (Refused d) e f = cc
+at_head_once h after More (Refused c) b e = absurd (err_not_ok (judged h) c b.wanted e b.served)
+at_head_once h after (Refused c) (Whole r n) e a = absurd (err_not_ok (judged h) c (length r.body) e a.served)
+at_head_once h after (Refused c) More e b = absurd (err_not_ok (judged h) c b.wanted e b.served)
+at_head_once h after (Refused c) (Refused d) e f = ap Refused (err_once (judged h) c d e f)
 
 -- a whole head, and what it makes of the rest
 pub record WithHead (bytes : List ℕ) (p : Parsed) : Type 0 where
@@ -204,10 +202,10 @@ abbrev NoHead : List ℕ → Parsed → Type 0
 NoHead bytes p = ((p ≡ More) × IsHeadBegun bytes) ⊎ (((p ≡ Refused 431) × IsHeadTooLarge bytes) ⊎ ((p ≡ Refused 400) × IsNoHead bytes))
 
 either : (bytes : List ℕ) (p : Parsed) → Parses bytes p → WithHead bytes p ⊎ NoHead bytes p
-either bytes (Whole r n) w = inl (record { head = w.head; after = r.body ++ w.after; has = w.has; at = (w.after, refl, w.served, w.is, w.size_is) })
+either bytes (Whole r n) w = inl (record { head = w.head; after = r.body ++ w.after; has = w.has; at = record { rest = w.after; body = refl; served = w.served; is = w.is; size_is = w.size_is } })
 either bytes More m = elim m [
   | inl begun ↦ inr (inl (refl, begun))
-  | inr b ↦ inl (record { head = b.head; after = b.after; has = b.has; at = (b.wanted, b.served, b.short) })
+  | inr b ↦ inl (record { head = b.head; after = b.after; has = b.has; at = record { wanted = b.wanted; served = b.served; short = b.short } })
 ]
 either bytes (Refused c) r = elim r [
   | inl large ↦ inr (inr (inl (ap Refused large.0, large.1)))

@@ -2,3 +2,4 @@ pub mod Room
 pub mod Begins
 pub mod Within
 pub mod Laws
+pub mod Heads

@@ -1,5 +1,5 @@
 -- Bytes read from the left end inside a target exactly where the grammar says so.
-use Rattle.std.proofs.Common.{◌≡◌, ◌∙◌, ◌++◌, ◌==◌, ◌<◌, List, [], ◌∷◌, ℕ, Bool, true, false, if◌then◌else◌, ap, sym, refl, subst, arith}
+use Rattle.std.proofs.Common.{◌≡◌, ◌∙◌, ◌++◌, ◌==◌, List, [], ◌∷◌, ℕ, Bool, true, false, if◌then◌else◌, ap, sym, refl, subst, arith}
 use Rattle.std.proofs.lemmas.List.Elements.{All-head, All-tail, All-cons, All-nil}
 use Rattle.httparse.specs.Grammar.{LineEnd, crlf, lf, print_end, print_blank, IsToken, AllPass, is_token_byte, is_uri_byte, EndsInTarget}
 use Rattle.http_heads.specs.declared.in_target.Place.{Place}

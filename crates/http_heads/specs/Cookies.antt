@@ -1,5 +1,5 @@
 -- The session's cookie (RFC 6265, sections 4.2.1 and 5.4).
-use Rattle.std.specs.Prelude.{ℕ, List, [], ◌∷◌, Bool, ◌≡◌, ◌==◌, codes, map, find, drop, if◌then◌else◌, Option, Some, None, nat_eq}
+use Rattle.std.specs.Prelude.{ℕ, List, [], ◌∷◌, Bool, ◌≡◌, ◌==◌, codes, find, drop, if◌then◌else◌, Option, Some, None, nat_eq}
 use Rattle.std.specs.List.{slice_split, starts_with}
 use Rattle.std.specs.Option.{option_map, option_or}
 use Rattle.httparse.specs.Grammar.{trim_ows}

@@ -7,4 +7,5 @@ pub mod Requests
 pub mod Laws
 pub mod InTarget
 pub mod Lines
+pub mod Found
 pub mod Reply

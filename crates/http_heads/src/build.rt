@@ -3,10 +3,10 @@ ghost use Rattle.std.specs.Prelude.{◌≡◌, ◌≤◌, IfOk, length, take, po
 ghost use Rattle.std.specs.Option.{option_map};
 ghost use Rattle.percent_encoding.specs.Percent.{percent_decode};
 ghost use Rattle.httparse.specs.Grammar.{RequestHead};
-ghost use Rattle.httparse.specs.Spans.{IsRequestAt, IsRequestWithin};
+ghost use Rattle.httparse.specs.Spans.{IsWithin};
 ghost use Rattle.http_heads.specs.Cookies.{NamesSession, token_of};
 ghost use Rattle.http_heads.specs.Head.{is_question, cut_before, cut_after, path_of, query_of, version_of, closes_by, IsRequestOf};
-ghost use Rattle.http_heads.specs.Lines.{lines, AreWithin};
+ghost use Rattle.http_heads.specs.Lines.{lines, AreWithin, IsPartsOf};
 
 use crate::fields::{asks_close, content_type, csrf_token, session_token};
 use crate::octets::Octets;
@@ -93,4 +93,35 @@ fn session_of(bytes: &[u8], rows: &[HeaderSpan]) -> Option<Name>
         },
         None => None,
     }
+}
+
+/// The request of a head, whose parts the spans cover, and a body.
+pub(crate) fn request_of(
+    alloc: Global,
+    bytes: &[u8],
+    rows: &[HeaderSpan],
+    head: &RequestSpans,
+    body: &[u8],
+) -> Result<Request, AllocError>
+    requires method { IsWithin (length bytes.now) head.now.method }
+    requires target { IsWithin (length bytes.now) head.now.path }
+    requires rows { AreWithin bytes.now rows.now }
+    ensures request { (h : RequestHead) → IsPartsOf bytes.now rows.now head.now h
+        → IfOk result (λ r. IsRequestOf h r) }
+    ensures body { IfOk result (λ r. r.body ≡ body.now) }
+{
+    let target = head.path.of(bytes);
+    let session = session_of(bytes, rows);
+    Ok(Request {
+        method: Octets::copied(alloc, head.method.of(bytes))?,
+        target: Octets::copied(alloc, target)?,
+        path: path_of(alloc, target)?,
+        query: Octets::copied(alloc, query_of(target))?,
+        version: version_of(head.version),
+        closes: closes(head.version, bytes, rows),
+        content_type: copied(alloc, content_type(bytes, rows))?,
+        csrf: copied(alloc, csrf_token(bytes, rows))?,
+        session,
+        body: Octets::copied(alloc, body)?,
+    })
 }

@@ -7,6 +7,7 @@
 
 mod build;
 mod fields;
+mod find;
 mod framing;
 mod in_target;
 mod octets;
@@ -19,7 +20,7 @@ mod values;
 
 pub use octets::Octets;
 pub use parsed::Parsed;
-pub use parsing::parse;
+pub use parsing::{HeadRoom, parse, parse_in};
 pub use reply::{CookieOut, Media, ReplyHead, is_reply_status, reply_head};
 pub use request::{Request, Version};
 pub use theorems::{
