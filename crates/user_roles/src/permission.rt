@@ -1,8 +1,9 @@
 //! What the roles of a user permit.
-ghost use Rattle.std.specs.Prelude.{◌≡◌, ◌==◌, ◌||◌, IfOk, map};
+ghost use Rattle.std.specs.Prelude.{◌≡◌, ℕ, List, IfOk, map};
 ghost use Rattle.std.specs.List.{flat_map, list_any};
 ghost use Rattle.std.specs.Str.{bytes_eq};
 ghost use Rattle.content_rows.specs.Permission.{permissions_of as permissions_by, has as is_held, text_set};
+ghost use Rattle.user_roles.specs.Permitted.{is_permitted};
 
 use crate::sorted::{add_all, listed};
 use content_rows::{Items, Permissions, Role, Text};
@@ -13,7 +14,8 @@ use std::collections::BTreeSet;
 /// role is marked admin, else what any of the roles permits. `Err` only where memory is wanting.
 /// <https://www.drupal.org/docs/user_guide/en/user-concept.html>
 pub fn permissions_of(alloc: Global, uid: u32, roles: &[&Role]) -> Result<Permissions, AllocError>
-    ensures { IfOk result (λ permissions. permissions ≡ permissions_by uid (map (λ role. role.now) roles.now)) }
+    ensures same { IfOk result (λ permissions. permissions ≡ permissions_by uid (map (λ role. role.now) roles.now)) }
+    ensures held { IfOk result (λ permissions. (permission : List ℕ) → is_held permissions permission ≡ is_permitted uid (map (λ role. role.now) roles.now) permission) }
 {
     if uid == 1 || is_any_admin(roles) {
         return Ok(Permissions::All);
