@@ -5,6 +5,8 @@ mod names;
 mod permission;
 mod session;
 mod sorted;
+#[cfg(test)]
+mod tests;
 
 pub use names::role_names;
 pub use permission::{has, permissions_of};

@@ -1,4 +1,4 @@
-use Rattle.std.proofs.Common.{rules, ◌≡◌, ◌∙◌, ap, map, arith}
+use Rattle.std.proofs.Common.{◌≡◌, ◌∙◌, ap, map, arith}
 use Rattle.std.proofs.lemmas.Grind.{common_steps}
 use Rattle.content_rows.specs.declared.permission.Permissions.{Permissions}
 use Rattle.content_rows.specs.declared.permission.Permissions.TheVariants as permissions
