@@ -4,7 +4,9 @@
 
 mod board;
 mod canvas;
+mod house;
 mod reading;
 
 pub use board::Segment;
 pub use canvas::Canvas;
+pub use house::House;
