@@ -1,1 +1,3 @@
+pub mod AccessResult
 pub mod Reason
+pub mod Verdict
