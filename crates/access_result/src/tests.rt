@@ -5,7 +5,7 @@ use cacheability::{Cacheability, Name, Op, Tag};
 use std::alloc::{AllocError, Global};
 
 /// A result that looked at the node of this number.
-fn result(alloc: Global, verdict: Verdict, nid: u32) -> Result<AccessResult, AllocError> {
+fn decided(alloc: Global, verdict: Verdict, nid: u32) -> Result<AccessResult, AllocError> {
     let mut cacheability = Cacheability::new(alloc);
     cacheability.add_tag(Tag::Node(nid))?;
     let reason = match verdict {
@@ -20,8 +20,8 @@ fn result(alloc: Global, verdict: Verdict, nid: u32) -> Result<AccessResult, All
 }
 
 /// The node that the reason names; 0 without a reason.
-fn named(result: &AccessResult) -> u32 {
-    match result.reason() {
+fn named(of: &AccessResult) -> u32 {
+    match of.reason() {
         Some(Reason::Grant(_, nid)) => *nid,
         _ => 0,
     }
@@ -46,8 +46,8 @@ fn combinations(rt: HostRuntime) {
     ];
     for row in &table {
         let (left, right, either, either_named, both, both_named, tags) = *row;
-        let left = result(rt.alloc(), left, 1).expect(&rt, "memory");
-        let right = result(rt.alloc(), right, 2).expect(&rt, "memory");
+        let left = decided(rt.alloc(), left, 1).expect(&rt, "memory");
+        let right = decided(rt.alloc(), right, 2).expect(&rt, "memory");
         let or = left.or_if(rt.alloc(), &right).expect(&rt, "memory");
         assert!(rt; or.verdict == either && named(&or) == either_named);
         assert!(rt; or.allowed() == (either == Verdict::Allowed));
