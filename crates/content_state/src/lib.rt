@@ -12,6 +12,6 @@ mod state;
 pub use ask::{Ask, Viewer};
 pub use commit::{Commit, Write};
 pub use element::{Hole, Library};
-pub use route::Route;
+pub use route::{Route, route_of};
 pub use rows::Rows;
 pub use state::State;
