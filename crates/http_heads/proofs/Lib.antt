@@ -3,3 +3,4 @@ pub mod Begins
 pub mod Within
 pub mod Laws
 pub mod Heads
+pub mod Statuses

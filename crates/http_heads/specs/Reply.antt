@@ -3,7 +3,7 @@
 use Rattle.std.specs.Prelude.{ℕ, List, [], ◌∷◌, ◌++◌, ◌==◌, Bool, true, false, codes, Option, Some, None, unwrap_or}
 use Rattle.std.specs.List.{list_any}
 use Rattle.std.specs.Fmt.{decimal}
-use Rattle.http.specs.StatusCode.{reason_phrase, code_digits}
+use Rattle.http.specs.StatusCode.{reason_phrase}
 use Rattle.http_heads.specs.declared.reply.ReplyHead.{ReplyHead}
 use Rattle.http_heads.specs.declared.reply.Media.{Media}
 use Rattle.http_heads.specs.declared.reply.Media.TheVariants.{Html, Json}
@@ -62,7 +62,11 @@ phrase_of status = unwrap_or (reason_phrase status) []
 
 -- the status line
 abbrev pub status_text : ℕ → List ℕ
-status_text status = version_mark ++ code_digits status ++ space ++ phrase_of status ++ line_end
+status_text status = version_mark ++ decimal status ++ space ++ phrase_of status ++ line_end
+
+-- the line of a field whose value ends in a number
+abbrev pub number_text : List ℕ → ℕ → List ℕ
+number_text mark n = mark ++ decimal n ++ line_end
 
 -- Content-Type
 abbrev pub media_text : Media → List ℕ
@@ -72,12 +76,12 @@ media_text Json = json_line
 -- Content-Length
 abbrev pub length_text : Option ℕ → List ℕ
 length_text None = []
-length_text (Some n) = length_mark ++ decimal n ++ line_end
+length_text (Some n) = number_text length_mark n
 
 -- Location
 abbrev pub location_text : Option ℕ → List ℕ
 location_text None = []
-location_text (Some user) = location_mark ++ decimal user ++ line_end
+location_text (Some user) = number_text location_mark user
 
 -- Set-Cookie
 abbrev pub cookie_text : CookieOut → List ℕ
@@ -93,7 +97,7 @@ allow_text true = allow_line
 -- X-Site-State
 abbrev pub state_text : Option ℕ → List ℕ
 state_text None = []
-state_text (Some number) = state_mark ++ decimal number ++ line_end
+state_text (Some number) = number_text state_mark number
 
 -- Connection
 abbrev pub close_text : Bool → List ℕ
