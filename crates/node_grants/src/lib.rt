@@ -5,6 +5,8 @@
 mod grants;
 mod naming;
 mod records;
+#[cfg(test)]
+mod tests;
 
 pub use grants::grants_of;
 pub use naming::granted;
