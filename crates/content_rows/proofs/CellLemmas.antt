@@ -5,7 +5,7 @@ use Rattle.std.specs.Ordering.{is_eq}
 use Rattle.std.specs.declared.cmp.Ordering.TheVariants.{Equal}
 use Rattle.std.proofs.lemmas.Map.Lookups.{CmpEqualImpliesEq}
 use Rattle.content_rows.specs.declared.cell.Cell.{Cell}
-use Rattle.content_rows.specs.CellOrder.{cell_cmp, TellsCellsApart}
+use Rattle.content_rows.specs.CellOrder.{cell_cmp, order_of_cells, TellsCellsApart}
 use Rattle.content_rows.specs.contracts.cell.CellPartialEq.TheImpl as same
 use Rattle.content_rows.specs.contracts.cell.CellOrd.TheImpl.Laws as laws
 
@@ -23,3 +23,7 @@ cell_cmp_total = laws.total-law
 pub tells_cells_apart : TellsCellsApart
 tells_cells_apart a b =
     (cell_cmp_exact a b, λ same. subst (λ x. cell_cmp a x ≡ Equal) same (tied_itself cell_cmp_total a))
+
+-- the order that a map by cells keeps is the order by kinds
+pub cell_cmp_told : (a b : Cell) → cell_cmp a b ≡ order_of_cells a b
+cell_cmp_told a b = search rules

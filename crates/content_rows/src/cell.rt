@@ -5,6 +5,7 @@ ghost use Rattle.std.specs.Fmt.{decimal};
 use crate::text::Text;
 use cacheability::Name;
 use std::alloc::{AllocError, Global};
+use std::cmp::Ordering;
 
 /// The place of a row. Cells are in order of their kind as the variants stand here; within a kind
 /// by number, or by the bytes of the name.
@@ -39,7 +40,7 @@ pub enum Cell {
 impl Cell {
     ghost use Rattle.std.specs.Prelude.{◌≡◌, ◌↔◌, IfOk, IsTrue};
     ghost use Rattle.content_rows.specs.CellText.{cell_text};
-    ghost use Rattle.content_rows.specs.CellOrder.{TellsCellsApart};
+    ghost use Rattle.content_rows.specs.CellOrder.{cell_cmp, order_of_cells, TellsCellsApart};
 
     /// What the cell is called in a line of rows and in a store, as `site` or `node:1`.
     /// `Err` only where memory is wanting.
@@ -60,6 +61,15 @@ impl Cell {
             Cell::Session(name) => named(alloc, b"session:", name),
             Cell::Head => Text::copied(alloc, b"head"),
         }
+    }
+
+    /// How the two stand in the order of cells: by their kinds, and within a kind by number or by
+    /// the bytes of the name.
+    pub fn order(&self, other: &Cell) -> Ordering
+        ensures told { result ≡ order_of_cells self.now other.now }
+        ensures kept { result ≡ cell_cmp self.now other.now }
+    {
+        self.cmp(other)
     }
 
     /// Whether both are the same place, which the order of cells tells too: it is `Equal` there alone.
