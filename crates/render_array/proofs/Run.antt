@@ -190,7 +190,10 @@ merged_in tags contexts last old new visit whole shown libraries same_last below
   };
 }
 
-pub read : (r : Read) (old new : Sheet) (x : Answer r) → AddsTags old new (cover new.visit.rows r) → x ≡ answer new.visit.rows r → Renders (reading r) old x new
+pub retagged : {old new : Sheet} {t u : Tag} → t ≡ u → AddsTags old new (t ∷ []) → AddsTags old new (u ∷ [])
+retagged {old = old} {new = new} e adds = subst (λ t. AddsTags old new (t ∷ [])) e adds
+
+pub read : (r : Read) (old new : Sheet) (x : Answer r) → AddsTags old new (cover old.visit.rows r) → x ≡ answer old.visit.rows r → Renders (reading r) old x new
 unfolding reading
 read r old new x adds e = record {
   visit = adds.visit;
@@ -201,11 +204,11 @@ read r old new x adds e = record {
     appended = adds.shown ∙ sym (append-nil old.shown);
     attached = adds.libraries ∙ sym (append-nil old.libraries);
     kept = adds.kept;
-    made = subst (λ v. Made (reading r) v x [] [] new.needs) adds.visit (adds.added w, (e, refl, refl));
+    made = (adds.added w, (e, refl, refl));
   };
 }
 
-pub asked : (c : Context) (old new : Sheet) (x : Value c) → AddsContext old new c → x ≡ value new.visit c → Renders (asking c) old x new
+pub asked : (c : Context) (old new : Sheet) (x : Value c) → AddsContext old new c → x ≡ value old.visit c → Renders (asking c) old x new
 unfolding asking
 asked c old new x adds e = record {
   visit = adds.visit;
@@ -216,7 +219,7 @@ asked c old new x adds e = record {
     appended = adds.shown ∙ sym (append-nil old.shown);
     attached = adds.libraries ∙ sym (append-nil old.libraries);
     kept = adds.kept;
-    made = subst (λ v. Made (asking c) v x [] [] new.needs) adds.visit (inl (adds.added w), (e, refl, refl));
+    made = (inl (adds.added w), (e, refl, refl));
   };
 }
 

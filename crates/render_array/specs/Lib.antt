@@ -1,3 +1,4 @@
 pub mod Board
 pub mod Canvas
+pub mod Page
 pub mod Pieces

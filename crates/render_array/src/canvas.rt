@@ -1,15 +1,15 @@
 //! A canvas, on which the builders of elements write.
 ghost use Rattle.std.specs.Prelude.{◌≡◌, ◌∷◌, ◌-◌, ◌^◌, [], true, false, IfOk};
 ghost use Rattle.std.specs.Option.{option_copied};
+ghost use Rattle.content_state.specs.declared.element.Hole.TheVariants as hole;
 ghost use Rattle.content_state.specs.Read.{SiteRow, TypeRow, NodeRow};
 ghost use Rattle.content_state.specs.Plan.{write, escaped, attach, part, reading, clock};
 ghost use Rattle.render_array.specs.Canvas.{Renders, AddsTags, AddsContext, Fails, blank};
 
 use crate::board::Board;
-use crate::reading;
 use cacheability::{Cacheability, Context, MaxAge, Name, Tag};
 use content_rows::{Node, NodeType, Site};
-use content_state::{Ask, Hole, Library, Rows, Viewer};
+use content_state::{Ask, Library, State, Viewer};
 use std::alloc::{AllocError, Global};
 use std::marker::Model;
 
@@ -18,7 +18,7 @@ use std::marker::Model;
 #[derive(Drop)]
 pub struct Canvas<'a> {
     alloc: Global,
-    rows: &'a Rows,
+    state: &'a State,
     viewer: &'a Viewer,
     ask: &'a Ask,
     moment: u64,
@@ -35,7 +35,7 @@ impl<'a> Model for Canvas<'a> {
     ghost Value = { Sheet };
 
     ghost view = { λ c. record {
-      visit = record { rows = c.rows.now; viewer = c.viewer.now; ask = c.ask.now; moment = c.moment };
+      visit = record { rows = c.state.now.rows; viewer = c.viewer.now; ask = c.ask.now; moment = c.moment };
       shown = c.board;
       libraries = c.libraries.items;
       needs = record { tags = c.cacheability.tags; contexts = c.cacheability.contexts; last = c.last };
@@ -47,16 +47,16 @@ impl<'a> Canvas<'a> {
     /// A canvas on which nothing is written, and which depends on nothing.
     pub fn new(
         alloc: Global,
-        rows: &'a Rows,
+        state: &'a State,
         viewer: &'a Viewer,
         ask: &'a Ask,
         moment: u64,
     ) -> Canvas<'a>
-        ensures { result ≡ blank (record { rows = rows.now; viewer = viewer.now; ask = ask.now; moment = moment }) (2 ^ 64 - 1) }
+        ensures { result ≡ blank (record { rows = state.now.rows; viewer = viewer.now; ask = ask.now; moment = moment }) (2 ^ 64 - 1) }
     {
         Canvas {
             alloc,
-            rows,
+            state,
             viewer,
             ask,
             moment,
@@ -77,6 +77,15 @@ impl<'a> Canvas<'a> {
         }
     }
 
+    /// Writes the escaped bytes of a text.
+    pub fn escaped(&mut self, text: &[u8])
+        ensures { Renders (escaped text.now) self.old tt self.new }
+    {
+        if self.board.escaped(text).is_err() {
+            self.whole = false;
+        }
+    }
+
     /// Attaches a library.
     pub fn attach(&mut self, library: Library)
         ensures { Renders (attach library) self.old tt self.new }
@@ -86,11 +95,11 @@ impl<'a> Canvas<'a> {
         }
     }
 
-    /// Leaves a place open.
-    pub fn part(&mut self, hole: Hole)
-        ensures { Renders (part hole) self.old tt self.new }
+    /// Leaves the place of the libraries open.
+    pub fn meta(&mut self)
+        ensures { Renders (part hole.Meta) self.old tt self.new }
     {
-        if self.board.open(hole).is_err() {
+        if self.board.open_meta().is_err() {
             self.whole = false;
         }
     }
@@ -117,24 +126,27 @@ impl<'a> Canvas<'a> {
     pub fn site(&mut self) -> Option<&'a Site>
         ensures { Renders (reading SiteRow) self.old (option_copied result) self.new }
     {
-        self.tag(Tag::Site);
-        reading::site(self.rows)
+        let (site, tag) = self.state.site();
+        self.tag(tag);
+        site
     }
 
     /// The content type of that name, if there is one.
     pub fn node_type(&mut self, name: Name) -> Option<&'a NodeType>
         ensures { Renders (reading (TypeRow name)) self.old (option_copied result) self.new }
     {
-        self.tag(Tag::NodeType(name));
-        reading::node_type(self.rows, name)
+        let (node_type, tag) = self.state.node_type(name);
+        self.tag(tag);
+        node_type
     }
 
     /// The node of that number, if there is one.
     pub fn node(&mut self, n: u32) -> Option<&'a Node>
         ensures { Renders (reading (NodeRow n)) self.old (option_copied result) self.new }
     {
-        self.tag(Tag::Node(n));
-        reading::node(self.rows, n)
+        let (node, tag) = self.state.node(n);
+        self.tag(tag);
+        node
     }
 
     /// The moment, for what may be shown for so many seconds.

@@ -5,8 +5,7 @@
 mod board;
 mod canvas;
 mod house;
-mod reading;
+mod page;
 
-pub use board::Segment;
 pub use canvas::Canvas;
 pub use house::House;

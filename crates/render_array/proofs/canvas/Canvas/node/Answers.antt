@@ -1,6 +1,6 @@
 use Rattle.content_state.specs.Read.{NodeRow}
-use Rattle.render_array.proofs.Run.{read}
+use Rattle.render_array.proofs.Run.{read, retagged}
 use Rattle.render_array.proofs.canvas.Canvas.node.Goals as goal
 
 pub returns : goal.returns
-returns c = read (NodeRow c.args.n) _ _ _ c.tag.ensures (rw (← c.self.view_is) c.node.ensures)
+returns c = read (NodeRow c.args.n) _ _ _ (retagged c.node-tag.ensures.tag c.tag.ensures) (rw (← c.self.view_is) c.node-tag.ensures.row)

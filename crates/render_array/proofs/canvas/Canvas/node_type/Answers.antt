@@ -1,6 +1,6 @@
 use Rattle.content_state.specs.Read.{TypeRow}
-use Rattle.render_array.proofs.Run.{read}
+use Rattle.render_array.proofs.Run.{read, retagged}
 use Rattle.render_array.proofs.canvas.Canvas.node_type.Goals as goal
 
 pub returns : goal.returns
-returns c = read (TypeRow c.args.name) _ _ _ c.tag.ensures (rw (← c.self.view_is) c.node_type.ensures)
+returns c = read (TypeRow c.args.name) _ _ _ (retagged c.node_type-tag.ensures.tag c.tag.ensures) (rw (← c.self.view_is) c.node_type-tag.ensures.row)
