@@ -2,3 +2,4 @@ pub mod Board
 pub mod Canvas
 pub mod Page
 pub mod Pieces
+pub mod Shown
