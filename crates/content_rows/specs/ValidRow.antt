@@ -94,7 +94,7 @@ pub record IsValidLink (l : Link) : Type 0 where
   pub weight : IsWeight l.weight
 
 -- each link's id is there once, each parent is a link of the menu, no link stands under itself, and none is deeper
--- than nine links, itself and the one at the top counted
+-- than nine links, itself and the one at the top counted (MenuTreeStorage::MAX_DEPTH of Drupal's Menu API)
 pub record IsValidMenu (r : Menu) : Type 0 where
   pub label : IsTrue (is_line 255 r.label)
   pub few_links : length r.links ≤ 256

@@ -18,3 +18,6 @@ pub use row::{
 };
 pub use starting::starter;
 pub use text::{Items, Text};
+
+#[cfg(test)]
+mod tests;

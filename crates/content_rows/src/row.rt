@@ -41,6 +41,7 @@ pub struct FieldRow {
 }
 
 /// A content type.
+/// <https://www.drupal.org/docs/user_guide/en/planning-data-types.html>
 #[derive(Drop, Debug)]
 pub struct NodeType {
     /// Its fields in the order in which they are shown: at most 32, names distinct.
@@ -52,6 +53,7 @@ pub struct NodeType {
 }
 
 /// A grant that a role or a user holds: a number in a realm.
+/// <https://api.drupal.org/api/drupal/core!modules!node!node.api.php/function/hook_node_grants/10>
 #[derive(Clone, Copy, Debug, PartialEq, Eq, PartialOrd, Ord)]
 pub struct Grant {
     /// The number of the grant.
@@ -61,6 +63,7 @@ pub struct Grant {
 }
 
 /// A role.
+/// <https://www.drupal.org/docs/user_guide/en/user-concept.html>
 #[derive(Drop, Debug)]
 pub struct Role {
     /// Whether its holders have every permission.
@@ -95,6 +98,7 @@ pub struct User {
 }
 
 /// A taxonomy term.
+/// <https://www.drupal.org/docs/user_guide/en/structure-taxonomy.html>
 #[derive(Drop, Debug)]
 pub struct Term {
     /// What it means: a text.
@@ -117,6 +121,7 @@ pub struct FieldValue {
 }
 
 /// A node's access record: which operations it lets the holders of a grant do.
+/// <https://api.drupal.org/api/drupal/core!modules!node!node.api.php/function/hook_node_access_records/10>
 #[derive(Clone, Copy, Debug)]
 pub struct GrantRow {
     /// Whether they may delete the node.
@@ -182,6 +187,7 @@ pub struct Link {
 }
 
 /// A menu.
+/// <https://www.drupal.org/docs/user_guide/en/menu-concept.html>
 #[derive(Drop, Debug)]
 pub struct Menu {
     /// What people call it, a line of at most 255 bytes.
@@ -191,6 +197,7 @@ pub struct Menu {
 }
 
 /// A listing: nodes of some kind, newest first, ten a page.
+/// <https://www.drupal.org/docs/user_guide/en/views-concept.html>
 #[derive(Drop, Debug)]
 pub struct Listing {
     /// How long it may be shown once built, in seconds; none exactly where `recent` is none.
@@ -238,6 +245,7 @@ pub enum Region {
 }
 
 /// A placed block.
+/// <https://www.drupal.org/docs/user_guide/en/block-concept.html>
 #[derive(Drop, Debug)]
 pub struct Block {
     /// How long a clock may be shown once built, in seconds; none for every other kind.
