@@ -5,3 +5,5 @@ pub mod Viewer
 pub mod Context
 pub mod Plan
 pub mod Replay
+pub mod SiteRules
+pub mod FirstFault

@@ -7,6 +7,7 @@ mod commit;
 mod element;
 mod route;
 mod rows;
+mod site_rules;
 mod state;
 
 pub use ask::{Ask, Viewer};
@@ -14,4 +15,5 @@ pub use commit::{Commit, Write};
 pub use element::{Hole, Library};
 pub use route::{Route, route_of};
 pub use rows::Rows;
+pub use site_rules::{NotASite, Refused, SiteField, SiteRule};
 pub use state::State;

@@ -1,10 +1,13 @@
 //! The rows of a state.
 ghost use Rattle.std.specs.Prelude.{◌≡◌, [], Some, None, OnOk, OnErr};
 ghost use Rattle.std.specs.Option.{option_copied};
+ghost use Rattle.std.specs.Map.{keys_of};
+ghost use Rattle.std.specs.List.Sorted.{IsStrictlySortedBy};
 
 use content_rows::{Cell, Row};
 use std::alloc::{AllocFailed, Global};
 use std::collections::BTreeMap;
+use std::collections::btree_map::Iter;
 use std::marker::Model;
 
 /// The rows of a state: a finite map from cells to rows, which contracts see as the list of its pairs in cell order.
@@ -25,6 +28,7 @@ impl Model for Rows {
 
 impl Rows {
     ghost use Rattle.content_state.specs.Rows.{row_at, with_row};
+    ghost use Rattle.content_rows.specs.CellOrder.{cell_cmp};
 
     /// No rows.
     pub fn new(alloc: Global) -> Rows
@@ -40,6 +44,14 @@ impl Rows {
         ensures { option_copied result ≡ row_at self.now cell }
     {
         self.map.get(&cell)
+    }
+
+    /// The cells that have a row, each with its row, in cell order.
+    pub fn iter(&self) -> Iter<'_, Cell, Row>
+        ensures rest { result ≡ self.now }
+        ensures ordered { IsStrictlySortedBy cell_cmp (keys_of self.now) }
+    {
+        self.map.iter()
     }
 
     /// Sets the row of a cell. Where memory is wanting, the rows are as they were and the row comes back.

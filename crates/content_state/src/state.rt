@@ -1,14 +1,18 @@
 //! The states of a site.
-ghost use Rattle.std.specs.Prelude.{◌≡◌};
+ghost use Rattle.std.specs.Prelude.{◌≡◌, ◌≤◌, ◌^◌, IfOk, IfErr};
 ghost use Rattle.std.specs.Option.{option_copied};
 ghost use Rattle.cacheability.specs.declared.tag.Tag.TheVariants as tag;
 
 use crate::rows::Rows;
+use crate::site_rules::{NotASite, Refused, SiteField, SiteRule, first_fault};
 use cacheability::{Name, Tag};
 use content_rows::{
     Block, Cell, Listing, Menu, Node, NodeType, Role, Row, Seq, Session, Site, Term, User,
 };
 use tag_counts::Counts;
+
+/// The greatest number that a site may begin with: 2^62, so that the edits of no run lead past a u64.
+const GREATEST_NUMBER: u64 = 4_611_686_018_427_387_904;
 
 /// A state of a site: its rows, how often each tag was invalidated, and its number, which each
 /// accepted edit raises by one.
@@ -33,6 +37,39 @@ impl State {
       block_of,
       session_of,
     };
+    ghost use Rattle.content_state.specs.SiteRules.{MeetsSiteRules, IsNoSite};
+
+    /// The state of these rows, counts and number. They are refused exactly where a cell breaks a rule
+    /// of sites or the number is above 2^62; then all comes back, with the first cell, in cell order,
+    /// that breaks a rule, the rule, and what breaks it. Of a number that is too great `Cell::Head`,
+    /// `Range` and `Number` are named, where no cell breaks a rule. Takes no memory; it compares each
+    /// node, term, user and listing with every row.
+    pub fn from_rows(rows: Rows, counts: Counts, number: u64) -> Result<State, Refused>
+        ensures same { IfOk result (λ s. s ≡ record { rows = rows; counts = counts; number = number }) }
+        ensures together { IfOk result (λ s. MeetsSiteRules rows × (number ≤ 2 ^ 62)) }
+        ensures refused { IfErr result (λ r. IsNoSite rows number r.fault) }
+        ensures back { IfErr result (λ r. (r.rows ≡ rows) × (r.counts ≡ counts)) }
+    {
+        let state = State {
+            rows,
+            counts,
+            number,
+        };
+        let fault = match first_fault(&state) {
+            Some(fault) => fault,
+            None if number <= GREATEST_NUMBER => return Ok(state),
+            None => NotASite {
+                cell: Cell::Head,
+                rule: SiteRule::Range,
+                field: SiteField::Number,
+            },
+        };
+        Err(Refused {
+            rows: state.rows,
+            counts: state.counts,
+            fault,
+        })
+    }
 
     /// The settings of the site, and the tag that covers reading them.
     pub fn site(&self) -> (Option<&Site>, Tag)

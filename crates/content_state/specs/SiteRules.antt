@@ -1,0 +1,147 @@
+-- The rules that the rows of a site keep together: which rows are there, that ids to come are free, that what a row
+-- names is there, and that no two rows have one universal id, name or path.
+use Rattle.std.specs.Prelude.{ℕ, List, [], ◌∷◌, ◌≡◌, ◌<◌, ◌^◌, ◌⊎◌, ◌==◌, Bool, false, not, ◌&&◌, ◌||◌, nat_le, Option, Some, None, is_none, All, if◌then◌else◌}
+use Rattle.std.specs.List.{list_any}
+use Rattle.std.specs.Ordering.{is_lt}
+use Rattle.std.specs.Str.{bytes_eq}
+use Rattle.std.specs.declared.cmp.Ordering.TheVariants.{Less}
+use Rattle.content_rows.specs.CellOrder.{cell_cmp}
+use Rattle.content_rows.specs.Permission.{anonymous, authenticated}
+use Rattle.content_rows.specs.ValidRow.{IsValidRow}
+use Rattle.content_rows.specs.declared.cell.Cell.{Cell}
+use Rattle.content_rows.specs.declared.cell.Cell.TheVariants as cell
+use Rattle.content_rows.specs.declared.row.Row.{Row}
+use Rattle.content_rows.specs.declared.row.Row.TheVariants as row
+use Rattle.content_rows.specs.declared.row.Seq.{Seq}
+use Rattle.content_rows.specs.declared.row.User.{User}
+use Rattle.content_rows.specs.declared.row.Term.{Term}
+use Rattle.content_rows.specs.declared.row.Node.{Node}
+use Rattle.content_rows.specs.declared.row.Listing.{Listing}
+use Rattle.content_rows.specs.declared.row.Session.{Session}
+use Rattle.content_state.specs.Rows.{site_of, seq_of, type_of, role_of, user_of, term_of, node_of, listing_of, session_of}
+use Rattle.content_state.specs.declared.site_rules.SiteRule.{SiteRule}
+use Rattle.content_state.specs.declared.site_rules.SiteRule.TheVariants as rule
+use Rattle.content_state.specs.declared.site_rules.SiteField.{SiteField}
+use Rattle.content_state.specs.declared.site_rules.SiteField.TheVariants as field
+use Rattle.content_state.specs.declared.site_rules.NotASite.{NotASite}
+use Rattle.content_state.specs.declared.site_rules.Numbered.{Numbered}
+use Rattle.content_state.specs.declared.site_rules.Numbered.TheVariants as numbered
+use Rattle.content_state.specs.declared.site_rules.Unique.{Unique}
+use Rattle.content_state.specs.declared.site_rules.Unique.TheVariants as unique
+use Rattle.content_state.specs.declared.state.State.{State}
+
+-- the first of some rules that is broken, with the field that breaks it
+abbrev pub first_broken : List (Bool × SiteRule × SiteField) → Option (SiteRule × SiteField)
+first_broken [] = None
+first_broken (r ∷ rs) = if r.0 then Some (r.1, r.2) else first_broken rs
+
+-- whether a cell is of that kind and its id is not below the one that is to be given next
+abbrev pub is_id_from : Numbered → ℕ → Cell → Bool
+is_id_from numbered.Node next (cell.Node id) = nat_le next id
+is_id_from numbered.Term next (cell.Term id) = nat_le next id
+is_id_from numbered.User next (cell.User id) = nat_le next id
+is_id_from _ next _ = false
+
+abbrev pub has_id_from : List (Cell × Row) → Numbered → ℕ → Bool
+has_id_from rows kind next = list_any (λ e. is_id_from kind next e.0) rows
+
+-- what a row has that no other row may have
+abbrev pub text_of : Unique → Row → Option (List ℕ)
+text_of unique.NodeUuid (row.Node r) = Some r.uuid
+text_of unique.TermUuid (row.Term r) = Some r.uuid
+text_of unique.UserUuid (row.User r) = Some r.uuid
+text_of unique.UserName (row.User r) = Some r.name
+text_of unique.Path (row.Node r) = r.path
+text_of unique.Path (row.Listing r) = r.path
+text_of _ _ = None
+
+abbrev pub is_text : List ℕ → Option (List ℕ) → Bool
+is_text text None = false
+is_text text (Some own) = bytes_eq own text
+
+-- whether a row that stands before a cell has the text already
+abbrev pub taken : List (Cell × Row) → Cell → Unique → Option (List ℕ) → Bool
+taken rows c what None = false
+taken rows c what (Some text) = list_any (λ e. is_lt (cell_cmp e.0 c) && is_text text (text_of what e.1)) rows
+
+-- each number is above every id of its kind
+abbrev pub seq_fault : List (Cell × Row) → Option Seq → Option (SiteRule × SiteField)
+seq_fault rows None = Some (rule.Missing, field.Cell)
+seq_fault rows (Some seq) = first_broken (
+    (has_id_from rows numbered.Node seq.node, rule.Range, field.Node)
+    ∷ (has_id_from rows numbered.Term seq.term, rule.Range, field.Term)
+    ∷ (has_id_from rows numbered.User seq.user, rule.Range, field.User)
+    ∷ [])
+
+-- the uuid and the name are its own
+abbrev pub user_fault : List (Cell × Row) → Cell → Option User → Option (SiteRule × SiteField)
+user_fault rows c None = None
+user_fault rows c (Some user) = first_broken (
+    (taken rows c unique.UserUuid (Some user.uuid), rule.Taken, field.Uuid)
+    ∷ (taken rows c unique.UserName (Some user.name), rule.Taken, field.Name)
+    ∷ [])
+
+abbrev pub term_fault : List (Cell × Row) → Cell → Option Term → Option (SiteRule × SiteField)
+term_fault rows c None = None
+term_fault rows c (Some term) = first_broken ((taken rows c unique.TermUuid (Some term.uuid), rule.Taken, field.Uuid) ∷ [])
+
+-- its type is there, its user is 0 or there, and the uuid and the path are its own
+abbrev pub node_fault : List (Cell × Row) → Cell → Option Node → Option (SiteRule × SiteField)
+node_fault rows c None = None
+node_fault rows c (Some node) = first_broken (
+    (is_none (type_of rows node.node_type), rule.Absent, field.Type)
+    ∷ (not (node.uid == 0) && is_none (user_of rows node.uid), rule.Absent, field.Uid)
+    ∷ (taken rows c unique.NodeUuid (Some node.uuid), rule.Taken, field.Uuid)
+    ∷ (taken rows c unique.Path node.path, rule.Taken, field.Path)
+    ∷ [])
+
+abbrev pub listing_fault : List (Cell × Row) → Cell → Option Listing → Option (SiteRule × SiteField)
+listing_fault rows c None = None
+listing_fault rows c (Some listing) = first_broken ((taken rows c unique.Path listing.path, rule.Taken, field.Path) ∷ [])
+
+-- its user is there
+abbrev pub session_fault : List (Cell × Row) → Option Session → Option (SiteRule × SiteField)
+session_fault rows None = None
+session_fault rows (Some session) = first_broken ((is_none (user_of rows session.uid), rule.Absent, field.Uid) ∷ [])
+
+-- The rule that a cell breaks, and with what. The settings, the ids that are next and the two roles that every viewer
+-- or every user has are there; of the other cells none has to be.
+abbrev pub cell_fault : List (Cell × Row) → Cell → Option (SiteRule × SiteField)
+cell_fault rows cell.Site = first_broken ((is_none (site_of rows), rule.Missing, field.Cell) ∷ [])
+cell_fault rows cell.Seq = seq_fault rows (seq_of rows)
+cell_fault rows (cell.NodeType name) = None
+cell_fault rows (cell.Role name) = first_broken (
+    ((bytes_eq name anonymous || bytes_eq name authenticated) && is_none (role_of rows name), rule.Missing, field.Cell)
+    ∷ [])
+cell_fault rows (cell.User id) = user_fault rows (cell.User id) (user_of rows id)
+cell_fault rows (cell.Term id) = term_fault rows (cell.Term id) (term_of rows id)
+cell_fault rows (cell.Node id) = node_fault rows (cell.Node id) (node_of rows id)
+cell_fault rows (cell.Menu name) = None
+cell_fault rows (cell.Listing name) = listing_fault rows (cell.Listing name) (listing_of rows name)
+cell_fault rows (cell.Block name) = None
+cell_fault rows (cell.Session name) = session_fault rows (session_of rows name)
+cell_fault rows cell.Head = None
+
+-- no cell breaks a rule
+abbrev pub MeetsSiteRules : List (Cell × Row) → Type 0
+MeetsSiteRules rows = (c : Cell) → cell_fault rows c ≡ None
+
+-- each row is right by itself, and all of them together
+pub record IsValidState (state : State) : Type 0 where
+  pub rows : All (λ e. IsValidRow e.0 e.1) state.rows
+  pub together : MeetsSiteRules state.rows
+
+-- the cell that is named breaks that rule with that field, and no cell before it breaks any
+pub record IsFirstFault (rows : List (Cell × Row)) (fault : NotASite) : Type 0 where
+  pub broken : cell_fault rows fault.cell ≡ Some (fault.rule, fault.field)
+  pub first : (c : Cell) → cell_cmp c fault.cell ≡ Less → cell_fault rows c ≡ None
+
+-- no cell breaks a rule, and the number is too great, which is said of the cell of the head number
+pub record IsTooGreat (rows : List (Cell × Row)) (number : ℕ) (fault : NotASite) : Type 0 where
+  pub together : MeetsSiteRules rows
+  pub great : 2 ^ 62 < number
+  pub named : fault ≡ record { cell = cell.Head; rule = rule.Range; field = field.Number }
+
+-- why rows and a number are no site
+abbrev pub IsNoSite : List (Cell × Row) → ℕ → NotASite → Type 0
+IsNoSite rows number fault = IsFirstFault rows fault ⊎ IsTooGreat rows number fault

@@ -1,0 +1,384 @@
+//! The rules that the rows of a site keep together.
+ghost use Rattle.std.specs.Prelude.{◌≡◌, ◌||◌, if◌then◌else◌};
+ghost use Rattle.std.specs.Map.{keys_of};
+ghost use Rattle.std.specs.Option.{option_copied, MatchOption};
+ghost use Rattle.std.specs.List.Sorted.{IsStrictlySortedBy};
+ghost use Rattle.content_rows.specs.CellOrder.{cell_cmp};
+ghost use Rattle.content_rows.specs.Permission.{anonymous as anonymous_name, authenticated as authenticated_name};
+ghost use Rattle.std.specs.Str.{bytes_eq};
+ghost use Rattle.content_state.specs.SiteRules.{
+  MeetsSiteRules,
+  IsFirstFault,
+  cell_fault,
+  user_fault,
+  term_fault,
+  node_fault,
+  listing_fault,
+  session_fault,
+  has_id_from,
+  is_id_from,
+  taken,
+  is_text,
+  text_of,
+};
+ghost use Rattle.content_state.specs.Rows.{user_of, term_of, node_of, listing_of, session_of};
+ghost use Rattle.content_state.specs.FirstFault.{fault_at, first_among, required};
+
+use crate::rows::Rows;
+use crate::state::State;
+use cacheability::Name;
+use content_rows::{Cell, Row, Text};
+use tag_counts::Counts;
+
+/// A rule that all rows of a site keep together.
+#[derive(Clone, Copy, Debug, PartialEq, Eq)]
+pub enum SiteRule {
+    /// `missing`: a row that every site has is not there.
+    Missing,
+    /// `range`: a number is too small, or too great.
+    Range,
+    /// `absent`: what a row names is not there.
+    Absent,
+    /// `taken`: a row before has it already.
+    Taken,
+}
+
+/// What of a row breaks a rule.
+#[derive(Clone, Copy, Debug, PartialEq, Eq)]
+pub enum SiteField {
+    /// `cell`: the row as a whole.
+    Cell,
+    /// `node`: the id of the next node.
+    Node,
+    /// `term`: the id of the next term.
+    Term,
+    /// `user`: the id of the next user.
+    User,
+    /// `type`: a node's type.
+    Type,
+    /// `uid`: the id of a user.
+    Uid,
+    /// `uuid`: a universal id.
+    Uuid,
+    /// `name`: a user's name.
+    Name,
+    /// `path`: the path of a node or of a listing.
+    Path,
+    /// `number`: the head number.
+    Number,
+}
+
+/// Why rows are no site: the first cell, in cell order, that breaks a rule of sites, the rule, and
+/// what breaks it.
+#[derive(Clone, Copy, Debug)]
+pub struct NotASite {
+    pub cell: Cell,
+    pub rule: SiteRule,
+    pub field: SiteField,
+}
+
+/// Rows that are no site, handed back with the counts, and why.
+#[derive(Drop, Debug)]
+pub struct Refused {
+    pub rows: Rows,
+    pub counts: Counts,
+    pub fault: NotASite,
+}
+
+/// The kinds of rows whose ids are given in turn.
+#[derive(Clone, Copy)]
+enum Numbered {
+    Node,
+    Term,
+    User,
+}
+
+/// What no two rows have in common.
+#[derive(Clone, Copy)]
+enum Unique {
+    NodeUuid,
+    TermUuid,
+    UserUuid,
+    UserName,
+    Path,
+}
+
+/// The first cell, in cell order, that breaks a rule of sites, with the rule and what breaks it.
+pub fn first_fault(state: &State) -> Option<NotASite>
+    ensures { MatchOption result (MeetsSiteRules state.now.rows) (IsFirstFault state.now.rows) }
+{
+    match required_fault(state) {
+        Some(fault) => Some(fault),
+        None => present_fault(state),
+    }
+}
+
+/// The first of the cells that are to be there which breaks a rule.
+fn required_fault(state: &State) -> Option<NotASite>
+    ensures { result ≡ first_among state.now.rows required }
+{
+    let cells = [
+        Cell::Site,
+        Cell::Seq,
+        Cell::Role(anonymous()),
+        Cell::Role(authenticated()),
+    ];
+    'cells: for cell in &cells {
+        let fault = fault_at(state, cell);
+        if fault.is_some() {
+            return fault;
+        }
+    }
+    None
+}
+
+/// The first of the cells that are there which breaks a rule.
+fn present_fault(state: &State) -> Option<NotASite>
+    ensures in_order { IsStrictlySortedBy cell_cmp (keys_of state.now.rows) }
+    ensures first { result ≡ first_among state.now.rows (keys_of state.now.rows) }
+{
+    'rows: for (cell, _) in state.rows.iter() {
+        let fault = fault_at(state, cell);
+        if fault.is_some() {
+            return fault;
+        }
+    }
+    None
+}
+
+/// The rule that a cell breaks, with the cell.
+fn fault_at(state: &State, cell: &Cell) -> Option<NotASite>
+    ensures { result ≡ fault_at cell.now (cell_fault state.now.rows cell.now) }
+{
+    match cell_fault(state, cell) {
+        Some((rule, field)) => Some(NotASite {
+            cell: *cell,
+            rule,
+            field,
+        }),
+        None => None,
+    }
+}
+
+/// The rule that a cell breaks, and with what.
+fn cell_fault(state: &State, cell: &Cell) -> Option<(SiteRule, SiteField)>
+    ensures { result ≡ cell_fault state.now.rows cell.now }
+{
+    match cell {
+        Cell::Site => missing_unless(state.site().0.is_some()),
+        Cell::Seq => seq_fault(state),
+        Cell::Role(name) => missing_unless(!is_required(name) || state.role(*name).0.is_some()),
+        Cell::User(uid) => user_fault(state, cell, *uid),
+        Cell::Term(tid) => term_fault(state, cell, *tid),
+        Cell::Node(nid) => node_fault(state, cell, *nid),
+        Cell::Listing(name) => listing_fault(state, cell, name),
+        Cell::Session(token) => session_fault(state, token),
+        Cell::NodeType(_) | Cell::Menu(_) | Cell::Block(_) | Cell::Head => None,
+    }
+}
+
+/// The fault of a row that every site has, unless it is there.
+fn missing_unless(is_there: bool) -> Option<(SiteRule, SiteField)>
+    ensures { result ≡ (if is_there then None else Some (SiteRule.Missing, SiteField.Cell)) }
+{
+    if is_there {
+        None
+    } else {
+        Some((SiteRule::Missing, SiteField::Cell))
+    }
+}
+
+/// Whether every site has the role of that name.
+#[tactic(auto, unfolding(content_rows::specs::Permission::anonymous, content_rows::specs::Permission::authenticated))]
+fn is_required(role: &Name) -> bool
+    ensures { result ≡ (bytes_eq role.now anonymous_name || bytes_eq role.now authenticated_name) }
+{
+    role.as_bytes() == b"anonymous".as_slice() || role.as_bytes() == b"authenticated".as_slice()
+}
+
+/// The name of the role of user 0.
+#[tactic(auto, unfolding(content_rows::specs::Permission::anonymous))]
+fn anonymous() -> Name
+    ensures { result ≡ anonymous_name }
+{
+    match Name::new(b"anonymous") {
+        Ok(name) => name,
+        Err(_) => unreachable!(),
+    }
+}
+
+/// The name of the role of every other user.
+#[tactic(auto, unfolding(content_rows::specs::Permission::authenticated))]
+fn authenticated() -> Name
+    ensures { result ≡ authenticated_name }
+{
+    match Name::new(b"authenticated") {
+        Ok(name) => name,
+        Err(_) => unreachable!(),
+    }
+}
+
+/// An id that is not below the one of its kind that is to be given next; or none are there to give.
+fn seq_fault(state: &State) -> Option<(SiteRule, SiteField)>
+    ensures { result ≡ cell_fault state.now.rows Cell.Seq }
+{
+    match state.seq() {
+        Some(seq) => {
+            if has_id_from(state, Numbered::Node, seq.node) {
+                Some((SiteRule::Range, SiteField::Node))
+            } else if has_id_from(state, Numbered::Term, seq.term) {
+                Some((SiteRule::Range, SiteField::Term))
+            } else if has_id_from(state, Numbered::User, seq.user) {
+                Some((SiteRule::Range, SiteField::User))
+            } else {
+                None
+            }
+        }
+        None => Some((SiteRule::Missing, SiteField::Cell)),
+    }
+}
+
+/// A user's uuid or name that a user before has.
+fn user_fault(state: &State, cell: &Cell, uid: u32) -> Option<(SiteRule, SiteField)>
+    ensures { result ≡ user_fault state.now.rows cell.now (user_of state.now.rows uid) }
+{
+    match state.user(uid).0 {
+        Some(user) => {
+            if is_taken(state, cell, Unique::UserUuid, &user.uuid) {
+                Some((SiteRule::Taken, SiteField::Uuid))
+            } else if is_taken(state, cell, Unique::UserName, &user.name) {
+                Some((SiteRule::Taken, SiteField::Name))
+            } else {
+                None
+            }
+        }
+        None => None,
+    }
+}
+
+/// A term's uuid that a term before has.
+fn term_fault(state: &State, cell: &Cell, tid: u32) -> Option<(SiteRule, SiteField)>
+    ensures { result ≡ term_fault state.now.rows cell.now (term_of state.now.rows tid) }
+{
+    match state.term(tid).0 {
+        Some(term) if is_taken(state, cell, Unique::TermUuid, &term.uuid) => {
+            Some((SiteRule::Taken, SiteField::Uuid))
+        }
+        _ => None,
+    }
+}
+
+/// A node's type or user that is not there, or its uuid or path that a row before has.
+fn node_fault(state: &State, cell: &Cell, nid: u32) -> Option<(SiteRule, SiteField)>
+    ensures { result ≡ node_fault state.now.rows cell.now (node_of state.now.rows nid) }
+{
+    match state.node(nid).0 {
+        Some(node) => {
+            if state.node_type(node.node_type).0.is_none() {
+                Some((SiteRule::Absent, SiteField::Type))
+            } else if node.uid != 0 && state.user(node.uid).0.is_none() {
+                Some((SiteRule::Absent, SiteField::Uid))
+            } else if is_taken(state, cell, Unique::NodeUuid, &node.uuid) {
+                Some((SiteRule::Taken, SiteField::Uuid))
+            } else {
+                path_fault(state, cell, &node.path)
+            }
+        }
+        None => None,
+    }
+}
+
+/// A listing's path that a row before has.
+fn listing_fault(state: &State, cell: &Cell, name: &Name) -> Option<(SiteRule, SiteField)>
+    ensures { result ≡ listing_fault state.now.rows cell.now (listing_of state.now.rows name.now) }
+{
+    match state.listing(*name).0 {
+        Some(listing) => path_fault(state, cell, &listing.path),
+        None => None,
+    }
+}
+
+/// A path that a row before a cell has.
+fn path_fault(state: &State, cell: &Cell, path: &Option<Text>) -> Option<(SiteRule, SiteField)>
+    ensures { result ≡ (if taken state.now.rows cell.now Unique.Path path.now then Some (SiteRule.Taken, SiteField.Path) else None) }
+{
+    match path {
+        Some(path) if is_taken(state, cell, Unique::Path, path) => {
+            Some((SiteRule::Taken, SiteField::Path))
+        }
+        _ => None,
+    }
+}
+
+/// A session's user that is not there.
+fn session_fault(state: &State, token: &Name) -> Option<(SiteRule, SiteField)>
+    ensures { result ≡ session_fault state.now.rows (session_of state.now.rows token.now) }
+{
+    match state.session(*token) {
+        Some(session) if state.user(session.uid).0.is_none() => {
+            Some((SiteRule::Absent, SiteField::Uid))
+        }
+        _ => None,
+    }
+}
+
+/// Whether an id of that kind is not below the one that is to be given next.
+fn has_id_from(state: &State, kind: Numbered, next: u32) -> bool
+    ensures { result ≡ has_id_from state.now.rows kind next }
+{
+    'rows: for (cell, _) in state.rows.iter() {
+        if is_id_from(kind, next, cell) {
+            return true;
+        }
+    }
+    false
+}
+
+/// Whether a cell is of that kind and its id is not below the one that is to be given next.
+fn is_id_from(kind: Numbered, next: u32, cell: &Cell) -> bool
+    ensures { result ≡ is_id_from kind next cell.now }
+{
+    match (kind, cell) {
+        (Numbered::Node, Cell::Node(id)) => next <= *id,
+        (Numbered::Term, Cell::Term(id)) => next <= *id,
+        (Numbered::User, Cell::User(id)) => next <= *id,
+        _ => false,
+    }
+}
+
+/// Whether a row that stands before a cell has the text already.
+fn is_taken(state: &State, cell: &Cell, what: Unique, text: &Text) -> bool
+    ensures { result ≡ taken state.now.rows cell.now what (Some text.now) }
+{
+    'rows: for (other, row) in state.rows.iter() {
+        if other < cell && has_text(what, row, text) {
+            return true;
+        }
+    }
+    false
+}
+
+/// Whether a row has the text, as what no other may have.
+fn has_text(what: Unique, row: &Row, text: &Text) -> bool
+    ensures { result ≡ is_text text.now (text_of what row.now) }
+{
+    match text_of(what, row) {
+        Some(own) => own.as_slice() == text.as_slice(),
+        None => false,
+    }
+}
+
+/// What a row has that no other row may have.
+fn text_of(what: Unique, row: &Row) -> Option<&Text>
+    ensures { option_copied result ≡ text_of what row.now }
+{
+    match (what, row) {
+        (Unique::NodeUuid, Row::Node(node)) => Some(&node.uuid),
+        (Unique::TermUuid, Row::Term(term)) => Some(&term.uuid),
+        (Unique::UserUuid, Row::User(user)) => Some(&user.uuid),
+        (Unique::UserName, Row::User(user)) => Some(&user.name),
+        (Unique::Path, Row::Node(node)) => node.path.as_ref(),
+        (Unique::Path, Row::Listing(listing)) => listing.path.as_ref(),
+        _ => None,
+    }
+}
