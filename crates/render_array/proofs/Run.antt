@@ -3,7 +3,9 @@ use Rattle.std.proofs.Common.{ℕ, List, [], ◌∷◌, ◌++◌, ◌≡◌, ◌
 use Rattle.std.proofs.lemmas.Grind.{take_at_read}
 use Rattle.std.specs.Prelude.{if◌then◌else◌}
 use Rattle.std.specs.Prelude.{Result, Ok, Err, OnOk}
-use Rattle.std.specs.Result.{is_err}
+use Rattle.std.specs.Result.{is_err, is_ok}
+use Rattle.access_result.specs.declared.reason.Reason.{Reason}
+use Rattle.render_array.specs.Decision.{decision_of, is_allowed}
 use Rattle.cacheability.specs.InOrder.{AddsItem, HasBoth}
 use Rattle.html_out.specs.Escape.{escaped as escaped_bytes}
 use Rattle.cacheability.specs.declared.tag.Tag.{Tag}
@@ -12,7 +14,7 @@ use Rattle.content_state.specs.declared.element.Hole.{Hole}
 use Rattle.content_state.specs.declared.element.Library.{Library}
 use Rattle.content_state.specs.Read.{Read, Answer, answer, cover}
 use Rattle.content_state.specs.Context.{Visit, Value, value}
-use Rattle.content_state.specs.Plan.{Piece, Place, bytes, Plan, Done, ◌>>=◌, ◌>>◌, Needs, Made, write, escaped, attach, part, reading, asking, clock, each}
+use Rattle.content_state.specs.Plan.{Piece, Place, bytes, Plan, Done, ◌>>=◌, ◌>>◌, Needs, AllIn, Made, write, escaped, attach, part, reading, asking, clock, each}
 use Rattle.content_state.proofs.Made.{AllIn-more, CoversContext-more, Made-more, Made-then, bind_done, bind_assoc}
 use Rattle.render_array.specs.Canvas.{Sheet, Keeps, Writes, Renders, AddsTags, AddsContext, Includes, Fails, blank}
 
@@ -67,6 +69,15 @@ done {old = old} = record {
   };
 }
 
+-- nothing more, where what is given is told by an equation
+pub given_by : {A : Type 0} {old : Sheet} {x y : A} → y ≡ x → Renders (Done y) old x old
+given_by {old = old} {y = y} e = subst (λ z. Renders (Done y) old z old) e done
+
+-- a decision gives access where it is no denial
+pub allowed_is : (r : Result (Unit {0}) Reason) → is_allowed (decision_of r) ≡ is_ok r
+allowed_is (Ok x) = refl
+allowed_is (Err reason) = refl
+
 -- a choice whose test is known
 pub if_true : {A : Type 0} {b : Bool} {p : Plan A} (q : Plan A) {old new : Sheet} {x : A} → b ≡ true → Renders p old x new → Renders (if b then p else q) old x new
 if_true {p = p} q {old = old} {new = new} {x = x} e r = subst (λ v. Renders (if v then p else q) old x new) (sym e) r
@@ -80,6 +91,14 @@ next_write f bs bs' {old = old} {mid = mid} first e second = next f (subst (λ b
 
 pub next_escaped : {B : Type 0} (f : Unit {0} → Plan B) (bs bs' : List ℕ) {old mid new : Sheet} {x : B} → Renders (escaped bs) old tt mid → bs ≡ bs' → Renders (f tt) mid x new → Renders (escaped bs' >>= f) old x new
 next_escaped f bs bs' {old = old} {mid = mid} first e second = next f (subst (λ b. Renders (escaped b) old tt mid) e first) second
+
+-- a text that is given by an equation
+pub escaped_by : {bs bs' : List ℕ} {old new : Sheet} → Renders (escaped bs) old tt new → bs ≡ bs' → Renders (escaped bs') old tt new
+escaped_by {old = old} {new = new} first e = subst (λ b. Renders (escaped b) old tt new) e first
+
+-- the same of any plan over a text
+pub over_text : {A : Type 0} (p : List ℕ → Plan A) {bs bs' : List ℕ} {x : A} {old new : Sheet} → Renders (p bs) old x new → bs ≡ bs' → Renders (p bs') old x new
+over_text p {x = x} {old = old} {new = new} first e = subst (λ b. Renders (p b) old x new) e first
 
 pub ruleset runs = (next, done, if_true, if_false)
 
@@ -171,6 +190,48 @@ varied c old new visit whole shown libraries tags last adds = record {
   added = λ w. (adds c).1 (inr refl);
 }
 
+-- the tags of a list, one after another
+AllIn-append : (ts : List Tag) (t : Tag) (xs : List Tag) → AllIn ts xs → Contains xs t → AllIn (ts ++ t ∷ []) xs
+AllIn-append [] t xs all one = (one, tt)
+AllIn-append (u ∷ ts) t xs all one = (all.0, AllIn-append ts t xs all.1 one)
+
+pub retagged : {old new : Sheet} {t u : Tag} → t ≡ u → AddsTags old new (t ∷ []) → AddsTags old new (u ∷ [])
+retagged {old = old} {new = new} e adds = subst (λ t. AddsTags old new (t ∷ [])) e adds
+
+pub tags_none : {old : Sheet} → AddsTags old old []
+tags_none {old = old} = record {
+  visit = refl;
+  whole_before = λ w. w;
+  shown = refl;
+  libraries = refl;
+  kept = Keeps-refl old.needs;
+  added = λ w. tt;
+}
+
+tags_append : (ts : List Tag) (t : Tag) (old mid new : Sheet) → AddsTags old mid ts → AddsTags mid new (t ∷ []) → AddsTags old new (ts ++ t ∷ [])
+tags_append ts t old mid new first second = record {
+  visit = second.visit ∙ first.visit;
+  whole_before = λ w. first.whole_before (second.whole_before w);
+  shown = second.shown ∙ first.shown;
+  libraries = second.libraries ∙ first.libraries;
+  kept = Keeps-trans old.needs mid.needs new.needs first.kept second.kept;
+  added = λ w. AllIn-append ts t new.needs.tags
+      (AllIn-more ts mid.needs.tags new.needs.tags second.kept.tags (first.added (second.whole_before w))) (second.added w).0;
+}
+
+pub tags_more : (ts : List Tag) (i : ℕ) (d : Tag) {old mid new : Sheet} → i < length ts → AddsTags old mid (take i ts) → AddsTags mid new (get_or ts i d ∷ []) → AddsTags old new (take (i + 1) ts)
+tags_more ts i d {old = old} {mid = mid} {new = new} below first second =
+    rw ((take_at_read ts i d below).1) (tags_append (take i ts) (get_or ts i d) old mid new first second)
+
+pub tags_item : (ts : List Tag) (i : ℕ) (t : Tag) {old mid new : Sheet} → i < length ts → t ≡ get_or ts i t → AddsTags old mid (take i ts) → AddsTags mid new (t ∷ []) → AddsTags old new (take (i + 1) ts)
+tags_item ts i t below is first second = tags_more ts i t below first (retagged is second)
+
+pub tags_by : {old new : Sheet} {ts us : List Tag} → ts ≡ us → AddsTags old new ts → AddsTags old new us
+tags_by {old = old} {new = new} e adds = subst (λ ts. AddsTags old new ts) e adds
+
+pub tags_all : (ts : List Tag) (i : ℕ) {old new : Sheet} → AddsTags old new (take i ts) → length ts ≤ i → AddsTags old new ts
+tags_all ts i {old = old} {new = new} adds over = subst (λ us. AddsTags old new us) (take_all i ts over) adds
+
 -- what a decision depends on is taken in
 pub merged_in : (tags : List Tag) (contexts : List Context) (last : ℕ) (old new : Sheet) → new.visit ≡ old.visit → new.whole ≡ old.whole → new.shown ≡ old.shown → new.libraries ≡ old.libraries → new.needs.last ≡ old.needs.last → old.needs.last ≤ last → HasBoth old.needs.tags tags new.needs.tags → HasBoth old.needs.contexts contexts new.needs.contexts → Includes old new [] [] (record { tags = tags; contexts = contexts; last = last })
 merged_in tags contexts last old new visit whole shown libraries same_last below both_tags both_contexts = record {
@@ -189,9 +250,6 @@ merged_in tags contexts last old new visit whole shown libraries same_last below
     last = omega arith;
   };
 }
-
-pub retagged : {old new : Sheet} {t u : Tag} → t ≡ u → AddsTags old new (t ∷ []) → AddsTags old new (u ∷ [])
-retagged {old = old} {new = new} e adds = subst (λ t. AddsTags old new (t ∷ [])) e adds
 
 pub read : (r : Read) (old new : Sheet) (x : Answer r) → AddsTags old new (cover old.visit.rows r) → x ≡ answer old.visit.rows r → Renders (reading r) old x new
 unfolding reading
@@ -291,6 +349,12 @@ each_append f xs y old mid new first second = rw (each-append f xs y) (next _ fi
 pub each_more : {A : Type 0} (f : A → Plan (Unit {0})) (xs : List A) (i : ℕ) (d : A) {old mid new : Sheet} → i < length xs → Renders (each f (take i xs)) old tt mid → Renders (f (get_or xs i d)) mid tt new → Renders (each f (take (i + 1) xs)) old tt new
 each_more f xs i d {old = old} {mid = mid} {new = new} below first second =
     rw ((take_at_read xs i d below).1) (each_append f (take i xs) (get_or xs i d) old mid new first second)
+
+pub each_item : {A : Type 0} (f : A → Plan (Unit {0})) (xs : List A) (i : ℕ) (x : A) {old mid new : Sheet} → i < length xs → x ≡ get_or xs i x → Renders (each f (take i xs)) old tt mid → Renders (f x) mid tt new → Renders (each f (take (i + 1) xs)) old tt new
+each_item f xs i x {mid = mid} {new = new} below is first second = each_more f xs i x below first (subst (λ y. Renders (f y) mid tt new) is second)
+
+pub each_by : {A : Type 0} (f : A → Plan (Unit {0})) {xs ys : List A} {old new : Sheet} → Renders (each f xs) old tt new → xs ≡ ys → Renders (each f ys) old tt new
+each_by f {old = old} {new = new} run e = subst (λ zs. Renders (each f zs) old tt new) e run
 
 pub each_all : {A : Type 0} (f : A → Plan (Unit {0})) (xs ys : List A) (i : ℕ) {old new : Sheet} → Renders (each f (take i xs)) old tt new → length xs ≤ i → xs ≡ ys → Renders (each f ys) old tt new
 each_all f xs ys i {old = old} {new = new} run over same = subst (λ zs. Renders (each f zs) old tt new) (take_all i xs over ∙ same) run

@@ -1,6 +1,6 @@
 -- What a page shows, element by element, as plans of reads.
 -- https://www.drupal.org/docs/drupal-apis/render-api/render-arrays
-use Rattle.std.specs.Prelude.{ℕ, List, [], ◌∷◌, Option, Some, None, unwrap_or, option_map}
+use Rattle.std.specs.Prelude.{ℕ, Bool, List, [], length, ◌==◌, Option, Some, None, unwrap_or, option_map, if◌then◌else◌}
 use Rattle.std.specs.List.{find}
 use Rattle.std.specs.Str.{bytes_eq}
 use Rattle.cacheability.specs.declared.op.Op.TheVariants as op
@@ -18,6 +18,7 @@ use Rattle.content_state.specs.Read.{SiteRow, TypeRow, NodeRow, PathRoute}
 use Rattle.content_state.specs.Plan.{Plan, Done, write, escaped, attach, part, reading, each, ◌>>=◌, ◌>>◌}
 use Rattle.site_access.specs.Access.{Access, Allowed, Denied}
 use Rattle.site_access.specs.Plans.{node_access, field_access}
+use Rattle.render_array.specs.Decision.{is_allowed}
 use Rattle.render_array.specs.Pieces as pieces
 
 -- the value of a field in a node, empty where it has none
@@ -33,14 +34,18 @@ field_shown label value = do
   escaped value
   write pieces.field_end
 
-abbrev pub field_if : FieldRow → List ℕ → Access → Plan (Unit {0})
-field_if field value Allowed = field_shown field.label value
-field_if field value (Denied reason) = Done tt
+-- whether the viewer may view a node, and a field of a node of that type
+unfoldable pub may_view_node : ℕ → Plan Bool
+may_view_node n = node_access op.View n >>= λ access. Done (is_allowed access)
+
+unfoldable pub may_view_field : ℕ → List ℕ → List ℕ → Plan Bool
+may_view_field n type name = field_access op.View n type name >>= λ access. Done (is_allowed access)
 
 -- a field with a value that isn't empty, where it may be viewed
 abbrev pub field_with : ℕ → List ℕ → FieldRow → List ℕ → Plan (Unit {0})
-field_with n type field [] = Done tt
-field_with n type field (b ∷ bs) = field_access op.View n type field.name >>= field_if field (b ∷ bs)
+field_with n type field value = if length value == 0 then Done tt else (do
+  allowed ← may_view_field n type field.name
+  if allowed then field_shown field.label value else Done tt)
 
 unfoldable pub field : ℕ → Node → FieldRow → Plan (Unit {0})
 field n node row = field_with n node.node_type row (field_value node row.name)

@@ -4,6 +4,8 @@ use Rattle.std.specs.List.{flat_map, list_any}
 use Rattle.content_rows.specs.declared.cell.Cell.{Cell}
 use Rattle.content_rows.specs.declared.row.Row.{Row}
 use Rattle.content_state.specs.declared.ask.Ask.{Ask}
+use Rattle.html_out.specs.Part.{Part, Text, Hole as Open}
+use Rattle.content_state.specs.declared.element.Hole.{Hole}
 use Rattle.content_state.specs.declared.element.Hole.TheVariants.{Meta, Block}
 use Rattle.content_state.specs.declared.element.Library.{Library}
 use Rattle.content_state.specs.declared.element.Library.TheVariants as library
@@ -39,10 +41,13 @@ same_library a b = place_of a == place_of b
 abbrev pub meta_line : Library → List ℕ
 meta_line l = meta_start ++ library_name l ++ meta_end
 
+-- the line of a library, where it was attached
+abbrev pub meta_if : List Library → Library → List ℕ
+meta_if attached l = if list_any (same_library l) attached then meta_line l else []
+
 -- META: a line for each library that was attached, once, in the order of their names
 unfoldable pub meta_text : List Library → List ℕ
-meta_text attached =
-    flat_map (λ l. if list_any (same_library l) attached then meta_line l else []) all_libraries
+meta_text attached = flat_map (meta_if attached) all_libraries
 
 -- what is shown, with the lines of the libraries at their place, is this text; no other place is left open
 abbrev pub IsFilled : List ℕ → List Piece → List ℕ → Type 0
@@ -62,3 +67,9 @@ pub record IsPage (rows : List (Cell × Row)) (ask : Ask) (moment status : ℕ) 
   pub libraries : List Library
   pub shows : Shows (page ask.path) (visit_of rows ask moment) status shown libraries
   pub filled : IsFilled (meta_text libraries) shown body
+
+-- what stands in the place of a part of a page: its bytes, or the lines of the libraries; of a block nothing yet
+abbrev pub text_in : List ℕ → Part Hole → List ℕ
+text_in meta (Text bytes) = bytes
+text_in meta (Open Meta) = meta
+text_in meta (Open (Block name)) = []

@@ -1,15 +1,20 @@
 //! A canvas, on which the builders of elements write.
-ghost use Rattle.std.specs.Prelude.{◌≡◌, ◌∷◌, ◌-◌, ◌^◌, [], true, false, IfOk};
+ghost use Rattle.std.specs.Prelude.{◌≡◌, ◌≤◌, ◌∷◌, ◌-◌, ◌^◌, [], true, false, IfOk};
 ghost use Rattle.std.specs.Option.{option_copied};
 ghost use Rattle.content_state.specs.declared.element.Hole.TheVariants as hole;
-ghost use Rattle.content_state.specs.Read.{SiteRow, TypeRow, NodeRow};
+ghost use Rattle.access_result.specs.Reason.{reason_text};
+ghost use Rattle.content_state.specs.Read.{SiteRow, TypeRow, NodeRow, PathRoute};
 ghost use Rattle.content_state.specs.Plan.{write, escaped, attach, part, reading, clock};
+ghost use Rattle.site_access.specs.Plans.{node_access, field_access};
+ghost use Rattle.render_array.specs.Decision.{decision_of};
 ghost use Rattle.render_array.specs.Canvas.{Renders, AddsTags, AddsContext, Fails, blank};
 
 use crate::board::Board;
-use cacheability::{Cacheability, Context, MaxAge, Name, Tag};
-use content_rows::{Node, NodeType, Site};
-use content_state::{Ask, Library, State, Viewer};
+use crate::built::Built;
+use access_result::Reason;
+use cacheability::{Cacheability, Context, MaxAge, Name, Op, Tag};
+use content_rows::{Items, Node, NodeType, Site};
+use content_state::{Ask, Library, Route, State, Viewer, route_of};
 use std::alloc::{AllocError, Global};
 use std::marker::Model;
 
@@ -30,6 +35,7 @@ pub struct Canvas<'a> {
 }
 
 impl<'a> Model for Canvas<'a> {
+    ghost use Rattle.std.specs.Prelude.{◌≤◌};
     ghost use Rattle.render_array.specs.Canvas.{Sheet};
 
     ghost Value = { Sheet };
@@ -41,9 +47,14 @@ impl<'a> Model for Canvas<'a> {
       needs = record { tags = c.cacheability.tags; contexts = c.cacheability.contexts; last = c.last };
       whole = c.whole;
     } };
+
+    ghost invariant = { λ c. c.moment ≤ c.last };
 }
 
 impl<'a> Canvas<'a> {
+    ghost use Rattle.render_array.specs.Board.{pieces_of, NoBlocks};
+    ghost use Rattle.render_array.specs.Built.{needs_of};
+
     /// A canvas on which nothing is written, and which depends on nothing.
     pub fn new(
         alloc: Global,
@@ -113,6 +124,15 @@ impl<'a> Canvas<'a> {
         }
     }
 
+    /// The same of each of the tags.
+    fn all_tags(&mut self, tags: &[Tag])
+        ensures { AddsTags self.old self.new tags.now }
+    {
+        for tag in tags {
+            self.tag(*tag);
+        }
+    }
+
     /// Says that what is shown varies by the context.
     fn context(&mut self, context: Context)
         ensures { AddsContext self.old self.new context }
@@ -149,6 +169,55 @@ impl<'a> Canvas<'a> {
         node
     }
 
+    /// Where a path leads.
+    pub fn route(&mut self, path: &[u8]) -> Route
+        ensures { Renders (reading (PathRoute path.now)) self.old result self.new }
+    {
+        match route_of(self.alloc, self.state, path) {
+            Ok(found) => {
+                self.all_tags(found.1.as_slice());
+                found.0
+            }
+            Err(_) => {
+                self.fail();
+                Route::Nothing
+            }
+        }
+    }
+
+    /// Whether the viewer may do something to a node, or else why not. Where memory is wanting it is denied in vain.
+    pub fn node_access(&mut self, op: Op, n: u32) -> Result<(), Reason>
+        ensures { Renders (node_access op n) self.old (decision_of result) self.new }
+    {
+        self.fail();
+        Err(Reason::NoSession)
+    }
+
+    /// Whether the viewer may do something to a field of a node of that type, or else why not. Where memory is wanting it
+    /// is denied in vain.
+    pub fn field_access(
+        &mut self,
+        op: Op,
+        n: u32,
+        node_type: Name,
+        field: Name,
+    ) -> Result<(), Reason>
+        ensures { Renders (field_access op n node_type field) self.old (decision_of result) self.new }
+    {
+        self.fail();
+        Err(Reason::NoSession)
+    }
+
+    /// Writes the escaped text of a reason.
+    pub fn reason(&mut self, reason: &Reason)
+        ensures { Renders (escaped (reason_text reason.now)) self.old tt self.new }
+    {
+        match reason.text(self.alloc) {
+            Ok(text) => self.escaped(text.as_slice()),
+            Err(_) => self.fail(),
+        }
+    }
+
     /// The moment, for what may be shown for so many seconds.
     pub fn clock(&mut self, age: u32) -> u64
         ensures { Renders (clock age) self.old result self.new }
@@ -163,5 +232,27 @@ impl<'a> Canvas<'a> {
         ensures { Fails self.old self.new }
     {
         self.whole = false;
+    }
+
+    /// What was shown, with the status of its page where it is one. `Err` exactly where memory was wanting.
+    pub fn finish(self, status: Option<u16>) -> Result<Built, AllocError>
+        ensures whole { IfOk result (λ b. self.entry.whole ≡ true) }
+        ensures shown { IfOk result (λ b. pieces_of b.segments ≡ self.entry.shown) }
+        ensures no_blocks { IfOk result (λ b. NoBlocks (pieces_of b.segments)) }
+        ensures libraries { IfOk result (λ b. b.libraries ≡ self.entry.libraries) }
+        ensures needs { IfOk result (λ b. needs_of b ≡ self.entry.needs) }
+        ensures not_over { IfOk result (λ b. self.entry.visit.moment ≤ b.last) }
+        ensures status { IfOk result (λ b. b.status ≡ status) }
+    {
+        if !self.whole {
+            return Err(AllocError);
+        }
+        Ok(Built {
+            segments: self.board.finish()?,
+            cacheability: self.cacheability,
+            libraries: Items::from_vec(self.libraries),
+            last: self.last,
+            status,
+        })
     }
 }

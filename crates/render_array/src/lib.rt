@@ -3,9 +3,15 @@
 #![tactic(auto)]
 
 mod board;
+mod building;
+mod built;
 mod canvas;
+mod filled;
 mod house;
-mod page;
+mod pages;
 
+pub use building::build;
+pub use built::{Built, Element};
 pub use canvas::Canvas;
+pub use filled::assembled;
 pub use house::House;

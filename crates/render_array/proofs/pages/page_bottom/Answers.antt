@@ -1,7 +1,7 @@
 use Rattle.render_array.specs.Page.{page_bottom}
 use Rattle.render_array.specs.Pieces as pieces
 use Rattle.render_array.proofs.Run.{next}
-use Rattle.render_array.proofs.page.page_bottom.Goals as goal
+use Rattle.render_array.proofs.pages.page_bottom.Goals as goal
 
 pub returns : goal.returns
 unfolding page_bottom pieces.main_end pieces.aside_end pieces.page_end

@@ -1,7 +1,7 @@
 use Rattle.render_array.specs.Page.{page_top}
 use Rattle.render_array.specs.Pieces as pieces
 use Rattle.render_array.proofs.Run.{next, next_escaped}
-use Rattle.render_array.proofs.page.page_top.Goals as goal
+use Rattle.render_array.proofs.pages.page_top.Goals as goal
 
 pub returns : goal.returns
 unfolding page_top pieces.page_start pieces.title_between pieces.title_end pieces.header_start pieces.header_end pieces.heading_end

@@ -1,0 +1,30 @@
+//! What is built, and what building gives.
+
+use cacheability::Cacheability;
+use content_rows::{Items, Text};
+use content_state::{Hole, Library};
+use html_out::Segments;
+
+/// What can be built.
+#[derive(Drop, Debug)]
+pub enum Element {
+    /// The page of a path.
+    Page(Text),
+    /// A node in full, by its number; nothing where it isn't there or may not be viewed.
+    Node(u32),
+}
+
+/// What building an element gives.
+#[derive(Drop)]
+pub struct Built {
+    /// What is shown: bytes, and places that are filled in later.
+    pub segments: Segments<Hole>,
+    /// The tags and the contexts that it depends on, and how long it may be kept by what it says.
+    pub cacheability: Cacheability,
+    /// The libraries that were attached, in that order, with repetitions.
+    pub libraries: Items<Library>,
+    /// The last moment at which it may be shown, in seconds since 1970.
+    pub last: u64,
+    /// The status of a page's reply (RFC 9110, section 15); none for what is no page.
+    pub status: Option<u16>,
+}
