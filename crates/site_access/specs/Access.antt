@@ -71,23 +71,28 @@ abbrev pub by_grants : List (Cell × Row) → Viewer → Op → Node → Bool
 by_grants rows viewer op node =
     granted op (records_of node) (grants_of (user_of rows viewer.uid) (present_roles rows viewer))
 
--- The votes for an operation on a node: one is enough.
+-- the votes for an operation on a node: one is enough
 abbrev pub votes : List (Cell × Row) → Viewer → Op → Node → List Bool
 votes rows viewer op node = by_rules rows viewer op node ∷ by_grants rows viewer op node ∷ []
 
--- Access to a node: bypassing access allows; without `access content` it is denied; else at least one vote is needed.
-abbrev pub access_to_row : List (Cell × Row) → Viewer → Op → ℕ → Node → Access
-access_to_row rows viewer op n node =
+-- a node that isn't there has no vote
+abbrev pub votes_in : List (Cell × Row) → Viewer → Op → Option Node → List Bool
+votes_in rows viewer op None = []
+votes_in rows viewer op (Some node) = votes rows viewer op node
+
+-- Access to a node with these votes: bypassing access allows; without `access content` it is denied; else at least one
+-- vote is needed.
+abbrev pub access_by : List (Cell × Row) → Viewer → Op → ℕ → List Bool → Access
+access_by rows viewer op n votes =
     if may rows viewer bypass_node_access then Allowed
     else (if not (may rows viewer access_content) then Denied (reason.Permission access_content)
-    else (if list_any (λ vote. vote) (votes rows viewer op node) then Allowed else Denied (reason.Grant op n)))
+    else (if list_any (λ vote. vote) votes then Allowed else Denied (reason.Grant op n)))
 
-abbrev pub access_to_found : List (Cell × Row) → Viewer → Op → ℕ → Option Node → Access
-access_to_found rows viewer op n None = Denied (reason.Grant op n)
-access_to_found rows viewer op n (Some node) = access_to_row rows viewer op n node
+abbrev pub access_to_row : List (Cell × Row) → Viewer → Op → ℕ → Node → Access
+access_to_row rows viewer op n node = access_by rows viewer op n (votes rows viewer op node)
 
 abbrev pub access_to_node : List (Cell × Row) → Viewer → Op → ℕ → Access
-access_to_node rows viewer op n = access_to_found rows viewer op n (node_of rows n)
+access_to_node rows viewer op n = access_by rows viewer op n (votes_in rows viewer op (node_of rows n))
 
 -- access to creating a node of a type
 abbrev pub access_to_create : List (Cell × Row) → Viewer → List ℕ → Access
@@ -123,3 +128,31 @@ access_to_field rows viewer op uid field =
 -- the field of that name in a type, if it has one
 abbrev pub field_in : NodeType → List ℕ → Option FieldRow
 field_in type name = find (λ field. bytes_eq field.name name) type.fields
+
+abbrev pub field_of_type : List ℕ → Option NodeType → Option FieldRow
+field_of_type name None = None
+field_of_type name (Some type) = field_in type name
+
+-- the name of the type of a node, and its field of a name
+abbrev pub type_in : Option Node → List ℕ
+type_in None = []
+type_in (Some node) = node.node_type
+
+abbrev pub node_type_of : List (Cell × Row) → ℕ → List ℕ
+node_type_of rows n = type_in (node_of rows n)
+
+abbrev pub owner_in : Option Node → ℕ
+owner_in None = 0
+owner_in (Some node) = node.uid
+
+abbrev pub field_of : List (Cell × Row) → List ℕ → List ℕ → Option FieldRow
+field_of rows type name = field_of_type name (type_of rows type)
+
+abbrev pub access_to_found_field : List (Cell × Row) → Viewer → Op → ℕ → List ℕ → Option FieldRow → Access
+access_to_found_field rows viewer op uid name None = Denied (reason.OwnerOnly name)
+access_to_found_field rows viewer op uid name (Some field) = access_to_field rows viewer op uid field
+
+-- access to the field of that name of a node
+abbrev pub access_to_field_of : List (Cell × Row) → Viewer → Op → ℕ → List ℕ → Access
+access_to_field_of rows viewer op n name =
+    access_to_found_field rows viewer op (owner_in (node_of rows n)) name (field_of rows (node_type_of rows n) name)

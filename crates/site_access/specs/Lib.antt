@@ -1,3 +1,5 @@
 pub mod Access
 pub mod Plans
 pub mod Decided
+pub mod Depends
+pub mod Account

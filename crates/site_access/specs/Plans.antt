@@ -5,7 +5,6 @@ use Rattle.cacheability.specs.declared.op.Op.TheVariants as op
 use Rattle.cacheability.specs.declared.context.Context.TheVariants as context
 use Rattle.access_result.specs.declared.reason.Reason.TheVariants as reason
 use Rattle.content_rows.specs.declared.row.Node.{Node}
-use Rattle.content_rows.specs.declared.row.NodeType.{NodeType}
 use Rattle.content_rows.specs.declared.row.FieldRow.{FieldRow}
 use Rattle.content_rows.specs.declared.permission.ViewGrants.{ViewGrants}
 use Rattle.content_rows.specs.declared.permission.ViewGrants.TheVariants as view_grants
@@ -13,7 +12,7 @@ use Rattle.content_rows.specs.Permission.{has, records_of, granted}
 use Rattle.content_state.specs.Viewer.{bypass_node_access, access_content, view_own_unpublished, administer_nodes}
 use Rattle.content_state.specs.Read.{NodeRow, TypeRow}
 use Rattle.content_state.specs.Plan.{Plan, Done, reading, asking, ◌>>=◌, ◌>>◌}
-use Rattle.site_access.specs.Access.{Access, Allowed, Denied, owns, any_content, own_content, create_content, field_permission, missing, field_in}
+use Rattle.site_access.specs.Access.{Access, Allowed, Denied, owns, any_content, own_content, create_content, field_permission, missing, field_of_type}
 
 -- whether the viewer holds a permission
 unfoldable pub holds : List ℕ → Plan Bool
@@ -99,10 +98,6 @@ by_field op n name (Some field) = do
   if not permission then Done (Denied (missing (field_permission op field))) else (do
     owned ← owner_rule n field
     Done (if owned then Allowed else Denied (reason.OwnerOnly field.name)))
-
-abbrev pub field_of_type : List ℕ → Option NodeType → Option FieldRow
-field_of_type name None = None
-field_of_type name (Some type) = field_in type name
 
 -- access to a field of a node of that type
 unfoldable pub field_access : Op → ℕ → List ℕ → List ℕ → Plan Access

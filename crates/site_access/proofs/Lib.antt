@@ -1,0 +1,5 @@
+pub mod Runs
+pub mod NodePlan
+pub mod OtherPlans
+pub mod Results
+pub mod Returns

@@ -1,0 +1,109 @@
+//! A viewer with what it may do.
+ghost use Rattle.std.specs.Prelude.{◌≡◌, IfOk, map};
+ghost use Rattle.std.specs.List.{filter_map};
+ghost use Rattle.content_state.specs.Rows.{role_of};
+ghost use Rattle.content_state.specs.Viewer.{roles_of, present_roles as roles_present, viewer_permissions, view_grants_of, may};
+ghost use Rattle.site_access.specs.Access.{owns};
+ghost use Rattle.site_access.specs.Account.{IsAccountOf, OnRows};
+
+use crate::permission;
+use cacheability::Name;
+use content_rows::{Items, Permissions, Role, ViewGrants};
+use content_state::{State, Viewer};
+use node_grants::grants_of;
+use std::alloc::{AllocError, Global};
+use user_roles::{has, permissions_of, role_names};
+
+/// A viewer with what it is permitted and granted: made once, and asked about each thing that is to
+/// be shown or edited.
+#[derive(Drop, Debug)]
+pub struct Account {
+    /// Who views.
+    pub viewer: Viewer,
+    /// What the viewer is permitted.
+    pub permissions: Permissions,
+    /// The grants by which the viewer may view nodes.
+    pub grants: ViewGrants,
+}
+
+impl Account {
+    /// The account of a viewer in a state. `Err` only where memory is wanting.
+    pub fn new(alloc: Global, state: &State, viewer: &Viewer) -> Result<Account, AllocError>
+        ensures { IfOk result (λ account. IsAccountOf state.now.rows viewer.now account) }
+    {
+        Ok(Account {
+            viewer: *viewer,
+            permissions: permissions(alloc, state, viewer)?,
+            grants: view_grants(alloc, state, viewer)?,
+        })
+    }
+
+    /// Whether the viewer holds a permission.
+    pub fn may(&self, permission: &[u8]) -> bool
+        ensures { OnRows self.now (λ rows. result ≡ may rows self.now.viewer permission.now) }
+    {
+        has(&self.permissions, permission)
+    }
+
+    /// Whether the viewer is logged in and owns what belongs to this user.
+    pub fn owns(&self, uid: u32) -> bool
+        ensures { result ≡ owns self.now.viewer.uid uid }
+    {
+        self.viewer.uid != 0 && self.viewer.uid == uid
+    }
+}
+
+/// What a viewer is permitted. `Err` only where memory is wanting.
+/// <https://www.drupal.org/docs/user_guide/en/user-concept.html>
+pub fn permissions(alloc: Global, state: &State, viewer: &Viewer) -> Result<Permissions, AllocError>
+    ensures { IfOk result (λ held. held ≡ viewer_permissions state.now.rows viewer.now) }
+{
+    let roles = present_roles(alloc, state, viewer)?;
+    permissions_of(alloc, viewer.uid, roles.as_slice())
+}
+
+/// The grants by which a viewer may view nodes: all, where access to nodes is bypassed. `Err` only
+/// where memory is wanting.
+/// <https://api.drupal.org/api/drupal/core!modules!node!node.api.php/function/hook_node_grants/10>
+pub fn view_grants(alloc: Global, state: &State, viewer: &Viewer) -> Result<ViewGrants, AllocError>
+    ensures { IfOk result (λ held. held ≡ view_grants_of state.now.rows viewer.now) }
+{
+    let held = permissions(alloc, state, viewer)?;
+    if has(&held, permission::bypass_node_access()) {
+        return Ok(ViewGrants::All);
+    }
+    let roles = present_roles(alloc, state, viewer)?;
+    let (user, _) = state.user(viewer.uid);
+    Ok(ViewGrants::These(grants_of(alloc, user, roles.as_slice())?))
+}
+
+/// The roles of a viewer that are there. `Err` only where memory is wanting.
+fn present_roles<'a>(
+    alloc: Global,
+    state: &'a State,
+    viewer: &Viewer,
+) -> Result<Vec<&'a Role>, AllocError>
+    ensures { IfOk result (λ roles. map (λ role. role.now) roles.items ≡ roles_present state.now.rows viewer.now) }
+{
+    let (user, _) = state.user(viewer.uid);
+    let names = role_names(alloc, viewer.uid, user)?;
+    roles_named(alloc, state, names.as_slice())
+}
+
+/// The roles of these names that are there. `Err` only where memory is wanting.
+fn roles_named<'a>(
+    alloc: Global,
+    state: &'a State,
+    names: &[Name],
+) -> Result<Vec<&'a Role>, AllocError>
+    ensures { IfOk result (λ roles. map (λ role. role.now) roles.items ≡ filter_map (role_of state.now.rows) names.now) }
+{
+    let mut roles = Vec::new(alloc);
+    'names: for &name in names {
+        let (role, _) = state.role(name);
+        if let Some(role) = role {
+            roles.push(role)?;
+        }
+    }
+    Ok(roles)
+}

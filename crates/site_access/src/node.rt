@@ -1,0 +1,131 @@
+//! Access to nodes.
+ghost use Rattle.std.specs.Prelude.{◌≡◌, ◌&&◌, ◌||◌, not, IfOk, IsSome, Some, None};
+ghost use Rattle.cacheability.specs.declared.max_age.MaxAge.TheVariants.{Permanent};
+ghost use Rattle.access_result.specs.declared.reason.Reason.TheVariants as reason_is;
+ghost use Rattle.access_result.specs.AccessResult.{or_result};
+ghost use Rattle.content_state.specs.Rows.{node_of};
+ghost use Rattle.content_state.specs.Viewer.{may, view_own_unpublished};
+ghost use Rattle.site_access.specs.Access.{owns as owns_by, any_content, own_content, by_rules, access_to_node};
+ghost use Rattle.site_access.specs.Plans.{node_access, grants_allow};
+ghost use Rattle.site_access.specs.Decided.{IsDecided};
+ghost use Rattle.site_access.specs.Depends.{access_of, vote as vote_of, rules_depend as depend_of_rules, grants_depend as depend_of_grants, asks_owner as is_owner_asked};
+ghost use Rattle.site_access.specs.Account.{IsAccountOf, OnRows};
+
+use crate::account::Account;
+use crate::depends::{allowed_by, by_permissions, grants_depend, lacking, rules_depend, vote};
+use crate::permission;
+use access_result::{AccessResult, Reason};
+use cacheability::Op;
+use content_rows::{Node, ViewGrants};
+use content_state::State;
+use node_grants::{granted, records_of};
+use std::alloc::{AllocError, Global};
+
+impl Account {
+    /// Whether the viewer may do this to a node that is there. `bypass node access` allows it; without
+    /// `access content` it is forbidden; otherwise the rules of the node or its grants have to allow
+    /// it. `Err` only where memory is wanting.
+    /// <https://www.drupal.org/docs/8/api/entity-api/access-on-entities>
+    pub fn node_access(
+        &self,
+        alloc: Global,
+        state: &State,
+        op: Op,
+        n: u32,
+    ) -> Result<AccessResult, AllocError>
+        requires account { IsAccountOf state.now.rows self.now.viewer self.now }
+        requires there { IsSome (node_of state.now.rows n) }
+        ensures answer { IfOk result (λ r. access_of r ≡ access_to_node state.now.rows self.now.viewer op n) }
+        ensures covered { IfOk result (λ r. IsDecided (node_access op n) state.now.rows self.now.viewer (access_of r) r.cacheability.tags r.cacheability.contexts) }
+        ensures lasting { IfOk result (λ r. r.cacheability.max_age ≡ Permanent) }
+    {
+        if self.may(permission::bypass_node_access()) {
+            return Ok(allowed_by(by_permissions(alloc)?));
+        }
+        if !self.may(permission::access_content()) {
+            return lacking(alloc, permission::access_content(), by_permissions(alloc)?);
+        }
+        match state.node(n) {
+            (Some(node), _) => self.by_votes(alloc, op, n, node),
+            (None, _) => unreachable!(),
+        }
+    }
+
+    /// What the rules of a node or its grants say. `Err` only where memory is wanting.
+    fn by_votes(
+        &self,
+        alloc: Global,
+        op: Op,
+        n: u32,
+        node: &Node,
+    ) -> Result<AccessResult, AllocError>
+        ensures { IfOk result (λ r. OnRows self.now (λ rows. r ≡ or_result (vote_of (by_rules rows self.now.viewer op node.now) None (depend_of_rules n (is_owner_asked op node.now))) (vote_of (grants_allow op node.now self.now.grants) (Some (reason_is.Grant op n)) (depend_of_grants n)))) }
+    {
+        let ruled = self.rules(alloc, op, n, node)?;
+        let granted = self.grants(alloc, op, n, node)?;
+        ruled.or_if(alloc, &granted)
+    }
+
+    /// What the rules of the node itself say. `Err` only where memory is wanting.
+    fn rules(&self, alloc: Global, op: Op, n: u32, node: &Node) -> Result<AccessResult, AllocError>
+        ensures { IfOk result (λ r. OnRows self.now (λ rows. r ≡ vote_of (by_rules rows self.now.viewer op node.now) None (depend_of_rules n (is_owner_asked op node.now)))) }
+    {
+        let depends = rules_depend(alloc, n, asks_owner(op, node))?;
+        Ok(vote(self.rules_allow(alloc, op, node)?, None, depends))
+    }
+
+    /// Whether the rules of the node itself allow this: its owner may view an unpublished one, with a
+    /// permission for it; a permission for the type allows a change to all, or to the owner. `Err`
+    /// only where memory is wanting.
+    fn rules_allow(&self, alloc: Global, op: Op, node: &Node) -> Result<bool, AllocError>
+        ensures { IfOk result (λ allowed. OnRows self.now (λ rows. allowed ≡ by_rules rows self.now.viewer op node.now)) }
+    {
+        match op {
+            Op::View => Ok(self.owns_unpublished(node)),
+            Op::Update => self.may_change(alloc, Op::Update, node),
+            Op::Delete => self.may_change(alloc, Op::Delete, node),
+        }
+    }
+
+    /// Whether a node is the viewer's own unpublished one, and the viewer may view those.
+    fn owns_unpublished(&self, node: &Node) -> bool
+        ensures { OnRows self.now (λ rows. result ≡ (not node.now.status && owns_by self.now.viewer.uid node.now.uid && may rows self.now.viewer view_own_unpublished)) }
+    {
+        !node.status && self.owns(node.uid) && self.may(permission::view_own_unpublished())
+    }
+
+    /// Whether a permission for the node's type allows this to all, or to the node's owner. `Err` only
+    /// where memory is wanting.
+    fn may_change(&self, alloc: Global, op: Op, node: &Node) -> Result<bool, AllocError>
+        ensures { IfOk result (λ allowed. OnRows self.now (λ rows. allowed ≡ (may rows self.now.viewer (any_content op node.now.node_type) || (owns_by self.now.viewer.uid node.now.uid && may rows self.now.viewer (own_content op node.now.node_type))))) }
+    {
+        let any = permission::any_content(alloc, op, &node.node_type)?;
+        let own = permission::own_content(alloc, op, &node.node_type)?;
+        Ok(self.may(&any) || (self.owns(node.uid) && self.may(&own)))
+    }
+
+    /// What the grants of a node say. `Err` only where memory is wanting.
+    fn grants(&self, alloc: Global, op: Op, n: u32, node: &Node) -> Result<AccessResult, AllocError>
+        ensures { IfOk result (λ r. r ≡ vote_of (grants_allow op node.now self.now.grants) (Some (reason_is.Grant op n)) (depend_of_grants n)) }
+    {
+        let depends = grants_depend(alloc, n)?;
+        let allowed = match &self.grants {
+            ViewGrants::All => true,
+            ViewGrants::These(held) => {
+                let records = records_of(alloc, node)?;
+                granted(op, records.as_slice(), held.as_slice())
+            }
+        };
+        Ok(vote(allowed, Some(Reason::Grant(op, n)), depends))
+    }
+}
+
+/// Whether the rules of a node ask who the viewer is.
+fn asks_owner(op: Op, node: &Node) -> bool
+    ensures { result ≡ is_owner_asked op node.now }
+{
+    match op {
+        Op::View => !node.status,
+        Op::Update | Op::Delete => true,
+    }
+}
