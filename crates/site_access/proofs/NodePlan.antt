@@ -7,25 +7,25 @@ use Rattle.cacheability.specs.declared.tag.Tag.{Tag}
 use Rattle.cacheability.specs.declared.tag.Tag.TheVariants as tag
 use Rattle.cacheability.specs.declared.context.Context.{Context}
 use Rattle.cacheability.specs.declared.context.Context.TheVariants as context
-use Rattle.access_result.specs.declared.reason.Reason.{Reason}
 use Rattle.access_result.specs.declared.reason.Reason.TheVariants as reason
 use Rattle.content_rows.specs.declared.cell.Cell.{Cell}
 use Rattle.content_rows.specs.declared.row.Row.{Row}
 use Rattle.content_rows.specs.declared.row.Node.{Node}
 use Rattle.content_rows.specs.declared.row.Grant.{Grant}
 use Rattle.content_rows.specs.declared.permission.ViewGrants.TheVariants as view_grants
-use Rattle.content_rows.specs.Permission.{has, records_of, granted, grants_of}
+use Rattle.content_rows.specs.Permission.{records_of, granted, grants_of}
 use Rattle.content_state.specs.declared.ask.Viewer.{Viewer}
 use Rattle.content_state.specs.Rows.{node_of, user_of}
 use Rattle.content_state.specs.Read.{NodeRow}
 use Rattle.content_state.specs.Context.{Visit}
 use Rattle.content_state.specs.Viewer.{may, present_roles, view_grants_of, bypass_node_access, access_content, view_own_unpublished}
-use Rattle.content_state.specs.Plan.{Plan, Done, reading, asking, ◌>>=◌, Needs, Made}
+use Rattle.content_state.specs.Plan.{Done, reading, asking, ◌>>=◌, Needs}
 use Rattle.site_access.specs.Access.{Access, Allowed, Denied, owns, any_content, own_content, by_rules, by_grants, votes_in, access_to_node}
+use Rattle.site_access.specs.Laws.{GivesOnly}
 use Rattle.site_access.specs.Plans.{holds, is_owner, rules, grants, grants_allow, content_rules, unpublished_rule, by_row, node_access}
 use Rattle.site_access.specs.Depends.{asks_owner}
 use Rattle.site_access.specs.Decided.{needs_of, IsDecided}
-use Rattle.site_access.proofs.Runs.{GivesOnly, only_if, only_done, only_next, only_holds, only_is_owner, Gives, gives_next, gives_done, gives_if, gives_holds, gives_is_owner}
+use Rattle.site_access.proofs.Runs.{only_if, only_done, only_next, only_holds, only_is_owner, Gives, gives_next, gives_done, gives_if, gives_holds, gives_is_owner}
 
 not-and : (b c d : Bool) → (if b then false else (c && d)) ≡ (not b && c && d)
 not-and true c d = refl

@@ -1,25 +1,25 @@
 -- The plans of access to creating a node and of access to a field give the plain answers.
-use Rattle.std.proofs.Common.{ℕ, List, ◌≡◌, Bool, true, false, ◌||◌, ◌&&◌, ◌==◌, not, refl, sym, ap, subst, ◌∙◌, if◌then◌else◌, Option, Some, None, is_some, Contains}
+use Rattle.std.proofs.Common.{ℕ, List, ◌≡◌, Bool, true, false, ◌||◌, ◌&&◌, ◌==◌, not, refl, sym, subst, ◌∙◌, if◌then◌else◌, Option, Some, None, is_some, Contains}
 use Rattle.cacheability.specs.declared.op.Op.{Op}
 use Rattle.cacheability.specs.declared.tag.Tag.{Tag}
 use Rattle.cacheability.specs.declared.tag.Tag.TheVariants as tag
 use Rattle.cacheability.specs.declared.context.Context.{Context}
 use Rattle.cacheability.specs.declared.context.Context.TheVariants as context
-use Rattle.access_result.specs.declared.reason.Reason.TheVariants as reason
 use Rattle.content_rows.specs.declared.cell.Cell.{Cell}
 use Rattle.content_rows.specs.declared.row.Row.{Row}
 use Rattle.content_rows.specs.declared.row.Node.{Node}
 use Rattle.content_rows.specs.declared.row.FieldRow.{FieldRow}
 use Rattle.content_state.specs.declared.ask.Viewer.{Viewer}
-use Rattle.content_state.specs.Rows.{node_of, type_of}
-use Rattle.content_state.specs.Read.{NodeRow, TypeRow}
+use Rattle.content_state.specs.Rows.{node_of}
+use Rattle.content_state.specs.Read.{NodeRow}
 use Rattle.content_state.specs.Context.{Visit}
 use Rattle.content_state.specs.Viewer.{may, bypass_node_access, access_content, administer_nodes}
-use Rattle.content_state.specs.Plan.{Plan, Done, reading, ◌>>=◌, Needs}
-use Rattle.site_access.specs.Access.{Access, Allowed, Denied, owns, owner_in, create_content, access_to_create, holds_named, missing, field_permission, field_of, access_to_found_field}
-use Rattle.site_access.specs.Plans.{holds, is_owner, create_access, permitted, owned_row, owner_rule, by_field, field_access}
+use Rattle.content_state.specs.Plan.{reading, ◌>>=◌, Needs}
+use Rattle.site_access.specs.Access.{Access, owns, owner_in, create_content, access_to_create, holds_named, field_permission, field_of, access_to_found_field}
+use Rattle.site_access.specs.Laws.{GivesOnly}
+use Rattle.site_access.specs.Plans.{holds, create_access, permitted, owned_row, owner_rule, by_field, field_access}
 use Rattle.site_access.specs.Decided.{needs_of, IsDecided}
-use Rattle.site_access.proofs.Runs.{GivesOnly, only_if, only_done, only_next, only_holds, only_is_owner, Gives, gives_next, gives_done, gives_if, gives_holds, gives_is_owner}
+use Rattle.site_access.proofs.Runs.{only_if, only_done, only_next, only_holds, only_is_owner, Gives, gives_next, gives_done, gives_if, gives_holds, gives_is_owner}
 
 pub create_only : (type : List ℕ) (v : Visit) → GivesOnly (create_access type) v (access_to_create v.rows v.viewer type)
 unfolding create_access

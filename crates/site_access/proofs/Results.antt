@@ -1,5 +1,5 @@
 -- What two votes combine to, and what that depends on.
-use Rattle.std.proofs.Common.{ℕ, List, [], ◌∷◌, ◌≡◌, Bool, true, false, refl, sym, ap, subst, if◌then◌else◌, Option, Some, None, Contains, inl, inr, lit<}
+use Rattle.std.proofs.Common.{ℕ, [], ◌∷◌, ◌≡◌, Bool, true, false, refl, subst, if◌then◌else◌, Some, None, Contains, inl, inr, lit<}
 use Rattle.std.specs.List.{list_any}
 use Rattle.cacheability.specs.declared.op.Op.{Op}
 use Rattle.cacheability.specs.declared.tag.Tag.{Tag}
@@ -16,7 +16,7 @@ use Rattle.cacheability.proofs.Texts.{exact_tags, exact_contexts}
 use Rattle.access_result.specs.declared.reason.Reason.{Reason}
 use Rattle.access_result.specs.AccessResult.{or_result}
 use Rattle.content_rows.specs.declared.row.Node.{Node}
-use Rattle.site_access.specs.Access.{Access, Allowed, Denied}
+use Rattle.site_access.specs.Access.{Allowed, Denied}
 use Rattle.site_access.specs.Depends.{access_of, vote, rules_depend, grants_depend, asks_owner}
 use Rattle.site_access.proofs.NodePlan.{CoversNode}
 

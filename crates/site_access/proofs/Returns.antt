@@ -18,14 +18,15 @@ use Rattle.content_rows.specs.declared.row.FieldRow.{FieldRow}
 use Rattle.content_rows.specs.declared.permission.ViewGrants.{ViewGrants}
 use Rattle.content_state.specs.declared.ask.Viewer.{Viewer}
 use Rattle.content_state.specs.Rows.{node_of, type_of}
-use Rattle.content_state.specs.Context.{Visit}
-use Rattle.content_state.specs.Viewer.{may, view_grants_of, bypass_node_access, access_content}
-use Rattle.site_access.specs.Access.{Access, Allowed, Denied, by_rules, by_grants, votes, votes_in, access_to_node, field_permission, field_in, field_of_type, field_of, type_in, node_type_of, owner_in, access_to_field, access_to_found_field}
-use Rattle.site_access.specs.Plans.{node_access, field_access, grants_allow}
+use Rattle.content_state.specs.Viewer.{may, viewer_permissions, view_grants_of, bypass_node_access, access_content}
+use Rattle.site_access.specs.Access.{Allowed, Denied, by_rules, by_grants, votes, votes_in, access_to_node, field_permission, field_in, field_of_type, field_of, type_in, node_type_of, owner_in, access_to_field, access_to_found_field, access_to_create}
+use Rattle.site_access.specs.Plans.{node_access, create_access, field_access, grants_allow}
 use Rattle.site_access.specs.Depends.{access_of, allowed, lacking, vote, by_permissions, rules_depend, grants_depend, field_depends, asks_owner}
+use Rattle.site_access.specs.declared.account.Account.{Account}
+use Rattle.site_access.specs.Account.{IsAccountOf}
 use Rattle.site_access.specs.Decided.{IsDecided}
 use Rattle.site_access.proofs.NodePlan.{CoversNode, grants_same, node_decided}
-use Rattle.site_access.proofs.OtherPlans.{CoversField, field_decided}
+use Rattle.site_access.proofs.OtherPlans.{CoversField, field_decided, create_decided}
 use Rattle.site_access.proofs.Results.{votes_answer, votes_depend, votes_permissions, votes_cover}
 
 pub chosen : {A : Type 0} (b : Bool) (x y : A) → b ≡ true → x ≡ (if b then x else y)
@@ -127,3 +128,18 @@ field_is_decided rows viewer op n name node type field r there typed found answe
 pub if_ok_both : {X Y : Type 0} (r : Result X Y) (P Q R : X → Type 0) → ((x : X) → P x → Q x → R x) → IfOk r P → IfOk r Q → IfOk r R
 if_ok_both (Ok x) P Q R both p q = both x p q
 if_ok_both (Err e) P Q R both p q = tt
+
+-- an account is that of its own viewer, and what is decided for that viewer is decided for the one that it was made for
+pub account_own : {rows : List (Cell × Row)} {viewer : Viewer} {account : Account} → IsAccountOf rows viewer account → IsAccountOf rows account.viewer account
+account_own {rows} h =
+    record {
+      viewer_is = refl;
+      permissions_are = h.permissions_are ∙ ap (viewer_permissions rows) (sym h.viewer_is);
+      grants_are = h.grants_are ∙ ap (view_grants_of rows) (sym h.viewer_is);
+    }
+
+-- what is decided about creating is covered
+pub create_is_decided : (rows : List (Cell × Row)) (viewer : Viewer) (type : List ℕ) (r : AccessResult) → access_of r ≡ access_to_create rows viewer type → r.cacheability ≡ by_permissions → IsDecided (create_access type) rows viewer (access_of r) r.cacheability.tags r.cacheability.contexts
+create_is_decided rows viewer type r answer depends =
+    subst (λ (d : Cacheability). IsDecided (create_access type) rows viewer (access_of r) d.tags d.contexts) (sym depends)
+    (create_decided rows viewer type (access_of r) by_permissions.tags by_permissions.contexts answer (0, lit< tt, refl))

@@ -1,5 +1,5 @@
 -- What a plan that shows nothing gives, and that it gives it where all that it reads is covered.
-use Rattle.std.proofs.Common.{ℕ, List, [], ◌∷◌, ◌++◌, ◌≡◌, Bool, true, false, ◌||◌, ◌&&◌, not, refl, if◌then◌else◌, Contains, inl, sym, subst, ◌∙◌}
+use Rattle.std.proofs.Common.{ℕ, List, [], ◌∷◌, ◌++◌, ◌≡◌, Bool, true, false, refl, if◌then◌else◌, Contains, inl, sym, subst, ◌∙◌}
 use Rattle.cacheability.specs.declared.context.Context.TheVariants as context
 use Rattle.content_state.specs.declared.element.Library.{Library}
 use Rattle.content_state.specs.Read.{answer}
@@ -8,6 +8,7 @@ use Rattle.content_state.specs.Viewer.{may}
 use Rattle.content_state.specs.Plan.{Piece, Place, bytes, Plan, Done, Write, Attach, Reading, Asking, Clock, Part, ◌>>=◌, Needs, Made, asking}
 use Rattle.content_state.proofs.Made.{Made-then}
 use Rattle.site_access.specs.Access.{owns}
+use Rattle.site_access.specs.Laws.{GivesOnly}
 use Rattle.site_access.specs.Plans.{holds, is_owner}
 
 -- a run of one plan and then another: what the first gave, and the run of the second with it
@@ -41,10 +42,6 @@ split (Clock age k) f v x shown libraries needs made =
 split (Part h k) f v x shown libraries needs made =
     let s = split k f v x made.0 libraries needs made.2 in
     record { a = s.a; first_shown = Place h ∷ s.first_shown; first_libraries = s.first_libraries; first = (s.first_shown, refl, s.first); second_shown = s.second_shown; second_libraries = s.second_libraries; second = s.second }
-
--- what a plan gives, if it gives anything, is x
-abbrev pub GivesOnly : {A : Type 0} → Plan A → Visit → A → Type 0
-GivesOnly {A} p v x = (y : A) (shown : List Piece) (libraries : List Library) (needs : Needs) → Made p v y shown libraries needs → y ≡ x
 
 pub only_if : {A : Type 0} (b : Bool) (p q : Plan A) (v : Visit) (x y : A) → (b ≡ true → GivesOnly p v x) → (b ≡ false → GivesOnly q v y) → GivesOnly (if b then p else q) v (if b then x else y)
 only_if true p q v x y where_true where_false = where_true refl

@@ -2,7 +2,7 @@
 -- Plans.antt says the same as a plan of reads.
 -- https://www.drupal.org/docs/8/api/entity-api/access-on-entities, and for grants
 -- https://api.drupal.org/api/drupal/core!modules!node!node.api.php/group/node_access/10
-use Rattle.std.specs.Prelude.{ℕ, List, [], ◌∷◌, ◌++◌, Bool, true, false, not, ◌==◌, ◌&&◌, ◌||◌, Option, Some, None, codes, if◌then◌else◌}
+use Rattle.std.specs.Prelude.{ℕ, List, [], ◌∷◌, ◌++◌, Bool, true, not, ◌==◌, ◌&&◌, ◌||◌, Option, Some, None, codes, if◌then◌else◌}
 use Rattle.std.specs.List.{find, list_any}
 use Rattle.std.specs.Str.{bytes_eq}
 use Rattle.cacheability.specs.declared.op.Op.{Op}

@@ -1,5 +1,5 @@
 -- What results of deciding about access are, and what they depend on.
-use Rattle.std.specs.Prelude.{ℕ, List, [], ◌∷◌, Bool, true, false, not, Option, Some, None, if◌then◌else◌, unwrap_or, Contains, ◌≡◌}
+use Rattle.std.specs.Prelude.{ℕ, List, [], ◌∷◌, Bool, true, not, Option, Some, None, if◌then◌else◌, unwrap_or}
 use Rattle.cacheability.specs.declared.op.Op.{Op}
 use Rattle.cacheability.specs.declared.op.Op.TheVariants as op
 use Rattle.cacheability.specs.declared.tag.Tag.{Tag}
@@ -8,7 +8,6 @@ use Rattle.cacheability.specs.declared.context.Context.{Context}
 use Rattle.cacheability.specs.declared.context.Context.TheVariants as context
 use Rattle.cacheability.specs.declared.cacheability.Cacheability.{Cacheability}
 use Rattle.cacheability.specs.declared.max_age.MaxAge.TheVariants.{Permanent}
-use Rattle.cacheability.specs.Cacheability.{merged}
 use Rattle.access_result.specs.declared.verdict.Verdict.{Verdict}
 use Rattle.access_result.specs.declared.verdict.Verdict.TheVariants as verdict
 use Rattle.access_result.specs.declared.reason.Reason.{Reason}

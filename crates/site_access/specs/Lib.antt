@@ -3,3 +3,4 @@ pub mod Plans
 pub mod Decided
 pub mod Depends
 pub mod Account
+pub mod Laws

@@ -11,7 +11,7 @@ use Rattle.content_rows.specs.declared.permission.ViewGrants.TheVariants as view
 use Rattle.content_rows.specs.Permission.{has, records_of, granted}
 use Rattle.content_state.specs.Viewer.{bypass_node_access, access_content, view_own_unpublished, administer_nodes}
 use Rattle.content_state.specs.Read.{NodeRow, TypeRow}
-use Rattle.content_state.specs.Plan.{Plan, Done, reading, asking, ◌>>=◌, ◌>>◌}
+use Rattle.content_state.specs.Plan.{Plan, Done, reading, asking, ◌>>=◌}
 use Rattle.site_access.specs.Access.{Access, Allowed, Denied, owns, any_content, own_content, create_content, field_permission, missing, field_of_type}
 
 -- whether the viewer holds a permission

@@ -5,17 +5,17 @@ ghost use Rattle.access_result.specs.declared.reason.Reason.TheVariants as reaso
 ghost use Rattle.access_result.specs.AccessResult.{or_result};
 ghost use Rattle.content_state.specs.Rows.{node_of};
 ghost use Rattle.content_state.specs.Viewer.{may, view_own_unpublished};
-ghost use Rattle.site_access.specs.Access.{owns as owns_by, any_content, own_content, by_rules, access_to_node};
-ghost use Rattle.site_access.specs.Plans.{node_access, grants_allow};
+ghost use Rattle.site_access.specs.Access.{owns as owns_by, any_content, own_content, by_rules, access_to_node, access_to_create};
+ghost use Rattle.site_access.specs.Plans.{node_access, create_access, grants_allow};
 ghost use Rattle.site_access.specs.Decided.{IsDecided};
-ghost use Rattle.site_access.specs.Depends.{access_of, vote as vote_of, rules_depend as depend_of_rules, grants_depend as depend_of_grants, asks_owner as is_owner_asked};
+ghost use Rattle.site_access.specs.Depends.{access_of, by_permissions as permissions_depend, vote as vote_of, rules_depend as depend_of_rules, grants_depend as depend_of_grants, asks_owner as is_owner_asked};
 ghost use Rattle.site_access.specs.Account.{IsAccountOf, OnRows};
 
 use crate::account::Account;
 use crate::depends::{allowed_by, by_permissions, grants_depend, lacking, rules_depend, vote};
 use crate::permission;
 use access_result::{AccessResult, Reason};
-use cacheability::Op;
+use cacheability::{Name, Op};
 use content_rows::{Node, ViewGrants};
 use content_state::State;
 use node_grants::{granted, records_of};
@@ -49,6 +49,37 @@ impl Account {
             (Some(node), _) => self.by_votes(alloc, op, n, node),
             (None, _) => unreachable!(),
         }
+    }
+
+    /// Whether the viewer may create a node of a type. `bypass node access` allows it; without
+    /// `access content` it is forbidden; otherwise the type's permission is needed. `Err` only where
+    /// memory is wanting.
+    /// <https://www.drupal.org/docs/8/api/entity-api/access-on-entities>
+    pub fn create_access(&self, alloc: Global, node_type: &Name) -> Result<AccessResult, AllocError>
+        ensures answer { IfOk result (λ r. OnRows self.now (λ rows. access_of r ≡ access_to_create rows self.now.viewer node_type.now)) }
+        ensures covered { IfOk result (λ r. OnRows self.now (λ rows. IsDecided (create_access node_type.now) rows self.now.viewer (access_of r) r.cacheability.tags r.cacheability.contexts)) }
+        ensures lasting { IfOk result (λ r. r.cacheability.max_age ≡ Permanent) }
+    {
+        self.may_create(alloc, node_type)
+    }
+
+    /// Access to creating a node of a type. `Err` only where memory is wanting.
+    fn may_create(&self, alloc: Global, node_type: &Name) -> Result<AccessResult, AllocError>
+        ensures answer { IfOk result (λ r. OnRows self.now (λ rows. access_of r ≡ access_to_create rows self.now.viewer node_type.now)) }
+        ensures depends { IfOk result (λ r. r.cacheability ≡ permissions_depend) }
+    {
+        let depends = by_permissions(alloc)?;
+        if self.may(permission::bypass_node_access()) {
+            return Ok(allowed_by(depends));
+        }
+        if !self.may(permission::access_content()) {
+            return lacking(alloc, permission::access_content(), depends);
+        }
+        let create = permission::create_content(alloc, node_type)?;
+        if self.may(&create) {
+            return Ok(allowed_by(depends));
+        }
+        lacking(alloc, &create, depends)
     }
 
     /// What the rules of a node or its grants say. `Err` only where memory is wanting.

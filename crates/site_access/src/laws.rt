@@ -1,0 +1,11 @@
+//! Laws of the definitions of access, which the contracts of empty functions state.
+ghost use Rattle.site_access.specs.Laws.{NodePlanAnswers, CreatePlanAnswers, FieldPlanAnswers};
+
+/// The plans of reads by which access is decided give the answers that the votes of nodes, the
+/// permissions and the owners of fields give.
+/// <https://www.drupal.org/docs/8/api/entity-api/access-on-entities>
+pub fn plans_answer()
+    ensures node { NodePlanAnswers }
+    ensures create { CreatePlanAnswers }
+    ensures field { FieldPlanAnswers }
+{}
