@@ -26,3 +26,6 @@ pub use request::{Request, Version};
 pub use theorems::{
     more_is_short, parses_once, reads_once, refused_stays, whole_stays, whole_takes,
 };
+
+#[cfg(test)]
+mod tests;
