@@ -17,3 +17,6 @@ pub use route::{Route, route_of};
 pub use rows::Rows;
 pub use site_rules::{NotASite, Refused, SiteField, SiteRule};
 pub use state::State;
+
+#[cfg(test)]
+mod tests;

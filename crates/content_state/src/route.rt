@@ -113,14 +113,21 @@ fn id_after(front: &[u8], path: &[u8]) -> Option<u32>
 fn id_of(text: &[u8]) -> Option<u32>
     ensures { result ≡ id_of text.now }
 {
+    let Some(first) = text.first() else {
+        return None;
+    };
+    if *first <= b'0' {
+        return None;
+    }
     let Ok(digits) = str::from_utf8(text) else {
         return None;
     };
     let Ok(id) = digits.parse::<u32>() else {
         return None;
     };
-    match text.first() {
-        Some(first) if *first > b'0' && id >= 1 && id <= 4_294_967_294 => Some(id),
-        _ => None,
+    if id >= 1 && id <= 4_294_967_294 {
+        Some(id)
+    } else {
+        None
     }
 }
