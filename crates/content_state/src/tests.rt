@@ -14,10 +14,10 @@ fn name(rt: &impl Abort, bytes: &[u8]) -> Name {
 }
 
 // The rows that a site begins with, but for those of a cell.
-fn rows_without(alloc: Global, gone: Cell) -> Result<Rows, AllocError> {
+fn rows_without(alloc: Global, gone: &Cell) -> Result<Rows, AllocError> {
     let mut rows = Rows::new(alloc);
     for (cell, row) in starter(alloc)? {
-        if cell != gone {
+        if cell != *gone {
             rows.set(cell, row)?;
         }
     }
@@ -25,9 +25,9 @@ fn rows_without(alloc: Global, gone: Cell) -> Result<Rows, AllocError> {
 }
 
 // The rows that a site begins with, with another row.
-fn rows_with(alloc: Global, cell: Cell, row: Row) -> Result<Rows, AllocError> {
+fn rows_with(alloc: Global, cell: &Cell, row: Row) -> Result<Rows, AllocError> {
     let mut rows = rows_without(alloc, cell)?;
-    rows.set(cell, row)?;
+    rows.set(*cell, row)?;
     Ok(rows)
 }
 
@@ -76,27 +76,27 @@ fn faulty_rows(rt: &impl Abort, alloc: Global) -> Result<Vec<(Rows, NotASite)>, 
     let session = Cell::Session(name(rt, b"abc"));
     Ok(vec![in alloc;
         (
-            rows_without(alloc, Cell::Site)?,
+            rows_without(alloc, &Cell::Site)?,
             faulty(Cell::Site, SiteRule::Missing, SiteField::Cell)
         ),
         (
-            rows_without(alloc, member)?,
+            rows_without(alloc, &member)?,
             faulty(member, SiteRule::Missing, SiteField::Cell)
         ),
         (
-            rows_with(alloc, Cell::Seq, seq_of_node_one())?,
+            rows_with(alloc, &Cell::Seq, seq_of_node_one())?,
             faulty(Cell::Seq, SiteRule::Range, SiteField::Node)
         ),
         (
-            rows_without(alloc, page)?,
+            rows_without(alloc, &page)?,
             faulty(Cell::Node(1), SiteRule::Absent, SiteField::Type)
         ),
         (
-            rows_with(alloc, other, listing_at_node(alloc)?)?,
+            rows_with(alloc, &other, listing_at_node(alloc)?)?,
             faulty(other, SiteRule::Taken, SiteField::Path)
         ),
         (
-            rows_with(alloc, session, session_of_user_two())?,
+            rows_with(alloc, &session, session_of_user_two())?,
             faulty(session, SiteRule::Absent, SiteField::Uid)
         ),
     ]?)
@@ -114,9 +114,9 @@ fn rows_that_are_no_site(rt: HostRuntime) {
 
 #[test]
 fn a_site_as_it_begins(rt: HostRuntime) {
-    let rows = rows_without(rt.alloc(), Cell::Head).expect(&rt, "memory");
+    let rows = rows_without(rt.alloc(), &Cell::Head).expect(&rt, "memory");
     assert!(rt; refusal(rt.alloc(), rows, 4_611_686_018_427_387_905).is_some());
-    let rows = rows_without(rt.alloc(), Cell::Head).expect(&rt, "memory");
+    let rows = rows_without(rt.alloc(), &Cell::Head).expect(&rt, "memory");
     let Ok(state) = State::from_rows(rows, Counts::new(rt.alloc()), 0) else {
         panic!(rt; "the rows are a site");
     };
