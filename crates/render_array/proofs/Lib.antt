@@ -1,3 +1,4 @@
 pub mod BoardLaws
+pub mod Fields
 pub mod Filling
 pub mod Run

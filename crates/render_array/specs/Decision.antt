@@ -1,6 +1,10 @@
 -- A decision about access, as code hands it on.
-use Rattle.std.specs.Prelude.{Result, Ok, Err, Bool, true, false}
+use Rattle.std.specs.Prelude.{ℕ, List, Result, Ok, Err, Option, Some, None, Bool, true, false}
+use Rattle.std.specs.Option.{IsSome}
+use Rattle.std.specs.List.{find}
+use Rattle.std.specs.Str.{bytes_eq}
 use Rattle.access_result.specs.declared.reason.Reason.{Reason}
+use Rattle.content_rows.specs.declared.row.NodeType.{NodeType}
 use Rattle.site_access.specs.Access.{Access, Allowed, Denied}
 
 -- allowed, or denied for the reason
@@ -12,3 +16,8 @@ decision_of (Err reason) = Denied reason
 abbrev pub is_allowed : Access → Bool
 is_allowed Allowed = true
 is_allowed (Denied reason) = false
+
+-- a type that is there has a field of that name
+abbrev pub HasField : Option NodeType → List ℕ → Type 0
+HasField None name = ⊥
+HasField (Some type) name = IsSome (find (λ field. bytes_eq field.name name) type.fields)

@@ -1,12 +1,13 @@
 //! A canvas, on which the builders of elements write.
-ghost use Rattle.std.specs.Prelude.{◌≡◌, ◌≤◌, ◌∷◌, ◌-◌, ◌^◌, [], true, false, IfOk};
+ghost use Rattle.std.specs.Prelude.{◌≡◌, ◌≤◌, ◌∷◌, ◌-◌, ◌^◌, [], true, false, Some, IsSome, IfOk};
 ghost use Rattle.std.specs.Option.{option_copied};
 ghost use Rattle.content_state.specs.declared.element.Hole.TheVariants as hole;
 ghost use Rattle.access_result.specs.Reason.{reason_text};
+ghost use Rattle.content_state.specs.Rows.{type_of, node_of};
 ghost use Rattle.content_state.specs.Read.{SiteRow, TypeRow, NodeRow, PathRoute};
 ghost use Rattle.content_state.specs.Plan.{write, escaped, attach, part, reading, clock};
 ghost use Rattle.site_access.specs.Plans.{node_access, field_access};
-ghost use Rattle.render_array.specs.Decision.{decision_of};
+ghost use Rattle.render_array.specs.Decision.{decision_of, HasField};
 ghost use Rattle.render_array.specs.Canvas.{Renders, AddsTags, AddsContext, Fails, blank};
 
 use crate::board::Board;
@@ -153,7 +154,8 @@ impl<'a> Canvas<'a> {
 
     /// The content type of that name, if there is one.
     pub fn node_type(&mut self, name: Name) -> Option<&'a NodeType>
-        ensures { Renders (reading (TypeRow name)) self.old (option_copied result) self.new }
+        ensures shows { Renders (reading (TypeRow name)) self.old (option_copied result) self.new }
+        ensures there { option_copied result ≡ type_of self.old.visit.rows name }
     {
         let (node_type, tag) = self.state.node_type(name);
         self.tag(tag);
@@ -162,7 +164,8 @@ impl<'a> Canvas<'a> {
 
     /// The node of that number, if there is one.
     pub fn node(&mut self, n: u32) -> Option<&'a Node>
-        ensures { Renders (reading (NodeRow n)) self.old (option_copied result) self.new }
+        ensures shows { Renders (reading (NodeRow n)) self.old (option_copied result) self.new }
+        ensures there { option_copied result ≡ node_of self.old.visit.rows n }
     {
         let (node, tag) = self.state.node(n);
         self.tag(tag);
@@ -185,24 +188,22 @@ impl<'a> Canvas<'a> {
         }
     }
 
-    /// Whether the viewer may do something to a node, or else why not. Where memory is wanting it is denied in vain.
+    /// Whether the viewer may do something to a node that is there, or else why not. Where memory is wanting it is denied
+    /// in vain.
     pub fn node_access(&mut self, op: Op, n: u32) -> Result<(), Reason>
+        requires { IsSome (node_of self.old.visit.rows n) }
         ensures { Renders (node_access op n) self.old (decision_of result) self.new }
     {
         self.fail();
         Err(Reason::NoSession)
     }
 
-    /// Whether the viewer may do something to a field of a node of that type, or else why not. Where memory is wanting it
-    /// is denied in vain.
-    pub fn field_access(
-        &mut self,
-        op: Op,
-        n: u32,
-        node_type: Name,
-        field: Name,
-    ) -> Result<(), Reason>
-        ensures { Renders (field_access op n node_type field) self.old (decision_of result) self.new }
+    /// Whether the viewer may do something to a field of a node that is there and whose type has the field, or else why
+    /// not. Where memory is wanting it is denied in vain.
+    pub fn field_access(&mut self, op: Op, n: u32, node: &Node, field: &Name) -> Result<(), Reason>
+        requires node_is { node_of self.old.visit.rows n ≡ Some node.now }
+        requires has_field { HasField (type_of self.old.visit.rows node.now.node_type) field.now }
+        ensures { Renders (field_access op n node.now.node_type field.now) self.old (decision_of result) self.new }
     {
         self.fail();
         Err(Reason::NoSession)

@@ -1,16 +1,18 @@
 //! Pages and what stands in them: each builder writes what the plan of its element shows.
-ghost use Rattle.std.specs.Prelude.{◌≡◌, unwrap_or};
+ghost use Rattle.std.specs.Prelude.{◌≡◌, unwrap_or, Some, IsSome};
 ghost use Rattle.std.specs.List.{find};
 ghost use Rattle.std.specs.Option.{option_copied};
 ghost use Rattle.std.specs.Str.{bytes_eq};
 ghost use Rattle.content_state.specs.Plan.{each};
+ghost use Rattle.content_state.specs.Rows.{type_of, node_of};
+ghost use Rattle.render_array.specs.Decision.{HasField};
 ghost use Rattle.render_array.specs.Canvas.{Renders};
 ghost use Rattle.render_array.specs.Page.{may_view_node, may_view_field, field_value, field_shown, field, fields, node_full, site_name, page_top, page_bottom, framed, denied_content, denied, not_found, node_page, page};
 
 use crate::canvas::Canvas;
 use access_result::Reason;
 use cacheability::{Name, Op};
-use content_rows::{FieldRow, FieldValue, Node, Site};
+use content_rows::{FieldRow, FieldValue, Node, NodeType, Site};
 use content_state::{Library, Route};
 
 /// The name of the site; empty where there are no settings.
@@ -113,51 +115,60 @@ fn field_shown(canvas: &mut Canvas, label: &[u8], value: &[u8])
 
 /// Whether the viewer may view a node.
 pub fn may_view_node(canvas: &mut Canvas, n: u32) -> bool
+    requires { IsSome (node_of canvas.old.visit.rows n) }
     ensures { Renders (may_view_node n) canvas.old result canvas.new }
 {
     canvas.node_access(Op::View, n).is_ok()
 }
 
-/// Whether the viewer may view a field of a node of that type.
-fn may_view_field(canvas: &mut Canvas, n: u32, node_type: Name, field: Name) -> bool
-    ensures { Renders (may_view_field n node_type field) canvas.old result canvas.new }
+/// Whether the viewer may view a field of a node.
+fn may_view_field(canvas: &mut Canvas, n: u32, node: &Node, field: &Name) -> bool
+    requires node_is { node_of canvas.old.visit.rows n ≡ Some node.now }
+    requires has_field { HasField (type_of canvas.old.visit.rows node.now.node_type) field.now }
+    ensures { Renders (may_view_field n node.now.node_type field.now) canvas.old result canvas.new }
 {
-    canvas.field_access(Op::View, n, node_type, field).is_ok()
+    canvas.field_access(Op::View, n, node, field).is_ok()
 }
 
 /// A field with a value that isn't empty, where it may be viewed.
 fn field(canvas: &mut Canvas, n: u32, node: &Node, row: &FieldRow)
+    requires node_is { node_of canvas.old.visit.rows n ≡ Some node.now }
+    requires has_field { HasField (type_of canvas.old.visit.rows node.now.node_type) row.now.name }
     ensures { Renders (field n node.now row.now) canvas.old tt canvas.new }
 {
     let value = value_in(node, &row.name);
     if value.is_empty() {
         return;
     }
-    if may_view_field(canvas, n, node.node_type, row.name) {
+    if may_view_field(canvas, n, node, &row.name) {
         field_shown(canvas, row.label.as_slice(), value);
     }
 }
 
-/// The fields of a node, as rows of its type say.
-fn each_field(canvas: &mut Canvas, n: u32, node: &Node, rows: &[FieldRow])
-    ensures { Renders (each (field n node.now) rows.now) canvas.old tt canvas.new }
+/// The fields of a node, in the order of its type.
+fn fields_of_type(canvas: &mut Canvas, n: u32, node: &Node, node_type: &NodeType)
+    requires node_is { node_of canvas.old.visit.rows n ≡ Some node.now }
+    requires type_is { type_of canvas.old.visit.rows node.now.node_type ≡ Some node_type.now }
+    ensures { Renders (each (field n node.now) node_type.now.fields) canvas.old tt canvas.new }
 {
-    for row in rows {
+    for row in node_type.fields.as_slice() {
         field(canvas, n, node, row);
     }
 }
 
-/// The fields of a node, in the order of its type.
+/// The fields of a node, in the order of its type, where that is there.
 fn fields(canvas: &mut Canvas, n: u32, node: &Node)
+    requires node_is { node_of canvas.old.visit.rows n ≡ Some node.now }
     ensures { Renders (fields n node.now) canvas.old tt canvas.new }
 {
     if let Some(node_type) = canvas.node_type(node.node_type) {
-        each_field(canvas, n, node, node_type.fields.as_slice());
+        fields_of_type(canvas, n, node, node_type);
     }
 }
 
 /// A node in full.
 pub fn node_full(canvas: &mut Canvas, n: u32, node: &Node)
+    requires node_is { node_of canvas.old.visit.rows n ≡ Some node.now }
     ensures { Renders (node_full n node.now) canvas.old tt canvas.new }
 {
     canvas.attach(Library::Node);
@@ -168,6 +179,7 @@ pub fn node_full(canvas: &mut Canvas, n: u32, node: &Node)
 
 /// The page of a node that may be viewed, and its status.
 fn node_shown(canvas: &mut Canvas, n: u32, node: &Node) -> u16
+    requires node_is { node_of canvas.old.visit.rows n ≡ Some node.now }
     ensures { Renders (framed 200 node.now.title (node_full n node.now)) canvas.old result canvas.new }
 {
     page_top(canvas, node.title.as_slice());

@@ -4,12 +4,12 @@ use Rattle.render_array.proofs.pages.node_page.Goals as goal
 
 pub returns-in_default : goal.returns-in_default
 unfolding node_page
-returns-in_default c = next _ c.in_default.ensures c.not_found.ensures
+returns-in_default c = next _ c.in_default.ensures.shows c.not_found.ensures
 
 pub returns-in-Ok : goal.returns-in-Ok
 unfolding node_page
-returns-in-Ok c = next _ c.in-Some.ensures (next _ c.in-Ok.ensures c.node_shown.ensures)
+returns-in-Ok c = next _ c.in-Some.ensures.shows (next _ c.in-Ok.ensures c.node_shown.ensures)
 
 pub returns-in-Err : goal.returns-in-Err
 unfolding node_page
-returns-in-Err c = next _ c.in-Some.ensures (next _ c.in-Err.ensures c.denied.ensures)
+returns-in-Err c = next _ c.in-Some.ensures.shows (next _ c.in-Err.ensures c.denied.ensures)
