@@ -5,7 +5,12 @@ use Rattle.std.specs.Option.{IsSome}
 use Rattle.std.specs.List.{find}
 use Rattle.std.specs.Str.{bytes_eq}
 use Rattle.std.proofs.lemmas.Slice.Eq.{bytes_eq-Decides}
+use Rattle.content_rows.specs.declared.cell.Cell.{Cell}
+use Rattle.content_rows.specs.declared.row.Row.{Row}
+use Rattle.content_rows.specs.declared.row.Node.{Node}
 use Rattle.content_rows.specs.declared.row.NodeType.{NodeType}
+use Rattle.content_state.specs.Rows.{type_of, node_of}
+use Rattle.site_access.specs.Access.{type_in, node_type_of, field_of}
 use Rattle.content_rows.specs.declared.row.FieldRow.{FieldRow}
 use Rattle.render_array.specs.Decision.{HasField}
 
@@ -30,3 +35,7 @@ found_at (f ∷ fields) (suc i) x below is =
 pub has_field : (o : Option NodeType) (type : NodeType) (fields : List FieldRow) (i : ℕ) (x : FieldRow) → o ≡ Some type → fields ≡ type.fields → i < length fields → x ≡ get_or fields i x → HasField o x.name
 has_field o type fields i x e same below is =
     subst (λ p. HasField p x.name) (sym e) (subst (λ fs. IsSome (find (λ field. bytes_eq field.name x.name) fs)) same (found_at fields i x below is))
+
+-- the field of a node that is there, and the type of that node
+pub field_there : (rows : List (Cell × Row)) (n : ℕ) (node : Node) (name : List ℕ) → node_of rows n ≡ Some node → HasField (type_of rows node.node_type) name → IsSome (field_of rows (node_type_of rows n) name)
+field_there rows n node name there has = subst (λ t. IsSome (field_of rows t name)) (sym (ap type_in there)) has

@@ -1,4 +1,5 @@
 pub mod BoardLaws
 pub mod Fields
 pub mod Filling
+pub mod OnBlank
 pub mod Run

@@ -5,6 +5,7 @@ use Rattle.std.specs.Prelude.{if◌then◌else◌}
 use Rattle.std.specs.Prelude.{Result, Ok, Err, OnOk}
 use Rattle.std.specs.Result.{is_err, is_ok}
 use Rattle.access_result.specs.declared.reason.Reason.{Reason}
+use Rattle.site_access.specs.Access.{Access}
 use Rattle.render_array.specs.Decision.{decision_of, is_allowed}
 use Rattle.cacheability.specs.InOrder.{AddsItem, HasBoth}
 use Rattle.html_out.specs.Escape.{escaped as escaped_bytes}
@@ -314,6 +315,10 @@ included p old new x shown libraries needs adds made = record {
     made = Made-kept p old.visit x shown libraries needs new.needs (adds.added w) made;
   };
 }
+
+-- a decision, where what it rests on is needed
+pub decided : (p : Plan Access) (old new : Sheet) (x : Access) (r : Result (Unit {0}) Reason) (needs : Needs) → decision_of r ≡ x → Includes old new [] [] needs → Made p old.visit x [] [] needs → Renders p old (decision_of r) new
+decided p old new x r needs e adds made = subst (λ y. Renders p old y new) (sym e) (included p old new x [] [] needs adds made)
 
 -- what was written on a blank sheet is what the plan makes
 pub on_blank : {A : Type 0} (p : Plan A) (v : Visit) (last : ℕ) (x : A) (new : Sheet) → Renders p (blank v last) x new → new.whole ≡ true → Made p v x new.shown new.libraries new.needs

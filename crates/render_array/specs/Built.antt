@@ -1,5 +1,5 @@
 -- What building an element gives.
-use Rattle.std.specs.Prelude.{ℕ, Option, Some, None, ◌≤◌, if◌then◌else◌}
+use Rattle.std.specs.Prelude.{ℕ, Option, Some, None, true, ◌≡◌, ◌≤◌, if◌then◌else◌}
 use Rattle.content_rows.specs.declared.row.Node.{Node}
 use Rattle.content_state.specs.Read.{NodeRow}
 use Rattle.content_state.specs.Context.{Visit}
@@ -8,6 +8,7 @@ use Rattle.render_array.specs.declared.built.Built.{Built}
 use Rattle.render_array.specs.declared.built.Element.{Element}
 use Rattle.render_array.specs.declared.built.Element.TheVariants as element
 use Rattle.render_array.specs.Board.{pieces_of, NoBlocks}
+use Rattle.render_array.specs.Canvas.{Sheet}
 use Rattle.render_array.specs.Page.{may_view_node, node_full, page}
 
 abbrev pub full_found : ℕ → Option Node → Plan (Unit {0})
@@ -35,3 +36,13 @@ pub record Builds (p : Plan (Option ℕ)) (v : Visit) (built : Built) : Type 0 w
   pub made : Made p v built.status (pieces_of built.segments) built.libraries (needs_of built)
   pub not_over : v.moment ≤ built.last
   pub no_blocks : NoBlocks (pieces_of built.segments)
+
+-- a finished sheet
+pub record Finishes (sheet : Sheet) (status : Option ℕ) (built : Built) : Type 0 where
+  pub whole : sheet.whole ≡ true
+  pub shown : pieces_of built.segments ≡ sheet.shown
+  pub no_blocks : NoBlocks (pieces_of built.segments)
+  pub libraries : built.libraries ≡ sheet.libraries
+  pub needs : needs_of built ≡ sheet.needs
+  pub not_over : sheet.visit.moment ≤ built.last
+  pub status_is : built.status ≡ status

@@ -1,11 +1,9 @@
 -- A decision about access, as code hands it on.
-use Rattle.std.specs.Prelude.{ℕ, List, Result, Ok, Err, Option, Some, None, Bool, true, false}
+use Rattle.std.specs.Prelude.{ℕ, List, Result, Ok, Err, Option, Bool, true, false}
 use Rattle.std.specs.Option.{IsSome}
-use Rattle.std.specs.List.{find}
-use Rattle.std.specs.Str.{bytes_eq}
 use Rattle.access_result.specs.declared.reason.Reason.{Reason}
 use Rattle.content_rows.specs.declared.row.NodeType.{NodeType}
-use Rattle.site_access.specs.Access.{Access, Allowed, Denied}
+use Rattle.site_access.specs.Access.{Access, Allowed, Denied, field_of_type}
 
 -- allowed, or denied for the reason
 abbrev pub decision_of : Result (Unit {0}) Reason → Access
@@ -19,5 +17,4 @@ is_allowed (Denied reason) = false
 
 -- a type that is there has a field of that name
 abbrev pub HasField : Option NodeType → List ℕ → Type 0
-HasField None name = ⊥
-HasField (Some type) name = IsSome (find (λ field. bytes_eq field.name name) type.fields)
+HasField type name = IsSome (field_of_type name type)

@@ -7,6 +7,7 @@ use crate::built::{Built, Element};
 use crate::canvas::Canvas;
 use crate::pages::{may_view_node, node_full, page};
 use content_state::{Ask, State, Viewer};
+use site_access::Account;
 use std::alloc::{AllocError, Global};
 
 /// Builds an element for a viewer who asks for something at a moment, in seconds since 1970. What is built shows what the
@@ -22,7 +23,8 @@ pub fn build(
 ) -> Result<Built, AllocError>
     ensures { IfOk result (λ b. Builds (plan_of element.now) (record { rows = state.now.rows; viewer = viewer.now; ask = ask.now; moment = now }) b) }
 {
-    let mut canvas = Canvas::new(alloc, state, viewer, ask, now);
+    let account = Account::new(alloc, state, viewer)?;
+    let mut canvas = Canvas::new(alloc, state, &account, ask, now);
     let status = write_element(&mut canvas, element);
     canvas.finish(status)
 }

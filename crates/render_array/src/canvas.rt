@@ -1,21 +1,25 @@
 //! A canvas, on which the builders of elements write.
-ghost use Rattle.std.specs.Prelude.{◌≡◌, ◌≤◌, ◌∷◌, ◌-◌, ◌^◌, [], true, false, Some, IsSome, IfOk};
+ghost use Rattle.std.specs.Prelude.{◌≡◌, ◌≤◌, ◌∷◌, ◌-◌, ◌^◌, [], true, false, Some, IsSome, IfOk, unwrap_or};
 ghost use Rattle.std.specs.Option.{option_copied};
 ghost use Rattle.content_state.specs.declared.element.Hole.TheVariants as hole;
 ghost use Rattle.access_result.specs.Reason.{reason_text};
+ghost use Rattle.access_result.specs.declared.reason.Reason.TheVariants as reason_is;
 ghost use Rattle.content_state.specs.Rows.{type_of, node_of};
 ghost use Rattle.content_state.specs.Read.{SiteRow, TypeRow, NodeRow, PathRoute};
 ghost use Rattle.content_state.specs.Plan.{write, escaped, attach, part, reading, clock};
+ghost use Rattle.site_access.specs.Decided.{needs_of};
+ghost use Rattle.site_access.specs.Depends.{answer_of};
 ghost use Rattle.site_access.specs.Plans.{node_access, field_access};
 ghost use Rattle.render_array.specs.Decision.{decision_of, HasField};
-ghost use Rattle.render_array.specs.Canvas.{Renders, AddsTags, AddsContext, Fails, blank};
+ghost use Rattle.render_array.specs.Canvas.{Renders, AddsTags, AddsContext, Includes, Fails, blank};
 
 use crate::board::Board;
 use crate::built::Built;
-use access_result::Reason;
+use access_result::{AccessResult, PermissionText, Reason, Verdict};
 use cacheability::{Cacheability, Context, MaxAge, Name, Op, Tag};
 use content_rows::{Items, Node, NodeType, Site};
-use content_state::{Ask, Library, Route, State, Viewer, route_of};
+use content_state::{Ask, Library, Route, State, route_of};
+use site_access::Account;
 use std::alloc::{AllocError, Global};
 use std::marker::Model;
 
@@ -25,7 +29,7 @@ use std::marker::Model;
 pub struct Canvas<'a> {
     alloc: Global,
     state: &'a State,
-    viewer: &'a Viewer,
+    account: &'a Account,
     ask: &'a Ask,
     moment: u64,
     board: Board,
@@ -37,39 +41,41 @@ pub struct Canvas<'a> {
 
 impl<'a> Model for Canvas<'a> {
     ghost use Rattle.std.specs.Prelude.{◌≤◌};
+    ghost use Rattle.site_access.specs.Account.{IsAccountOf};
     ghost use Rattle.render_array.specs.Canvas.{Sheet};
 
     ghost Value = { Sheet };
 
     ghost view = { λ c. record {
-      visit = record { rows = c.state.now.rows; viewer = c.viewer.now; ask = c.ask.now; moment = c.moment };
+      visit = record { rows = c.state.now.rows; viewer = c.account.now.viewer; ask = c.ask.now; moment = c.moment };
       shown = c.board;
       libraries = c.libraries.items;
       needs = record { tags = c.cacheability.tags; contexts = c.cacheability.contexts; last = c.last };
       whole = c.whole;
     } };
 
-    ghost invariant = { λ c. c.moment ≤ c.last };
+    ghost invariant = { λ c. (c.moment ≤ c.last) × IsAccountOf c.state.now.rows c.account.now.viewer c.account.now };
 }
 
 impl<'a> Canvas<'a> {
-    ghost use Rattle.render_array.specs.Board.{pieces_of, NoBlocks};
-    ghost use Rattle.render_array.specs.Built.{needs_of};
+    ghost use Rattle.site_access.specs.Account.{IsAccountOf};
+    ghost use Rattle.render_array.specs.Built.{Finishes};
 
     /// A canvas on which nothing is written, and which depends on nothing.
     pub fn new(
         alloc: Global,
         state: &'a State,
-        viewer: &'a Viewer,
+        account: &'a Account,
         ask: &'a Ask,
         moment: u64,
     ) -> Canvas<'a>
-        ensures { result ≡ blank (record { rows = state.now.rows; viewer = viewer.now; ask = ask.now; moment = moment }) (2 ^ 64 - 1) }
+        requires { IsAccountOf state.now.rows account.now.viewer account.now }
+        ensures { result ≡ blank (record { rows = state.now.rows; viewer = account.now.viewer; ask = ask.now; moment = moment }) (2 ^ 64 - 1) }
     {
         Canvas {
             alloc,
             state,
-            viewer,
+            account,
             ask,
             moment,
             board: Board::new(alloc),
@@ -194,8 +200,21 @@ impl<'a> Canvas<'a> {
         requires { IsSome (node_of self.old.visit.rows n) }
         ensures { Renders (node_access op n) self.old (decision_of result) self.new }
     {
-        self.fail();
-        Err(Reason::NoSession)
+        match self.account.node_access(self.alloc, self.state, op, n) {
+            Ok(found) => {
+                let AccessResult {
+                    verdict,
+                    reason,
+                    cacheability,
+                } = found;
+                self.rests_on(&cacheability);
+                decision(self.alloc, verdict, reason)
+            }
+            Err(_) => {
+                self.fail();
+                Err(Reason::NoSession)
+            }
+        }
     }
 
     /// Whether the viewer may do something to a field of a node that is there and whose type has the field, or else why
@@ -205,8 +224,33 @@ impl<'a> Canvas<'a> {
         requires has_field { HasField (type_of self.old.visit.rows node.now.node_type) field.now }
         ensures { Renders (field_access op n node.now.node_type field.now) self.old (decision_of result) self.new }
     {
-        self.fail();
-        Err(Reason::NoSession)
+        match self
+            .account
+            .field_access(self.alloc, self.state, op, n, field)
+        {
+            Ok(found) => {
+                let AccessResult {
+                    verdict,
+                    reason,
+                    cacheability,
+                } = found;
+                self.rests_on(&cacheability);
+                decision(self.alloc, verdict, reason)
+            }
+            Err(_) => {
+                self.fail();
+                Err(Reason::NoSession)
+            }
+        }
+    }
+
+    /// Says that what is shown depends on what a decision rests on.
+    fn rests_on(&mut self, cacheability: &Cacheability)
+        ensures { Includes self.old self.new [] [] (needs_of cacheability.now.tags cacheability.now.contexts) }
+    {
+        if self.cacheability.merge(self.alloc, cacheability).is_err() {
+            self.whole = false;
+        }
     }
 
     /// Writes the escaped text of a reason.
@@ -237,13 +281,7 @@ impl<'a> Canvas<'a> {
 
     /// What was shown, with the status of its page where it is one. `Err` exactly where memory was wanting.
     pub fn finish(self, status: Option<u16>) -> Result<Built, AllocError>
-        ensures whole { IfOk result (λ b. self.entry.whole ≡ true) }
-        ensures shown { IfOk result (λ b. pieces_of b.segments ≡ self.entry.shown) }
-        ensures no_blocks { IfOk result (λ b. NoBlocks (pieces_of b.segments)) }
-        ensures libraries { IfOk result (λ b. b.libraries ≡ self.entry.libraries) }
-        ensures needs { IfOk result (λ b. needs_of b ≡ self.entry.needs) }
-        ensures not_over { IfOk result (λ b. self.entry.visit.moment ≤ b.last) }
-        ensures status { IfOk result (λ b. b.status ≡ status) }
+        ensures { IfOk result (λ b. Finishes self.entry status b) }
     {
         if !self.whole {
             return Err(AllocError);
@@ -255,5 +293,26 @@ impl<'a> Canvas<'a> {
             last: self.last,
             status,
         })
+    }
+}
+
+/// What a verdict decides: allowed, or why not.
+fn decision(alloc: Global, verdict: Verdict, reason: Option<Reason>) -> Result<(), Reason>
+    ensures { decision_of result ≡ answer_of verdict reason }
+{
+    match verdict {
+        Verdict::Allowed => Ok(()),
+        Verdict::Neutral => Err(told(alloc, reason)),
+        Verdict::Forbidden => Err(told(alloc, reason)),
+    }
+}
+
+/// The reason; where none is told, that a permission without a name is missing.
+fn told(alloc: Global, reason: Option<Reason>) -> Reason
+    ensures { result ≡ unwrap_or reason (reason_is.Permission []) }
+{
+    match reason {
+        Some(reason) => reason,
+        None => Reason::Permission(PermissionText::from_vec(Vec::new(alloc))),
     }
 }

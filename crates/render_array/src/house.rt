@@ -4,6 +4,7 @@ ghost use Rattle.std.specs.Arc.{arc_value};
 ghost use Rattle.content_state.specs.declared.state.State.{State};
 ghost use Rattle.content_state.specs.declared.commit.Commit.{Commit};
 ghost use Rattle.content_state.specs.Replay.{replay, Begins};
+ghost use Rattle.content_state.specs.SiteRules.{IsValidState};
 
 use content_state::State;
 use std::alloc::{AllocError, Global};
@@ -30,7 +31,8 @@ pub trait House {
     /// How often the keeper of the rows has failed, up to the greatest u64.
     ghost faults: { Self → ℕ };
 
-    /// The newest state: that of all edits that the caller has now seen. `Err` only where memory is wanting.
+    /// The newest state: that of all edits that the caller has now seen, whose rows are right. `Err` only where memory is
+    /// wanting.
     fn snapshot(&mut self, alloc: Global) -> Result<Arc<State>, AllocError>
         ensures base { base self.new ≡ base self.old }
         ensures number { number self.new ≡ number self.old }
@@ -38,7 +40,8 @@ pub trait House {
         ensures name { name self.new ≡ name self.old }
         ensures grows { Begins (seen self.old) (seen self.new) }
         ensures never_falls { faults self.old ≤ faults self.new }
-        ensures state { IfOk result (λ s. arc_value s ≡ replay (base self.new) (seen self.new)) };
+        ensures state { IfOk result (λ s. arc_value s ≡ replay (base self.new) (seen self.new)) }
+        ensures valid { IfOk result (λ s. IsValidState (arc_value s)) };
 
     /// How often the keeper of the rows has failed, up to the greatest u64. It never falls.
     fn faults(&self) -> u64
