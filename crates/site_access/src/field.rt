@@ -91,7 +91,7 @@ fn field_permission(op: Op, field: &FieldRow) -> Option<&Text>
 }
 
 /// The field of a type that has this name, if there is one.
-fn field_in<'a>(node_type: &'a NodeType, name: &Name) -> Option<&'a FieldRow>
+pub fn field_in<'a>(node_type: &'a NodeType, name: &Name) -> Option<&'a FieldRow>
     ensures { option_copied result ≡ field_named node_type.now name.now }
 {
     'fields: for field in node_type.fields.as_slice() {

@@ -14,3 +14,6 @@ pub use access::{create_access, field_access, node_access};
 pub use account::{Account, permissions, view_grants};
 pub use laws::plans_answer;
 pub use viewer::viewer_of;
+
+#[cfg(test)]
+mod tests;
