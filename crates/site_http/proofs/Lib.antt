@@ -1,0 +1,7 @@
+pub mod Fixed
+mod Told
+mod Newest
+mod Grow
+mod Progress
+mod Ends
+mod Failing

@@ -1,0 +1,48 @@
+use Rattle.std.proofs.Common.{◌≡◌, ◌∙◌, ◌<◌, ◌≤◌, [], List, ℕ, sym, refl, subst, arith}
+use Rattle.site_http.specs.Connection.{newest}
+use Rattle.site_http.proofs.Progress.{Progress, begun, goes_on, spent_at, rebased, begins_same, begins_more}
+use Rattle.site_http.proofs.Ends.{ended_at}
+use Rattle.site_http.proofs.connection.serve_connection.Goals as goal
+
+pub requests-init : goal.requests-init
+requests-init g c =
+    let left = g.S.Source.left c.args.source.now in
+    let given = g.C.Clock.given c.args.clock.now in
+    let written = g.O.Sink.written c.args.sink.now in
+    let base = g.H.House.base c.args.house.now in
+    let seen = g.H.House.seen c.args.house.now in
+    record {
+      base = refl;
+      number = refl;
+      opened = refl;
+      name = refl;
+      grows = begins_same seen;
+      progress = subst (λ (b : List ℕ). Progress left left given given written written base seen 1000 (newest base seen) 0 b) (sym c.new-buffer.ensures.items) (begun left given written base seen 1000);
+      keeping = omega arith;
+      reading = omega arith;
+      writing = omega arith;
+    }
+
+pub returns-in-Some-clause-connection : goal.returns-in-Some-clause-connection
+returns-in-Some-clause-connection g c =
+    ended_at (g.S.Source.left c.turn.new.source) (g.C.Clock.given c.turn.new.clock) (g.O.Sink.written c.turn.new.sink) c.turn.new.buffer.items (g.H.House.seen c.turn.new.house) c.in-Some.ended (omega arith) c.in-Some.ensures.grows (rebased c.in-Some.ensures.base c.requests.invariant.progress) c.in-Some.ensures.turned
+
+pub requests-preserved : goal.requests-preserved
+requests-preserved g c =
+    let keeping = c.in_default.ensures.never_falls in
+    let reading = c.in_default.ensures.source_count in
+    let writing = c.in_default.ensures.sink_count in
+    record {
+      base = c.in_default.ensures.base ∙ c.requests.invariant.base;
+      number = c.in_default.ensures.number ∙ c.requests.invariant.number;
+      opened = c.in_default.ensures.opened ∙ c.requests.invariant.opened;
+      name = c.in_default.ensures.name ∙ c.requests.invariant.name;
+      grows = begins_more (g.H.House.seen c.args.house.now) (g.H.House.seen c.requests.house) (g.H.House.seen c.turn.new.house) c.requests.invariant.grows c.in_default.ensures.grows;
+      progress = goes_on (omega arith) c.in_default.ensures.grows (rebased c.in_default.ensures.base c.requests.invariant.progress) c.in_default.ensures.turned;
+      keeping = omega arith;
+      reading = omega arith;
+      writing = omega arith;
+    }
+
+pub returns-clause-connection : goal.returns-clause-connection
+returns-clause-connection g c = spent_at (omega arith) c.requests.invariant.progress

@@ -1,0 +1,4 @@
+pub mod Reply
+pub mod Fixed
+pub mod Connection
+pub mod Turn
