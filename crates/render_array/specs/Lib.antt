@@ -5,3 +5,4 @@ pub mod Decision
 pub mod Page
 pub mod Pieces
 pub mod Shown
+pub mod PageText

@@ -31,8 +31,8 @@ pub trait House {
     /// How often the keeper of the rows has failed, up to the greatest u64.
     ghost faults: { Self → ℕ };
 
-    /// The newest state: that of all edits that the caller has now seen, whose rows are right. `Err` only where memory is
-    /// wanting.
+    /// The newest state: that of all edits that the caller has now seen. Where the state that was loaded is right, so is
+    /// each. `Err` only where memory is wanting.
     fn snapshot(&mut self, alloc: Global) -> Result<Arc<State>, AllocError>
         ensures base { base self.new ≡ base self.old }
         ensures number { number self.new ≡ number self.old }
@@ -41,7 +41,7 @@ pub trait House {
         ensures grows { Begins (seen self.old) (seen self.new) }
         ensures never_falls { faults self.old ≤ faults self.new }
         ensures state { IfOk result (λ s. arc_value s ≡ replay (base self.new) (seen self.new)) }
-        ensures valid { IfOk result (λ s. IsValidState (arc_value s)) };
+        ensures valid { IfOk result (λ s. IsValidState (base self.old) → IsValidState (arc_value s)) };
 
     /// How often the keeper of the rows has failed, up to the greatest u64. It never falls.
     fn faults(&self) -> u64

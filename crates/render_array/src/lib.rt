@@ -9,9 +9,11 @@ mod canvas;
 mod filled;
 mod house;
 mod pages;
+mod whole_page;
 
 pub use building::build;
 pub use built::{Built, Element};
 pub use canvas::Canvas;
 pub use filled::assembled;
 pub use house::House;
+pub use whole_page::{PageText, page_text};

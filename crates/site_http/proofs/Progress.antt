@@ -91,7 +91,7 @@ one_more {left} {left'} {given} {given'} {written} {written'} {base} {log} {log'
     let here : count ≡ 0 + length p.done = omega arith in
     let add : (n : ℕ) → IsText base log' p.high n request moment (closes_after limit count request) mine → Texts base log' limit 0 low (p.done ++ request ∷ []) (p.moments ++ moment ∷ []) (p.text ++ mine) n =
     λ n one. texts_more base log' limit 0 low p.done p.moments p.text p.high request n moment mine (same_texts grown p)
-        (subst (λ (i : ℕ). IsText base log' p.high n request moment (closes_after limit i request) mine) here one) in
+    (subst (λ (i : ℕ). IsText base log' p.high n request moment (closes_after limit i request) mine) here one) in
     elim made [
       | inl reply ↦ record { high = newest base log'; texts = add (newest base log') (inl (omega arith, reply)); not_above = omega arith }
       | inr wanting ↦ record { high = p.high; texts = add p.high (inr (refl, wanting)); not_above = omega arith }

@@ -27,15 +27,27 @@ is_get request = bytes_eq request.method get
 -- the head of a page of so many bytes
 abbrev pub page_head : ℕ → ℕ → ℕ → Bool → ReplyHead
 page_head status size number closing = record {
-  status = status; media = Html; length = Some size; location = None; cookie = Nothing; allow = false;
-  state = Some number; close = closing;
+  status = status;
+  media = Html;
+  length = Some size;
+  location = None;
+  cookie = Nothing;
+  allow = false;
+  state = Some number;
+  close = closing;
 }
 
 -- the head of a JSON body of so many bytes, which carries no number
 abbrev pub json_head : ℕ → ℕ → Bool → ReplyHead
 json_head status size closing = record {
-  status = status; media = Json; length = Some size; location = None; cookie = Nothing; allow = false;
-  state = None; close = closing;
+  status = status;
+  media = Json;
+  length = Some size;
+  location = None;
+  cookie = Nothing;
+  allow = false;
+  state = None;
+  close = closing;
 }
 
 unfoldable pub method_body : List ℕ

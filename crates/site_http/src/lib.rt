@@ -11,5 +11,6 @@ mod turn;
 
 pub use connection::serve_connection;
 pub use http_heads::{
-    CookieOut, Media, Octets, Parsed, ReplyHead, Request, Version, is_reply_status, parse, reply_head,
+    CookieOut, Media, Octets, Parsed, ReplyHead, Request, Version, is_reply_status, parse,
+    reply_head,
 };

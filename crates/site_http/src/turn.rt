@@ -53,13 +53,7 @@ pub fn turn<H: House, S: Source, O: Sink, C: Clock, G: Gate>(
     let closes = request.closes;
     let closing = closes || index + 1 == LIMIT;
     match answer(alloc, house, sink, clock, gate, request, closing) {
-        Outcome::Written => {
-            if closes {
-                Some(Ended::Asked)
-            } else {
-                None
-            }
-        }
+        Outcome::Written => { if closes { Some(Ended::Asked) } else { None } }
         Outcome::WriteFault => Some(Ended::WriteFault),
     }
 }
