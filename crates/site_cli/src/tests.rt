@@ -422,7 +422,7 @@ fn ends_of_connections(rt: HostRuntime) {
             b"HTTP/1.1 200 OK\r\n",
         ),
         (
-            b"POST /node HTTP/1.1\r\nHost: a\r\nContent-Type: application/json\r\nContent-Length: 120\r\n\r\n{\"fields\":{\"body\":\"Hi\"},\"title\":\"Nine\",\"t",
+            b"POST /node HTTP/1.1\r\nHost: a\r\nContent-Type: application/json\r\nContent-Length: 120\r\n\r\n{\"fields\":{\"body\":\"Hi\"},\"title\":\"Nine\",\"",
             Ended::Truncated(125),
             0,
             b"",
