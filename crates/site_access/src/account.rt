@@ -1,14 +1,16 @@
 //! A viewer with what it may do.
-ghost use Rattle.std.specs.Prelude.{◌≡◌, IfOk, map};
+ghost use Rattle.std.specs.Prelude.{◌≡◌, IfOk, map, option_copied, if◌then◌else◌};
 ghost use Rattle.std.specs.List.{filter_map};
 ghost use Rattle.content_state.specs.Rows.{role_of};
-ghost use Rattle.content_state.specs.Viewer.{roles_of, present_roles as roles_present, viewer_permissions, view_grants_of, may};
+ghost use Rattle.content_state.specs.Viewer.{present_roles as roles_present, viewer_permissions, view_grants_of, may, bypass_node_access as bypass_text};
+ghost use Rattle.content_rows.specs.Permission.{has as is_held, grants_of as grants_by};
+ghost use Rattle.content_rows.specs.declared.permission.ViewGrants.TheVariants as view_grants_are;
 ghost use Rattle.site_access.specs.Access.{owns};
 ghost use Rattle.site_access.specs.Account.{IsAccountOf, OnRows};
 
 use crate::permission;
 use cacheability::Name;
-use content_rows::{Items, Permissions, Role, ViewGrants};
+use content_rows::{Permissions, Role, User, ViewGrants};
 use content_state::{State, Viewer};
 use node_grants::grants_of;
 use std::alloc::{AllocError, Global};
@@ -31,10 +33,14 @@ impl Account {
     pub fn new(alloc: Global, state: &State, viewer: &Viewer) -> Result<Account, AllocError>
         ensures { IfOk result (λ account. IsAccountOf state.now.rows viewer.now account) }
     {
+        let (user, _) = state.user(viewer.uid);
+        let roles = present_roles(alloc, state, viewer)?;
+        let permissions = permissions_of(alloc, viewer.uid, roles.as_slice())?;
+        let grants = grants_with(alloc, &permissions, user, roles.as_slice())?;
         Ok(Account {
             viewer: *viewer,
-            permissions: permissions(alloc, state, viewer)?,
-            grants: view_grants(alloc, state, viewer)?,
+            permissions,
+            grants,
         })
     }
 
@@ -68,13 +74,26 @@ pub fn permissions(alloc: Global, state: &State, viewer: &Viewer) -> Result<Perm
 pub fn view_grants(alloc: Global, state: &State, viewer: &Viewer) -> Result<ViewGrants, AllocError>
     ensures { IfOk result (λ held. held ≡ view_grants_of state.now.rows viewer.now) }
 {
-    let held = permissions(alloc, state, viewer)?;
-    if has(&held, permission::bypass_node_access()) {
+    let (user, _) = state.user(viewer.uid);
+    let roles = present_roles(alloc, state, viewer)?;
+    let held = permissions_of(alloc, viewer.uid, roles.as_slice())?;
+    grants_with(alloc, &held, user, roles.as_slice())
+}
+
+/// The grants by which one with these permissions, this row, if there is one, and these roles may
+/// view nodes. `Err` only where memory is wanting.
+fn grants_with(
+    alloc: Global,
+    held: &Permissions,
+    user: Option<&User>,
+    roles: &[&Role],
+) -> Result<ViewGrants, AllocError>
+    ensures { IfOk result (λ grants. grants ≡ (if is_held held.now bypass_text then view_grants_are.All else view_grants_are.These (grants_by (option_copied user.entry) (map (λ role. role.now) roles.now)))) }
+{
+    if has(held, permission::bypass_node_access()) {
         return Ok(ViewGrants::All);
     }
-    let roles = present_roles(alloc, state, viewer)?;
-    let (user, _) = state.user(viewer.uid);
-    Ok(ViewGrants::These(grants_of(alloc, user, roles.as_slice())?))
+    Ok(ViewGrants::These(grants_of(alloc, user, roles)?))
 }
 
 /// The roles of a viewer that are there. `Err` only where memory is wanting.

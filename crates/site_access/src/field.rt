@@ -2,8 +2,7 @@
 ghost use Rattle.std.specs.Prelude.{◌≡◌, IfOk, IsSome, option_copied, is_some};
 ghost use Rattle.cacheability.specs.declared.max_age.MaxAge.TheVariants.{Permanent};
 ghost use Rattle.content_state.specs.Rows.{node_of};
-ghost use Rattle.content_state.specs.Viewer.{may};
-ghost use Rattle.site_access.specs.Access.{access_to_field, access_to_field_of, field_permission as permission_of, field_in as field_named, field_of, node_type_of, holds_named};
+ghost use Rattle.site_access.specs.Access.{access_to_field, access_to_field_of, field_permission as permission_of, field_in as field_named, field_of, node_type_of};
 ghost use Rattle.site_access.specs.Plans.{field_access};
 ghost use Rattle.site_access.specs.Decided.{IsDecided};
 ghost use Rattle.site_access.specs.Depends.{access_of, field_depends as depends_of_field};
