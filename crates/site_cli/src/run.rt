@@ -3,6 +3,7 @@ ghost use Rattle.std.specs.Prelude.{◌≡◌, ◌≤◌, ◌⊎◌, IfOk, map, 
 ghost use Rattle.std.specs.Arc.{arc_value};
 ghost use Rattle.std.specs.String.{string_bytes};
 ghost use Rattle.site_io.specs.Told.{after, AddsFront, Rose};
+ghost use Rattle.content_state.specs.SiteRules.{IsValidState};
 ghost use Rattle.site_cli.specs.Words.{is_replay, usage};
 ghost use Rattle.site_cli.specs.Run.{rows_of, starter_site, status_of, Runs, HasCause};
 
@@ -53,6 +54,13 @@ pub fn rows_of(alloc: Global, entries: Vec<(Cell, Row)>) -> Result<Rows, AllocEr
         rows.set(cell, row)?;
     }
     Ok(rows)
+}
+
+/// The law that the new site is valid: each of its rows is right, and no cell breaks a rule of sites.
+#[tactic(auto, using(crate::proofs::Starter::valid))]
+pub fn starter_is_valid()
+    ensures { IsValidState starter_site }
+{
 }
 
 /// The house of the starter site.

@@ -1,0 +1,25 @@
+-- The site that a new installation begins with is valid.
+use Rattle.std.proofs.Common.{◌≡◌, refl, sym, subst}
+use Rattle.std.specs.Prelude.{None, All}
+use Rattle.content_rows.specs.StarterRows.{starter_rows}
+use Rattle.content_rows.specs.ValidRow.{IsValidRow}
+use Rattle.content_rows.specs.Permission.{anonymous, authenticated}
+use Rattle.content_rows.proofs.StarterLemmas.{in_cell_order, starter_valid}
+use Rattle.content_state.specs.SiteRules.{MeetsSiteRules, IsValidState}
+use Rattle.content_state.proofs.Faults.{found_present}
+use Rattle.site_cli.specs.Run.{rows_of, starter_site}
+
+-- the rows stand in the order of their cells, so setting them in turn gives them as they are
+pub in_turn : rows_of starter_rows ≡ starter_rows
+unfolding starter_rows
+in_turn = refl
+
+meets : MeetsSiteRules starter_rows
+unfolding starter_rows anonymous authenticated
+meets = found_present starter_rows None in_cell_order refl refl
+
+pub valid : IsValidState starter_site
+valid = record {
+  rows = subst (λ rows. All (λ e. IsValidRow e.0 e.1) rows) (sym in_turn) starter_valid;
+  together = subst MeetsSiteRules (sym in_turn) meets;
+}
