@@ -1,6 +1,6 @@
 -- The rows that are there while a page is written.
-use Rattle.std.proofs.Common.{ℕ, zero, suc, List, [], ◌∷◌, ◌≡◌, ◌<◌, ◌+◌, refl, sym, ◌∙◌, ap, subst, arith, Bool, true, false, length, get_or}
-use Rattle.std.specs.Prelude.{Option, Some, None, cond, is_some}
+use Rattle.std.proofs.Common.{ℕ, zero, suc, List, [], ◌∷◌, ◌≡◌, ◌<◌, refl, sym, ◌∙◌, ap, subst, arith, Bool, true, false, length, get_or}
+use Rattle.std.specs.Prelude.{Option, Some, cond, is_some}
 use Rattle.std.specs.Option.{IsSome}
 use Rattle.std.specs.List.{find}
 use Rattle.std.specs.Str.{bytes_eq}

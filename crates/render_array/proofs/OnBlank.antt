@@ -1,10 +1,10 @@
 -- What was written on a blank sheet is what was built.
-use Rattle.std.proofs.Common.{ℕ, ◌≡◌, ◌≤◌, true, sym, subst, Bool}
+use Rattle.std.proofs.Common.{ℕ, ◌≡◌, ◌≤◌, sym, subst}
 use Rattle.std.specs.Prelude.{Option}
 use Rattle.content_state.specs.Context.{Visit}
 use Rattle.content_state.specs.Plan.{Plan, Made}
 use Rattle.render_array.specs.declared.built.Built.{Built}
-use Rattle.render_array.specs.Board.{pieces_of, NoBlocks}
+use Rattle.render_array.specs.Board.{pieces_of}
 use Rattle.render_array.specs.Built.{needs_of, Builds, Finishes}
 use Rattle.render_array.specs.Canvas.{Sheet, Renders, blank}
 use Rattle.render_array.proofs.Run.{on_blank}

@@ -17,3 +17,6 @@ pub use canvas::Canvas;
 pub use filled::assembled;
 pub use house::House;
 pub use whole_page::{PageText, page_text};
+
+#[cfg(test)]
+mod tests;

@@ -1,6 +1,5 @@
 use Rattle.std.proofs.Common.{ap}
 use Rattle.std.proofs.lemmas.Result.{IfOk-weaker}
-use Rattle.content_state.specs.Context.{Visit}
 use Rattle.render_array.specs.Built.{plan_of}
 use Rattle.render_array.proofs.OnBlank.{built_of}
 use Rattle.render_array.proofs.building.build.Goals as goal

@@ -1,6 +1,6 @@
 use Rattle.std.proofs.Common.{sym, ◌∙◌}
 use Rattle.render_array.specs.Page.{field, field_with, field_shown}
-use Rattle.render_array.proofs.Run.{runs, next, done, if_true, if_false, over_text}
+use Rattle.render_array.proofs.Run.{next, done, if_true, if_false, over_text}
 use Rattle.render_array.proofs.pages.field.Goals as goal
 
 pub returns-then-is_empty : goal.returns-then-is_empty

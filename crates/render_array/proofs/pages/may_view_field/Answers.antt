@@ -1,6 +1,6 @@
 use Rattle.std.proofs.Common.{sym, ◌∙◌}
 use Rattle.render_array.specs.Page.{may_view_field}
-use Rattle.render_array.proofs.Run.{next, done, given_by, allowed_is}
+use Rattle.render_array.proofs.Run.{next, given_by, allowed_is}
 use Rattle.render_array.proofs.pages.may_view_field.Goals as goal
 
 pub returns : goal.returns

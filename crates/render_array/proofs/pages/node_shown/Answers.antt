@@ -1,5 +1,4 @@
 use Rattle.render_array.specs.Page.{framed, page_top}
-use Rattle.render_array.specs.Pieces as pieces
 use Rattle.render_array.proofs.Run.{next, done, over_text}
 use Rattle.render_array.proofs.pages.node_shown.Goals as goal
 

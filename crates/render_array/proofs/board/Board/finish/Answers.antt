@@ -1,4 +1,4 @@
-use Rattle.std.proofs.Common.{◌∙◌, ap}
+use Rattle.std.proofs.Common.{◌∙◌}
 use Rattle.render_array.proofs.BoardLaws.{finished, more_bytes}
 use Rattle.render_array.proofs.board.Board.finish.Goals as goal
 

@@ -1,4 +1,4 @@
-use Rattle.std.proofs.Common.{◌≡◌, ap, sym, ◌∙◌, subst}
+use Rattle.std.proofs.Common.{ap, sym, ◌∙◌, subst}
 use Rattle.content_state.specs.declared.element.Hole.TheVariants as hole
 use Rattle.render_array.specs.Board.{pieces_of, NoBlocks}
 use Rattle.render_array.proofs.BoardLaws.{more_place, more_bytes, more_meta}
