@@ -60,8 +60,7 @@ pub fn rows_of(alloc: Global, entries: Vec<(Cell, Row)>) -> Result<Rows, AllocEr
 #[tactic(auto, using(crate::proofs::Starter::valid))]
 pub fn starter_is_valid()
     ensures { IsValidState starter_site }
-{
-}
+{}
 
 /// The house of the starter site.
 fn starter_house(alloc: Global) -> Result<Alone, AllocError>
