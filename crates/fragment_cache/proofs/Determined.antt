@@ -1,0 +1,43 @@
+-- A plan makes the same on every visit that agrees on what it needs.
+use Rattle.std.proofs.Common.{ℕ, List, ◌≡◌, ◌≤◌, ◌+◌, subst, arith}
+use Rattle.content_state.specs.declared.element.Library.{Library}
+use Rattle.content_state.specs.Read.{Answer, answer}
+use Rattle.content_state.specs.Context.{Visit, Value, value}
+use Rattle.content_state.specs.Plan.{Piece, Plan, Done, Write, Attach, Reading, Asking, Clock, Part, Needs, Made}
+use Rattle.fragment_cache.specs.Determined.{Agree, PagesAreDetermined, ElementsAreDetermined}
+
+made_again : {A : Type 0} (p : Plan A) (v w : Visit) (x : A) (shown : List Piece) (libraries : List Library) (needs : Needs) → Agree v w needs → Made p v x shown libraries needs → Made p w x shown libraries needs
+made_again (Done a) v w x shown libraries needs same made = made
+made_again (Write bs k) v w x shown libraries needs same made = (made.0, made.1, made_again k v w x made.0 libraries needs same made.2)
+made_again (Attach l k) v w x shown libraries needs same made = (made.0, made.1, made_again k v w x shown made.0 needs same made.2)
+made_again (Reading r k) v w x shown libraries needs same made = (
+  same.covers r made.0,
+  subst (λ (a : Answer r). Made (k a) w x shown libraries needs) (same.answers r made.0)
+      (made_again (k (answer v.rows r)) v w x shown libraries needs same made.1),
+)
+made_again (Asking c k) v w x shown libraries needs same made = (
+  same.contexts c made.0,
+  subst (λ (a : Value c). Made (k a) w x shown libraries needs) (same.values c made.0)
+      (made_again (k (value v c)) v w x shown libraries needs same made.1),
+)
+made_again (Clock age k) v w x shown libraries needs same made = (
+  made.0,
+  (let earlier = made.1 in let later = same.not_before in omega arith),
+  made.2,
+  made_again (k made.0) v w x shown libraries needs same made.3,
+)
+made_again (Part h k) v w x shown libraries needs same made = (made.0, made.1, made_again k v w x made.0 libraries needs same made.2)
+
+pub pages : PagesAreDetermined
+pages p v w x shown libraries needs made same not_over = record {
+  needs = needs;
+  not_over = not_over;
+  made = made_again p v w x shown libraries needs same made;
+}
+
+pub elements : ElementsAreDetermined
+elements p v w x shown libraries needs made same not_over = record {
+  needs = needs;
+  not_over = not_over;
+  made = made_again p v w x shown libraries needs same made;
+}
