@@ -342,15 +342,22 @@ fn pages_by_grants_and_owners(rt: HostRuntime) {
     }
 }
 
+// The club's site, in which the body of a page needs a permission that members have besides or not.
+fn secret_body(alloc: Global, more: Option<&[u8]>) -> Result<Rows, AllocError> {
+    let secret = text(alloc, b"view secret")?;
+    let rows = club(alloc, more)?;
+    with(
+        rows,
+        Cell::NodeType(name(b"page")?),
+        page_type(alloc, Some(secret), false)?,
+    )
+}
+
 #[test]
 fn a_field_that_needs_a_permission(rt: HostRuntime) {
     let alloc = rt.alloc();
     let input = b"GET /node/6 HTTP/1.1\r\nCookie: SESS=test\r\n\r\n";
-    let cell = Cell::NodeType(name(b"page").expect(&rt, "name"));
-    let secret = text(alloc, b"view secret").expect(&rt, "memory");
-    let hidden = page_type(alloc, Some(secret), false).expect(&rt, "memory");
-    let rows = club(alloc, None).expect(&rt, "memory");
-    let rows = with(rows, cell, hidden).expect(&rt, "memory");
+    let rows = secret_body(alloc, None).expect(&rt, "memory");
     assert!(rt;
         is_reply(
             alloc,
@@ -361,10 +368,7 @@ fn a_field_that_needs_a_permission(rt: HostRuntime) {
         )
         .expect(&rt, "memory")
     );
-    let secret = text(alloc, b"view secret").expect(&rt, "memory");
-    let shown = page_type(alloc, Some(secret), false).expect(&rt, "memory");
-    let rows = club(alloc, Some(b"view secret")).expect(&rt, "memory");
-    let rows = with(rows, cell, shown).expect(&rt, "memory");
+    let rows = secret_body(alloc, Some(b"view secret")).expect(&rt, "memory");
     assert!(rt;
         is_reply(
             alloc,
