@@ -2,6 +2,7 @@ pub mod Board
 pub mod Built
 pub mod Canvas
 pub mod Decision
+pub mod House
 pub mod Page
 pub mod Pieces
 pub mod Shown

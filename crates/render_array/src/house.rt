@@ -4,7 +4,7 @@ ghost use Rattle.std.specs.Arc.{arc_value};
 ghost use Rattle.content_state.specs.declared.state.State.{State};
 ghost use Rattle.content_state.specs.declared.commit.Commit.{Commit};
 ghost use Rattle.content_state.specs.Replay.{replay, Begins};
-ghost use Rattle.content_state.specs.SiteRules.{IsValidState};
+ghost use Rattle.render_array.specs.House.{AreValid};
 
 use content_state::State;
 use std::alloc::{AllocError, Global};
@@ -31,8 +31,8 @@ pub trait House {
     /// How often the keeper of the rows has failed, up to the greatest u64.
     ghost faults: { Self → ℕ };
 
-    /// The newest state: that of all edits that the caller has now seen. Where the state that was loaded is right, so is
-    /// each. `Err` only where memory is wanting.
+    /// The newest state: that of all edits that the caller has now seen. The state that was loaded is valid, and so is
+    /// each that these edits make of it. `Err` only where memory is wanting.
     fn snapshot(&mut self, alloc: Global) -> Result<Arc<State>, AllocError>
         ensures base { base self.new ≡ base self.old }
         ensures number { number self.new ≡ number self.old }
@@ -41,7 +41,7 @@ pub trait House {
         ensures grows { Begins (seen self.old) (seen self.new) }
         ensures never_falls { faults self.old ≤ faults self.new }
         ensures state { IfOk result (λ s. arc_value s ≡ replay (base self.new) (seen self.new)) }
-        ensures valid { IfOk result (λ s. IsValidState (base self.old) → IsValidState (arc_value s)) };
+        ensures valid { AreValid (base self.new) (seen self.new) };
 
     /// How often the keeper of the rows has failed, up to the greatest u64. It never falls.
     fn faults(&self) -> u64

@@ -8,7 +8,9 @@ use Rattle.content_rows.specs.declared.row.Row.{Row}
 use Rattle.content_rows.specs.StarterRows.{starter_rows}
 use Rattle.content_state.specs.Rows.{with_row}
 use Rattle.content_state.specs.declared.state.State.{State}
+use Rattle.site_io.specs.Series.{AreFirstOf, last_moment}
 use Rattle.site_http.specs.Connection.{Connection}
+use Rattle.site_cli.specs.Place.{none_given}
 use Rattle.site_cli.specs.Words.{usage}
 
 -- the map of these rows: each is set in turn
@@ -30,12 +32,13 @@ status_of ended.ReadFault = 5
 status_of ended.WriteFault = 6
 status_of ended.OutOfMemory = 9
 
--- One connection over the starter site was answered, from the input to the output: at moments of the place's clock,
--- each reply on the one state that there is.
-pub record Replays (given left left-after written written-after : Option (List ℕ)) (status : ℕ) : Type 0 where
+-- One connection over the starter site was answered, from the input to the output: at the moments of the place's list,
+-- in turn, each reply on the one state that there is.
+pub record Replays (moments left left-after written written-after : Option (List ℕ)) (status : ℕ) : Type 0 where
   pub end : Ended
-  pub given-after : Option (List ℕ)
-  pub connection : Connection end left left-after given given-after written written-after starter_site [] 1000 0
+  pub given : Option (List ℕ)
+  pub in_turn : AreFirstOf last_moment moments given
+  pub connection : Connection end left left-after (none_given moments) given written written-after starter_site [] 1000 0
   pub status_is : status ≡ status_of end
 
 -- memory was wanting before anything was taken or written
@@ -52,9 +55,9 @@ pub record Refuses (left left-after written written-after : Option (List ℕ)) (
 
 -- what the program did, by whether its words ask for a replay
 abbrev pub Runs : Bool → Option (List ℕ) → Option (List ℕ) → Option (List ℕ) → Option (List ℕ) → Option (List ℕ) → ℕ → ℕ → ℕ → Type 0
-Runs true given left left-after written written-after writing writing-after status =
-    Replays given left left-after written written-after status ⊎ Starves left left-after written written-after status
-Runs false given left left-after written written-after writing writing-after status =
+Runs true moments left left-after written written-after writing writing-after status =
+    Replays moments left left-after written written-after status ⊎ Starves left left-after written written-after status
+Runs false moments left left-after written written-after writing writing-after status =
     Refuses left left-after written written-after writing writing-after status
 
 -- a fault of the input or the output is told only where its count rose

@@ -1,5 +1,6 @@
 //! Where the program works: what gives it moments, words of chance, and a gate.
 ghost use Rattle.std.specs.Prelude.{◌≡◌, ℕ, List, [], Option, Some, None};
+ghost use Rattle.site_cli.specs.Place.{none_given};
 
 use site_io::{
     Clock, Entropy, Gate, ListClock, ListEntropy, MemorySink, MemorySource, OpenGate, Reading,
@@ -7,6 +8,7 @@ use site_io::{
 };
 use std::alloc::Global;
 use std::io::{Stdin, Stdout};
+use std::marker::Model;
 use std::mem;
 
 /// A place that the program works at. Its input and its output are handed to the program beside it.
@@ -21,21 +23,31 @@ pub trait Place {
 
     type Gate: Gate + Drop;
 
-    /// The moments that its next clock has given before it is handed out, where that tells them.
-    ghost given: { Self → Option (List ℕ) };
+    /// The moments that its next clock is to give, where it tells them.
+    ghost moments: { Self → Option (List ℕ) };
 
-    /// A clock.
+    /// The words that its next entropy is to give, where it tells them.
+    ghost words: { Self → Option (List ℕ) };
+
+    /// A clock, which has given no moment yet.
     fn clock(&mut self) -> Self::Clock
-        ensures { Self.Clock.given result ≡ given self.old };
+        ensures moments { Self.Clock.moments result ≡ moments self.old }
+        ensures begins { Self.Clock.given result ≡ none_given (moments self.old) }
+        ensures words { words self.new ≡ words self.old };
 
-    /// Entropy.
-    fn entropy(&mut self) -> Self::Entropy;
+    /// Entropy, which has given no word yet.
+    fn entropy(&mut self) -> Self::Entropy
+        ensures words { Self.Entropy.words result ≡ words self.old }
+        ensures begins { Self.Entropy.given result ≡ none_given (words self.old) }
+        ensures moments { moments self.new ≡ moments self.old };
 
     /// A gate.
-    fn gate(&mut self) -> Self::Gate;
+    fn gate(&mut self) -> Self::Gate
+        ensures moments { moments self.new ≡ moments self.old }
+        ensures words { words self.new ≡ words self.old };
 }
 
-/// A place in memory: its clock gives the moments of a list, and its entropy the words of one.
+/// A place in memory: its clock gives the moments of a list, and its entropy the words of one, which it tells beforehand.
 #[derive(Drop)]
 pub struct MemoryPlace {
     moments: Vec<u64>,
@@ -43,9 +55,20 @@ pub struct MemoryPlace {
     alloc: Global,
 }
 
+impl Model for MemoryPlace {
+    ghost use Rattle.site_cli.specs.Place.{Lists};
+
+    ghost Value = { Lists };
+
+    ghost view = { λ p. record { moments = p.moments.items; words = p.words.items } };
+}
+
 impl MemoryPlace {
-    /// The place whose first clock gives these moments, and whose first entropy gives these words.
-    pub fn new(alloc: Global, moments: Vec<u64>, words: Vec<u64>) -> MemoryPlace {
+    /// The place whose first clock gives these moments, and whose first entropy gives these words. Those after them have
+    /// no list.
+    pub fn new(alloc: Global, moments: Vec<u64>, words: Vec<u64>) -> MemoryPlace
+        ensures { result ≡ record { moments = moments.items; words = words.items } }
+    {
         MemoryPlace {
             moments,
             words,
@@ -65,7 +88,9 @@ impl Place for MemoryPlace {
 
     type Gate = OpenGate;
 
-    ghost given = { λ _. Some [] };
+    ghost moments = { λ p. Some p.moments };
+
+    ghost words = { λ p. Some p.words };
 
     fn clock(&mut self) -> ListClock {
         ListClock::new(mem::replace(&mut self.moments, Vec::new(self.alloc)))
@@ -104,7 +129,9 @@ impl Place for SystemPlace {
 
     type Gate = OpenGate;
 
-    ghost given = { λ _. None };
+    ghost moments = { λ _. None };
+
+    ghost words = { λ _. None };
 
     fn clock(&mut self) -> SystemClock<HostRuntime> {
         SystemClock::new(self.rt)

@@ -1,6 +1,5 @@
 //! What the program does.
 ghost use Rattle.std.specs.Prelude.{◌≡◌, ◌≤◌, ◌⊎◌, IfOk, map, true};
-ghost use Rattle.std.specs.Arc.{arc_value};
 ghost use Rattle.std.specs.String.{string_bytes};
 ghost use Rattle.site_io.specs.Told.{after, AddsFront, Rose};
 ghost use Rattle.content_state.specs.SiteRules.{IsValidState};
@@ -62,22 +61,34 @@ pub fn starter_is_valid()
     ensures { IsValidState starter_site }
 {}
 
-/// The house of the starter site.
-fn starter_house(alloc: Global) -> Result<Alone, AllocError>
-    ensures { IfOk result (λ house. arc_value house.state ≡ starter_site) }
+/// The starter site.
+fn starter_state(alloc: Global) -> Result<State, AllocError>
+    ensures { IfOk result (λ s. s ≡ starter_site) }
 {
-    let rows = rows_of(alloc, starter(alloc)?)?;
-    let state = State {
-        rows,
+    Ok(State {
+        rows: rows_of(alloc, starter(alloc)?)?,
         counts: Counts::new(alloc),
         number: 0,
-    };
-    Ok(Alone::new(Arc::new(alloc, state)?))
+    })
+}
+
+/// The house of the starter site.
+fn starter_house(alloc: Global) -> Result<Alone, AllocError>
+    ensures { IfOk result (λ house. house ≡ starter_site) }
+{
+    let state = Arc::new(alloc, starter_state(alloc)?)?;
+    Ok(Alone::new(state))
 }
 
 /// Answers one connection over the starter site.
-fn replay<P: Place>(alloc: Global, place: &mut P, input: &mut P::In, output: &mut P::Out) -> u8
-    ensures runs { Runs true (P.given place.old) (P.In.left input.old) (P.In.left input.new) (P.Out.written output.old) (P.Out.written output.new) (P.Out.faults output.old) (P.Out.faults output.new) result }
+fn replay<P: Place>(
+    rt: &HostRuntime,
+    alloc: Global,
+    place: &mut P,
+    input: &mut P::In,
+    output: &mut P::Out,
+) -> u8
+    ensures runs { Runs true (P.moments place.old) (P.In.left input.old) (P.In.left input.new) (P.Out.written output.old) (P.Out.written output.new) (P.Out.faults output.old) (P.Out.faults output.new) result }
     ensures cause { HasCause result (P.In.faults input.old) (P.In.faults input.new) (P.Out.faults output.old) (P.Out.faults output.new) }
 {
     let mut clock = place.clock();
@@ -87,6 +98,7 @@ fn replay<P: Place>(alloc: Global, place: &mut P, input: &mut P::In, output: &mu
         return 9;
     };
     let ended = serve_connection(
+        rt,
         alloc,
         &mut house,
         input,
@@ -104,18 +116,18 @@ fn replay<P: Place>(alloc: Global, place: &mut P, input: &mut P::In, output: &mu
 /// printed. 5, 6: the input or the output failed, and its count of faults rose. 8: the connection was refused, or its
 /// input ended within a request. 9: memory was wanting.
 pub fn run_site<P: Place>(
-    _rt: &HostRuntime,
+    rt: &HostRuntime,
     alloc: Global,
     words: &[String],
     place: &mut P,
     input: &mut P::In,
     output: &mut P::Out,
 ) -> u8
-    ensures runs { Runs (is_replay (map string_bytes words.now)) (P.given place.old) (P.In.left input.old) (P.In.left input.new) (P.Out.written output.old) (P.Out.written output.new) (P.Out.faults output.old) (P.Out.faults output.new) result }
+    ensures runs { Runs (is_replay (map string_bytes words.now)) (P.moments place.old) (P.In.left input.old) (P.In.left input.new) (P.Out.written output.old) (P.Out.written output.new) (P.Out.faults output.old) (P.Out.faults output.new) result }
     ensures cause { HasCause result (P.In.faults input.old) (P.In.faults input.new) (P.Out.faults output.old) (P.Out.faults output.new) }
 {
     match read_words(alloc, words) {
-        Ok(Job::Replay) => replay(alloc, place, input, output),
+        Ok(Job::Replay) => replay(rt, alloc, place, input, output),
         Err(_) => refuse_words(output),
     }
 }

@@ -190,25 +190,33 @@ fn club(alloc: Global, more: Option<&[u8]>) -> Result<Rows, AllocError> {
     )
 }
 
-// How a connection over these rows ends, and what is written, where the input comes in pieces of at most so many bytes.
-fn answered(
-    alloc: Global,
-    rows: Rows,
-    input: &[u8],
-    piece: usize,
-) -> Result<(Ended, Vec<u8>), AllocError> {
+// The house of these rows, which make a valid state.
+fn house_of(rt: &HostRuntime, alloc: Global, rows: Rows) -> Result<Alone, AllocError> {
     let state = State {
         rows,
         counts: Counts::new(alloc),
         number: 0,
     };
-    let mut house = Alone::new(Arc::new(alloc, state)?);
+    assert!(rt; state.is_valid());
+    Ok(Alone::new(Arc::new(alloc, state)?))
+}
+
+// How a connection over these rows ends, and what is written, where the input comes in pieces of at most so many bytes.
+fn answered(
+    rt: &HostRuntime,
+    rows: Rows,
+    input: &[u8],
+    piece: usize,
+) -> Result<(Ended, Vec<u8>), AllocError> {
+    let alloc = rt.alloc();
+    let mut house = house_of(rt, alloc, rows)?;
     let mut source = MemorySource::new(Vec::from_slice(alloc, input)?, piece);
     let mut sink = MemorySink::new(alloc, 400_000)?;
     let mut clock = ListClock::new(Vec::from_slice(alloc, &[1000])?);
     let mut entropy = ListEntropy::new(Vec::new(alloc));
     let mut gate = OpenGate;
     let ended = serve_connection(
+        rt,
         alloc,
         &mut house,
         &mut source,
@@ -222,13 +230,13 @@ fn answered(
 
 // Whether what is written begins with the head of this status line and length, and has this piece.
 fn is_reply(
-    alloc: Global,
+    rt: &HostRuntime,
     rows: Rows,
     input: &[u8],
     head: &[u8],
     piece: &[u8],
 ) -> Result<bool, AllocError> {
-    let (ended, output) = answered(alloc, rows, input, 16)?;
+    let (ended, output) = answered(rt, rows, input, 16)?;
     let found = output
         .windows(piece.len().max(1))
         .any(|window| window == piece);
@@ -240,7 +248,7 @@ fn the_first_page_in_pieces(rt: HostRuntime) {
     let alloc = rt.alloc();
     for piece in [1, 7, 16, 512] {
         let rows = starting(alloc).expect(&rt, "memory");
-        let (ended, output) = answered(alloc, rows, FIRST, piece).expect(&rt, "memory");
+        let (ended, output) = answered(&rt, rows, FIRST, piece).expect(&rt, "memory");
         assert!(rt; ended == Ended::Closed);
         assert!(rt; output.as_slice() == FIRST_REPLY);
     }
@@ -273,7 +281,7 @@ fn other_replies(rt: HostRuntime) {
     ];
     for (input, head, piece) in cases {
         let rows = starting(alloc).expect(&rt, "memory");
-        assert!(rt; is_reply(alloc, rows, input, head, piece).expect(&rt, "memory"));
+        assert!(rt; is_reply(&rt, rows, input, head, piece).expect(&rt, "memory"));
     }
 }
 
@@ -286,7 +294,7 @@ fn a_site_that_shows_nobody_its_content(rt: HostRuntime) {
     let rows = with(rows, cell, nothing).expect(&rt, "memory");
     assert!(rt;
         is_reply(
-            alloc,
+            &rt,
             rows,
             FIRST,
             b"HTTP/1.1 403 Forbidden\r\nContent-Type: text/html; charset=UTF-8\r\nContent-Length: 294\r\n",
@@ -338,7 +346,7 @@ fn pages_by_grants_and_owners(rt: HostRuntime) {
     ];
     for (input, head, piece) in cases {
         let rows = club(alloc, None).expect(&rt, "memory");
-        assert!(rt; is_reply(alloc, rows, input, head, piece).expect(&rt, "memory"));
+        assert!(rt; is_reply(&rt, rows, input, head, piece).expect(&rt, "memory"));
     }
 }
 
@@ -360,7 +368,7 @@ fn a_field_that_needs_a_permission(rt: HostRuntime) {
     let rows = secret_body(alloc, None).expect(&rt, "memory");
     assert!(rt;
         is_reply(
-            alloc,
+            &rt,
             rows,
             input,
             b"HTTP/1.1 200 OK\r\nContent-Type: text/html; charset=UTF-8\r\nContent-Length: 218\r\n",
@@ -371,7 +379,7 @@ fn a_field_that_needs_a_permission(rt: HostRuntime) {
     let rows = secret_body(alloc, Some(b"view secret")).expect(&rt, "memory");
     assert!(rt;
         is_reply(
-            alloc,
+            &rt,
             rows,
             input,
             b"HTTP/1.1 200 OK\r\nContent-Type: text/html; charset=UTF-8\r\nContent-Length: 251\r\n",
@@ -389,16 +397,16 @@ fn sessions_that_are_not_live(rt: HostRuntime) {
     let rows = club(alloc, None).expect(&rt, "memory");
     let rows = with(rows, Cell::Session(token), session(2, 1000)).expect(&rt, "memory");
     assert!(rt;
-        is_reply(alloc, rows, input, b"HTTP/1.1 403 ", b"Access denied").expect(&rt, "memory")
+        is_reply(&rt, rows, input, b"HTTP/1.1 403 ", b"Access denied").expect(&rt, "memory")
     );
     let rows = club(alloc, None).expect(&rt, "memory");
     let rows = with(rows, Cell::Session(token), session(2, 1001)).expect(&rt, "memory");
-    assert!(rt; is_reply(alloc, rows, input, b"HTTP/1.1 200 ", b"Six").expect(&rt, "memory"));
+    assert!(rt; is_reply(&rt, rows, input, b"HTTP/1.1 200 ", b"Six").expect(&rt, "memory"));
     let rows = club(alloc, None).expect(&rt, "memory");
     let blocked = user(alloc, b"two", b"u-2", false, Items::none(alloc)).expect(&rt, "memory");
     let rows = with(rows, Cell::User(2), blocked).expect(&rt, "memory");
     assert!(rt;
-        is_reply(alloc, rows, input, b"HTTP/1.1 403 ", b"Access denied").expect(&rt, "memory")
+        is_reply(&rt, rows, input, b"HTTP/1.1 403 ", b"Access denied").expect(&rt, "memory")
     );
 }
 
@@ -440,7 +448,7 @@ fn ends_of_connections(rt: HostRuntime) {
     ];
     for (input, end, length, head) in cases {
         let rows = starting(alloc).expect(&rt, "memory");
-        let (ended, output) = answered(alloc, rows, input, 512).expect(&rt, "memory");
+        let (ended, output) = answered(&rt, rows, input, 512).expect(&rt, "memory");
         assert!(rt; ended == end);
         assert!(rt; output.len() == length);
         assert!(rt; output.as_slice().starts_with(head));
@@ -455,7 +463,7 @@ fn the_last_reply_of_a_connection(rt: HostRuntime) {
         input.extend_from_slice(FIRST).expect(&rt, "memory");
     }
     let rows = starting(alloc).expect(&rt, "memory");
-    let (ended, output) = answered(alloc, rows, &input, 512).expect(&rt, "memory");
+    let (ended, output) = answered(&rt, rows, &input, 512).expect(&rt, "memory");
     assert!(rt; ended == Ended::Spent);
     assert!(rt; output.len() == 355_019);
     assert!(rt; output.as_slice().starts_with(FIRST_REPLY));
@@ -470,7 +478,7 @@ fn a_head_without_end(rt: HostRuntime) {
         input.push(b'a').expect(&rt, "memory");
     }
     let rows = starting(alloc).expect(&rt, "memory");
-    let (ended, output) = answered(alloc, rows, &input, 4096).expect(&rt, "memory");
+    let (ended, output) = answered(&rt, rows, &input, 4096).expect(&rt, "memory");
     assert!(rt; ended == Ended::Refused(431));
     assert!(rt;
         output.as_slice()

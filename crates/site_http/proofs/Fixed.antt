@@ -1,5 +1,5 @@
 -- The fixed texts are the replies that they stand for.
-use Rattle.std.proofs.Common.{◌≡◌, refl, Bool, true, false}
+use Rattle.std.proofs.Common.{◌≡◌, refl, true, false}
 use Rattle.std.specs.Fmt.{digits}
 use Rattle.http_heads.specs.Reply.{head_text, version_mark, space, phrase_of, line_end, json_line, length_mark, close_line}
 use Rattle.site_http.specs.Reply.{bad_request, body_too_large, head_too_large, no_coding, memory_body, refusal_with, memory_text}

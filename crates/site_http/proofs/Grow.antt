@@ -1,11 +1,12 @@
-use Rattle.std.proofs.Common.{◌≡◌, ◌∙◌, ◌++◌, ◌+◌, ◌-◌, ◌≤◌, List, [], ◌∷◌, ℕ, Bool, take, length, ap, sym, refl, subst, arith, length-append, append_assoc, inl, inr}
+use Rattle.std.proofs.Common.{◌≡◌, ◌∙◌, ◌++◌, ◌+◌, ◌-◌, ◌≤◌, List, [], ◌∷◌, ℕ, Bool, length, ap, sym, refl, subst, arith, length-append, append_assoc, inl, inr}
 use Rattle.std.proofs.lemmas.List.{take-append-le, append-nil}
 use Rattle.content_state.specs.declared.state.State.{State}
 use Rattle.content_state.specs.declared.commit.Commit.{Commit}
 use Rattle.content_state.specs.Replay.{replay, state_at}
+use Rattle.content_state.specs.SiteRules.{IsValidState}
 use Rattle.http_heads.specs.declared.request.Request.{Request}
-use Rattle.site_http.specs.Reply.{Answers, IsReply, IsReplyTo, ask_of, is_get}
-use Rattle.site_http.specs.Connection.{IsText, NextText, Texts, closes_after}
+use Rattle.site_http.specs.Reply.{Answers, IsReply, ask_of, is_get}
+use Rattle.site_http.specs.Connection.{IsText, Texts, closes_after}
 
 -- a reply stays one when the log grows
 pub reply_grows : (base : State) (log more : List Commit) (number : ℕ) (request : Request) (moment : ℕ) (closing : Bool) (text : List ℕ) → IsReply base log number request moment closing text → IsReply base (log ++ more) number request moment closing text
@@ -19,6 +20,7 @@ reply_grows base log more number request moment closing text r =
       from = from;
       to = omega (arith, length-append log more);
       number_is = ap (λ (t : State). t.number) same ∙ r.number_is;
+      valid = subst IsValidState (sym same) r.valid;
       answers = subst (λ (t : State). Answers (is_get request) t (ask_of request) moment closing text) (sym same) r.answers;
     }
 

@@ -1,19 +1,17 @@
-use Rattle.std.proofs.Common.{◌≡◌, ◌∙◌, ◌++◌, ◌+◌, ◌-◌, ◌<◌, ◌≤◌, ◌⊎◌, List, [], ◌∷◌, ℕ, suc, Bool, true, false, Option, Some, None, take, drop, length, ap, sym, refl, subst, arith, length-append, append_assoc, inl, inr}
-use Rattle.std.proofs.lemmas.List.{append-nil, take_all}
-use Rattle.std.proofs.Math.Seq.{take-append-add, take-append_seam}
+use Rattle.std.proofs.Common.{◌≡◌, ◌∙◌, ◌++◌, ◌+◌, ◌-◌, ◌<◌, ◌≤◌, ◌⊎◌, List, [], ◌∷◌, ℕ, suc, true, false, Option, take, length, ap, sym, refl, subst, arith, length-append, append_assoc, inl, inr}
+use Rattle.std.proofs.lemmas.List.{append-nil}
 use Rattle.content_state.specs.declared.state.State.{State}
 use Rattle.content_state.specs.declared.commit.Commit.{Commit}
 use Rattle.content_state.specs.Replay.{Begins}
-use Rattle.site_io.specs.Told.{before, after, IsNothingLeft, AddsFront}
+use Rattle.site_io.specs.Told.{before, after}
 use Rattle.http_heads.specs.declared.request.Request.{Request}
-use Rattle.http_heads.specs.declared.parsed.Parsed.TheVariants.{Whole, More, Refused}
+use Rattle.http_heads.specs.declared.parsed.Parsed.TheVariants.{Whole, Refused}
 use Rattle.http_heads.specs.Parses.{Parses}
 use Rattle.http_heads.specs.Requests.{End, Empty, Asks, Limit, Code, Cut, ending, Reads}
 use Rattle.http_heads.proofs.Laws.{reads_next, reads_closing, reads_refused, reads_part}
-use Rattle.site_http.specs.declared.answer.Outcome.TheVariants.{Written, WriteFault}
-use Rattle.site_http.specs.Reply.{IsReply, memory_text, refusal_text}
-use Rattle.site_http.specs.Connection.{newest, closes_after, IsText, Texts, Went, Answered, Interrupted, Starved, NextReply, NextRefusal, Broken}
-use Rattle.site_http.specs.Turn.{IsMade, Replies, TookOne, Ends, Refuses, FailsToRead, Starves, HalfAnswered, HalfRefused}
+use Rattle.site_http.specs.Reply.{refusal_text}
+use Rattle.site_http.specs.Connection.{newest, closes_after, IsText, Texts, Went, Answered, Interrupted, Starved, NextReply, Broken}
+use Rattle.site_http.specs.Turn.{IsMade, TookOne, Ends, Refuses, FailsToRead, Starves, HalfAnswered, HalfRefused}
 use Rattle.site_http.proofs.Told.{before_before, after_after, before_nothing, after_nothing}
 use Rattle.site_http.proofs.Grow.{texts_grow, texts_more}
 
@@ -72,6 +70,9 @@ same_texts : {left left' given given' written written' : Option (List ℕ)} {bas
 same_texts {left} {left'} {given} {given'} {written} {written'} {base} {log} {log'} {limit} {low} {count} {buffer} grown p =
     subst (λ (l : List Commit). Texts base l limit 0 low p.done p.moments p.text p.high) (sym grown.1)
     (texts_grow base log grown.0 limit 0 low p.done p.moments p.text p.high p.texts)
+
+pub begins_same : (log : List Commit) → Begins log log
+begins_same log = ([], sym (append-nil log))
 
 longer : (base : State) (log log' : List Commit) → Begins log log' → newest base log ≤ newest base log'
 longer base log log' grown = omega (arith, ap length grown.1, length-append log grown.0)
@@ -223,6 +224,11 @@ starved_at {left} {left'} {left''} {given} {given'} {given''} {written} {written
       not_above = omega arith;
     }
 
+-- nothing was taken yet
+pub starved_first : (left given written : Option (List ℕ)) (base : State) (log : List Commit) (limit : ℕ) → Starved left left given given written written base log limit (newest base log)
+starved_first left given written base log limit =
+    starved_at (begins_same log) (begun left given written base log limit) (record { more = []; source = before_nothing left; clock = refl; sink = refl })
+
 -- a reply that was made, as the next text
 next_reply : {left left' given given' written written' : Option (List ℕ)} {base : State} {log log' : List Commit} {limit low count : ℕ} {buffer : List ℕ} (request : Request) (size moment : ℕ) (rest mine : List ℕ) → Begins log log' → (p : Progress left left' given given' written written' base log limit low count buffer) → Parses rest (Whole request size) → IsMade base log' request moment (closes_after limit count request) mine → NextReply base log' limit (length p.done) p.high rest (moment ∷ []) mine
 next_reply {left} {left'} {given} {given'} {written} {written'} {base} {log} {log'} {limit} {low} {count} {buffer} request size moment rest mine grown p parses made =
@@ -283,9 +289,6 @@ half_refused_at {left} {left'} {left''} {given} {given'} {given''} {written} {wr
 pub rebased : {left left' given given' written written' : Option (List ℕ)} {base base' : State} {log : List Commit} {limit low count : ℕ} {buffer : List ℕ} → base' ≡ base → Progress left left' given given' written written' base log limit low count buffer → Progress left left' given given' written written' base' log limit low count buffer
 rebased {left} {left'} {given} {given'} {written} {written'} {base} {base'} {log} {limit} {low} {count} {buffer} e p =
     subst (λ (b : State). Progress left left' given given' written written' b log limit low count buffer) (sym e) p
-
-pub begins_same : (log : List Commit) → Begins log log
-begins_same log = ([], sym (append-nil log))
 
 pub begins_more : (a b c : List Commit) → Begins a b → Begins b c → Begins a c
 begins_more a b c f g = (f.0 ++ g.0, g.1 ∙ ap (λ (xs : List Commit). xs ++ g.0) f.1 ∙ append_assoc a f.0 g.0)

@@ -1,5 +1,5 @@
 -- What a connection takes, shows and writes, by how it ends: the promise of the whole host.
-use Rattle.std.specs.Prelude.{ℕ, List, [], ◌∷◌, ◌++◌, ◌≡◌, ◌≤◌, ◌<◌, ◌+◌, ◌-◌, ◌==◌, ◌||◌, ◌⊎◌, Bool, Option, take, length}
+use Rattle.std.specs.Prelude.{ℕ, List, [], ◌∷◌, ◌++◌, ◌≡◌, ◌≤◌, ◌+◌, ◌-◌, ◌==◌, ◌||◌, ◌⊎◌, Bool, Option, take, length}
 use Rattle.content_state.specs.declared.state.State.{State}
 use Rattle.content_state.specs.declared.commit.Commit.{Commit}
 use Rattle.site_io.specs.declared.ended.Ended.{Ended}

@@ -6,6 +6,7 @@ use Rattle.content_state.specs.declared.ask.Ask.{Ask}
 use Rattle.content_state.specs.declared.state.State.{State}
 use Rattle.content_state.specs.declared.commit.Commit.{Commit}
 use Rattle.content_state.specs.Replay.{state_at}
+use Rattle.content_state.specs.SiteRules.{IsValidState}
 use Rattle.render_array.specs.Shown.{IsPage}
 use Rattle.http_heads.specs.declared.request.Request.{Request}
 use Rattle.http_heads.specs.declared.reply.ReplyHead.{ReplyHead}
@@ -102,11 +103,12 @@ Answers true state ask moment closing text = IsPageReply state ask moment closin
 Answers false state ask moment closing text = text ≡ method_text state.number closing
 
 -- A reply carries a number of the log, the base's or that after one of its commits, and is the plain site's on the
--- state of that number.
+-- state of that number, which is valid.
 pub record IsReplyTo (base : State) (log : List Commit) (number : ℕ) (is_page : Bool) (ask : Ask) (moment : ℕ) (closing : Bool) (text : List ℕ) : Type 0 where
   pub from : base.number ≤ number
   pub to : number ≤ base.number + length log
   pub number_is : (state_at base log number).number ≡ number
+  pub valid : IsValidState (state_at base log number)
   pub answers : Answers is_page (state_at base log number) ask moment closing text
 
 abbrev pub IsReply : State → List Commit → ℕ → Request → ℕ → Bool → List ℕ → Type 0

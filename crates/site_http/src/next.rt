@@ -1,11 +1,12 @@
 //! The next request, in whatever pieces it comes.
-ghost use Rattle.std.specs.Prelude.{◌≡◌, ◌++◌, ◌≤◌, ◌<◌, OnOk, IfOk, OnErr, IfErr, length, drop};
+ghost use Rattle.std.specs.Prelude.{◌≡◌, ◌++◌, ◌≤◌, ◌<◌, [], OnOk, IfOk, OnErr, IfErr, length, drop};
 ghost use Rattle.site_io.specs.Told.{before, IsNothingLeft};
 ghost use Rattle.site_http.specs.Turn.{Takes, ReadsMore, NotRead, Fetches, Faulted, FaultedNext, Decided};
 
-use http_heads::{Parsed, Request, parse};
+use http_heads::{HeadRoom, Parsed, Request, parse_in};
 use site_io::Source;
 use std::alloc::{AllocError, Global};
+use std::marker::Model;
 
 /// Why nothing came.
 #[derive(Clone, Copy, Debug, PartialEq, Eq)]
@@ -17,7 +18,7 @@ pub enum Trouble {
 /// What comes next.
 #[derive(Drop)]
 pub enum Next {
-    /// A whole request, which is taken off the buffer.
+    /// A whole request, which is taken out of the inbox.
     Request(Request),
     /// What is refused with a code.
     Refused(u16),
@@ -27,65 +28,91 @@ pub enum Next {
     Trouble(Trouble),
 }
 
-/// Adds the next piece to the buffer, and answers whether there was one.
-fn read_more<S: Source>(source: &mut S, buffer: &mut Vec<u8>) -> Result<bool, Trouble>
-    ensures ok { IfOk result (λ some. ReadsMore (S.left source.old) (S.left source.new) buffer.old.items buffer.new.items some) }
-    ensures err { IfErr result (λ e. NotRead e (S.left source.old) (S.left source.new)) }
-    ensures same { OnErr result (buffer.new.items ≡ buffer.old.items) }
-    ensures cause { IfErr result (λ e. Faulted e (S.faults source.old) (S.faults source.new)) }
-    ensures never_falls { S.faults source.old ≤ S.faults source.new }
-{
-    let mut piece = [0u8; 512];
-    let Ok(n) = source.read(&mut piece) else {
-        return Err(Trouble::ReadFault);
-    };
-    let (came, _) = piece.split_at(n);
-    let Ok(()) = buffer.extend_from_slice(came) else {
-        return Err(Trouble::OutOfMemory);
-    };
-    Ok(n > 0)
+/// What a connection reads into: the bytes that came and were not taken yet, which is all that contracts see of it, and
+/// room for the places of a head's fields.
+#[derive(Drop)]
+pub struct Inbox {
+    bytes: Vec<u8>,
+    room: HeadRoom,
 }
 
-/// Drops the bytes of a request.
-fn drop_front(buffer: &mut Vec<u8>, n: usize) -> Result<(), AllocError>
-    requires { n ≤ length buffer.old.items }
-    ensures { OnOk result (buffer.new.items ≡ drop n buffer.old.items) }
-{
-    let tail = buffer.split_off(n)?;
-    *buffer = tail;
-    Ok(())
+impl Model for Inbox {
+    ghost use Rattle.std.specs.Prelude.{List, ℕ};
+
+    ghost Value = { List ℕ };
+
+    ghost view = { λ i. i.bytes.items };
 }
 
-/// What the buffer begins with, and without it where it is a request; or that more must be read.
-fn take_next(alloc: Global, buffer: &mut Vec<u8>) -> Option<Next>
-    ensures { Decided result buffer.old.items buffer.new.items }
-{
-    match parse(alloc, buffer) {
-        Err(_) => Some(Next::Trouble(Trouble::OutOfMemory)),
-        Ok(Parsed::More) => None,
-        Ok(Parsed::Refused(code)) => Some(Next::Refused(code)),
-        Ok(Parsed::Whole(request, n)) => match drop_front(buffer, n) {
-            Ok(()) => Some(Next::Request(request)),
-            Err(_) => Some(Next::Trouble(Trouble::OutOfMemory)),
-        },
+impl Inbox {
+    /// Nothing came yet. `Err` only where memory is wanting.
+    pub fn new(alloc: Global) -> Result<Inbox, AllocError>
+        ensures { IfOk result (λ inbox. inbox ≡ []) }
+    {
+        Ok(Inbox {
+            bytes: Vec::new(alloc),
+            room: HeadRoom::new(alloc)?,
+        })
     }
-}
 
-/// The next request of what stands in the buffer and of what the source has left. More is read only where the bytes so
-/// far are a part of a request.
-pub fn next_request<S: Source>(alloc: Global, source: &mut S, buffer: &mut Vec<u8>) -> Next
-    ensures fetches { Fetches (S.left source.old) (S.left source.new) buffer.old.items buffer.new.items result }
-    ensures cause { FaultedNext result (S.faults source.old) (S.faults source.new) }
-    ensures never_falls { S.faults source.old ≤ S.faults source.new }
-{
-    'pieces: loop {
-        if let Some(next) = take_next(alloc, buffer) {
-            return next;
+    /// Adds the next piece of the source, and answers whether there was one.
+    fn read_more<S: Source>(&mut self, source: &mut S) -> Result<bool, Trouble>
+        ensures ok { IfOk result (λ some. ReadsMore (S.left source.old) (S.left source.new) self.old self.new some) }
+        ensures err { IfErr result (λ e. NotRead e (S.left source.old) (S.left source.new)) }
+        ensures same { OnErr result (self.new ≡ self.old) }
+        ensures cause { IfErr result (λ e. Faulted e (S.faults source.old) (S.faults source.new)) }
+        ensures never_falls { S.faults source.old ≤ S.faults source.new }
+    {
+        let mut piece = [0u8; 512];
+        let Ok(n) = source.read(&mut piece) else {
+            return Err(Trouble::ReadFault);
+        };
+        let (came, _) = piece.split_at(n);
+        let Ok(()) = self.bytes.extend_from_slice(came) else {
+            return Err(Trouble::OutOfMemory);
+        };
+        Ok(n > 0)
+    }
+
+    /// Drops the bytes of a request.
+    fn drop_front(&mut self, n: usize)
+        requires { n ≤ length self.old }
+        ensures { self.new ≡ drop n self.old }
+    {
+        drop(self.bytes.drain(..n));
+    }
+
+    /// What the bytes begin with, and without it where it is a request; or that more must be read.
+    fn take_next(&mut self, alloc: Global) -> Option<Next>
+        ensures { Decided result self.old self.new }
+    {
+        match parse_in(alloc, &self.bytes, &mut self.room) {
+            Err(_) => Some(Next::Trouble(Trouble::OutOfMemory)),
+            Ok(Parsed::More) => None,
+            Ok(Parsed::Refused(code)) => Some(Next::Refused(code)),
+            Ok(Parsed::Whole(request, n)) => {
+                self.drop_front(n);
+                Some(Next::Request(request))
+            }
         }
-        match read_more(source, buffer) {
-            Ok(true) => {}
-            Ok(false) => return Next::End(buffer.len()),
-            Err(trouble) => return Next::Trouble(trouble),
+    }
+
+    /// The next request of what came and of what the source has left. More is read only where the bytes so far are a part
+    /// of a request.
+    pub fn next_request<S: Source>(&mut self, alloc: Global, source: &mut S) -> Next
+        ensures fetches { Fetches (S.left source.old) (S.left source.new) self.old self.new result }
+        ensures cause { FaultedNext result (S.faults source.old) (S.faults source.new) }
+        ensures never_falls { S.faults source.old ≤ S.faults source.new }
+    {
+        'pieces: loop {
+            if let Some(next) = self.take_next(alloc) {
+                return next;
+            }
+            match self.read_more(source) {
+                Ok(true) => {}
+                Ok(false) => return Next::End(self.bytes.len()),
+                Err(trouble) => return Next::Trouble(trouble),
+            }
         }
     }
 }

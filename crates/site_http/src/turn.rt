@@ -1,11 +1,12 @@
 //! One turn of a connection.
 ghost use Rattle.std.specs.Prelude.{◌≡◌, ◌++◌, ◌≤◌, ◌<◌, OnOk, OnErr, IfSome, Some};
 ghost use Rattle.content_state.specs.Replay.{Begins};
+ghost use Rattle.site_io.specs.Series.{GivesInTurn, last_moment};
 ghost use Rattle.site_http.specs.Connection.{HasCause};
 ghost use Rattle.site_http.specs.Turn.{Turned};
 
 use crate::answer::{Outcome, answer};
-use crate::next::{Next, Trouble, next_request};
+use crate::next::{Inbox, Next, Trouble};
 use crate::refusal::write_refusal;
 use render_array::House;
 use site_io::{Clock, Ended, Gate, Sink, Source};
@@ -22,7 +23,7 @@ pub fn turn<H: House, S: Source, O: Sink, C: Clock, G: Gate>(
     sink: &mut O,
     clock: &mut C,
     gate: &mut G,
-    buffer: &mut Vec<u8>,
+    inbox: &mut Inbox,
     index: u64,
 ) -> Option<Ended>
     requires { index < LIMIT }
@@ -32,12 +33,13 @@ pub fn turn<H: House, S: Source, O: Sink, C: Clock, G: Gate>(
     ensures name { H.name house.new ≡ H.name house.old }
     ensures grows { Begins (H.seen house.old) (H.seen house.new) }
     ensures never_falls { H.faults house.old ≤ H.faults house.new }
-    ensures turned { Turned result (S.left source.old) (S.left source.new) (C.given clock.old) (C.given clock.new) (O.written sink.old) (O.written sink.new) (H.base house.new) (H.seen house.new) LIMIT index buffer.old.items buffer.new.items }
+    ensures turned { Turned result (S.left source.old) (S.left source.new) (C.given clock.old) (C.given clock.new) (O.written sink.old) (O.written sink.new) (H.base house.new) (H.seen house.new) LIMIT index inbox.old inbox.new }
+    ensures moments { GivesInTurn last_moment (C.moments clock.old) (C.moments clock.new) (C.given clock.old) (C.given clock.new) }
     ensures cause { IfSome result (λ e. HasCause e (S.faults source.old) (S.faults source.new) (O.faults sink.old) (O.faults sink.new)) }
     ensures source_count { S.faults source.old ≤ S.faults source.new }
     ensures sink_count { O.faults sink.old ≤ O.faults sink.new }
 {
-    let request = match next_request(alloc, source, buffer) {
+    let request = match inbox.next_request(alloc, source) {
         Next::Request(request) => request,
         Next::Refused(code) => {
             return match write_refusal(sink, code) {

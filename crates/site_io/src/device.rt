@@ -1,6 +1,7 @@
 //! The devices, as traits.
 ghost use Rattle.std.specs.Prelude.{◌≡◌, ◌≤◌, ◌<◌, ℕ, List, [], ◌∷◌, ◌++◌, Option, length, take, OnErr, IfOk};
 ghost use Rattle.site_io.specs.Told.{before, after, IsNothingLeft, Rose};
+ghost use Rattle.site_io.specs.Series.{GivesInTurn, last_moment, last_word};
 
 /// A device failed in this call, and its count of faults rose.
 #[derive(Clone, Copy, Debug, PartialEq, Eq)]
@@ -60,23 +61,31 @@ pub const LAST_MOMENT: u64 = 4_102_444_800;
 
 /// What gives the moments. An implementor owns what it reads: it holds no `&mut`.
 pub trait Clock {
+    /// The moments that it is to give, in turn, and then the last one, or of no list 0; where it tells them.
+    ghost moments: { Self → Option (List ℕ) };
+
     /// The moments that it gave, where it tells them.
     ghost given: { Self → Option (List ℕ) };
 
     /// The moment, in whole seconds since 1970-01-01 UTC, from 0 to 4,102,444,800.
     fn now(&mut self) -> u64
         ensures told { given self.new ≡ after (given self.old) (result ∷ []) }
-        ensures within { result ≤ 4102444800 };
+        ensures in_turn { GivesInTurn last_moment (moments self.old) (moments self.new) (given self.old) (given self.new) }
+        ensures within { result ≤ last_moment };
 }
 
 /// What gives words of chance. An implementor owns what it draws from: it holds no `&mut`.
 pub trait Entropy {
+    /// The words that it is to give, in turn, and then the last one, or of no list 0; where it tells them.
+    ghost words: { Self → Option (List ℕ) };
+
     /// The words that it gave, where it tells them.
     ghost given: { Self → Option (List ℕ) };
 
     /// The next word, any u64.
     fn word(&mut self) -> u64
-        ensures { given self.new ≡ after (given self.old) (result ∷ []) };
+        ensures told { given self.new ≡ after (given self.old) (result ∷ []) }
+        ensures in_turn { GivesInTurn last_word (words self.old) (words self.new) (given self.old) (given self.new) };
 }
 
 /// A point that the work on a request reaches.

@@ -1,7 +1,7 @@
 //! A clock and entropy in memory, which give the values of a list and tell what they gave.
 ghost use Rattle.std.specs.Prelude.{◌≡◌, ◌≤◌, ◌++◌, ◌∷◌, ◌-◌, [], Some, length, map, min};
 ghost use Rattle.site_io.specs.Told.{after};
-ghost use Rattle.site_io.specs.Series.{Series as SeriesValue, value_at};
+ghost use Rattle.site_io.specs.Series.{Series as SeriesValue, value_at, GivesInTurn, last_moment, last_word};
 
 use crate::device::{Clock, Entropy, LAST_MOMENT};
 use http_server::Log;
@@ -80,12 +80,15 @@ impl ListClock {
 }
 
 impl Clock for ListClock {
+    ghost moments = { λ c. Some c.values };
+
     ghost given = { λ c. Some c.given };
 
     fn now(&mut self) -> u64
         ensures told { Some self.new.given ≡ after (Some self.old.given) (result ∷ []) }
-        ensures within { result ≤ 4102444800 }
-        ensures exact { result ≡ min (value_at self.old.values (length self.old.given)) 4102444800 }
+        ensures in_turn { GivesInTurn last_moment (Some self.old.values) (Some self.new.values) (Some self.old.given) (Some self.new.given) }
+        ensures within { result ≤ last_moment }
+        ensures exact { result ≡ min (value_at self.old.values (length self.old.given)) last_moment }
         ensures clock { self.new ≡ record self.old { given = self.old.given ++ result ∷ [] } }
     {
         let moment = self.series.value().min(LAST_MOMENT);
@@ -118,10 +121,13 @@ impl ListEntropy {
 }
 
 impl Entropy for ListEntropy {
+    ghost words = { λ e. Some e.values };
+
     ghost given = { λ e. Some e.given };
 
     fn word(&mut self) -> u64
         ensures told { Some self.new.given ≡ after (Some self.old.given) (result ∷ []) }
+        ensures in_turn { GivesInTurn last_word (Some self.old.values) (Some self.new.values) (Some self.old.given) (Some self.new.given) }
         ensures exact { result ≡ value_at self.old.values (length self.old.given) }
         ensures entropy { self.new ≡ record self.old { given = self.old.given ++ result ∷ [] } }
     {

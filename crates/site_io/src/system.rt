@@ -103,6 +103,8 @@ impl<C> SystemClock<C> {
 }
 
 impl<C: std::time::Clock> Clock for SystemClock<C> {
+    ghost moments = { λ _. None };
+
     ghost given = { λ _. None };
 
     fn now(&mut self) -> u64 {
@@ -130,6 +132,8 @@ impl<R> SystemEntropy<R> {
 }
 
 impl<R: RandomSource> Entropy for SystemEntropy<R> {
+    ghost words = { λ _. None };
+
     ghost given = { λ _. None };
 
     fn word(&mut self) -> u64 {

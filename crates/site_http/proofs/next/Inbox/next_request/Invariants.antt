@@ -1,15 +1,15 @@
 use Rattle.std.proofs.Common.{◌≡◌, ◌++◌, ◌≤◌, ◌-◌, List, ℕ, length}
 use Rattle.site_io.specs.Told.{before}
 use Rattle.http_heads.specs.Laws.{pending_limit}
-use Rattle.site_http.proofs.next.next_request.Given as goal
+use Rattle.site_http.proofs.next.Inbox.next_request.Given as goal
 
 abbrev pub invariant-pieces : goal.invariant-pieces
 invariant-pieces g l = record {
   more : List ℕ;
   source : g.S.Source.left l.fn.source ≡ before more (g.S.Source.left l.source);
-  buffer : l.buffer.items ≡ l.fn.buffer.items ++ more;
+  inbox : l.self ≡ l.fn.self ++ more;
   faults : g.S.Source.faults l.fn.source ≤ g.S.Source.faults l.source;
 }
 
 abbrev pub decreases-pieces : goal.decreases-pieces
-decreases-pieces g l = pending_limit - length l.buffer.items
+decreases-pieces g l = pending_limit - length l.self
