@@ -190,15 +190,33 @@ fn club(alloc: Global, more: Option<&[u8]>) -> Result<Rows, AllocError> {
     )
 }
 
-// The house of these rows, which make a valid state.
-fn house_of(rt: &HostRuntime, alloc: Global, rows: Rows) -> Result<Alone, AllocError> {
+// Why there is no house.
+#[derive(Clone, Copy, Debug)]
+enum NoHouse {
+    NotValid,
+    OutOfMemory,
+}
+
+impl From<AllocError> for NoHouse {
+    fn from(_wanting: AllocError) -> NoHouse {
+        NoHouse::OutOfMemory
+    }
+}
+
+// The house of these rows, where they make a valid state.
+fn house_of(alloc: Global, rows: Rows) -> Result<Alone, NoHouse> {
     let state = State {
         rows,
         counts: Counts::new(alloc),
         number: 0,
     };
-    assert!(rt; state.is_valid());
-    Ok(Alone::new(Arc::new(alloc, state)?))
+    if !state.is_valid() {
+        return Err(NoHouse::NotValid);
+    }
+    match Arc::new(alloc, state) {
+        Ok(state) => Ok(Alone::new(state)),
+        Err(_) => Err(NoHouse::OutOfMemory),
+    }
 }
 
 // How a connection over these rows ends, and what is written, where the input comes in pieces of at most so many bytes.
@@ -207,9 +225,9 @@ fn answered(
     rows: Rows,
     input: &[u8],
     piece: usize,
-) -> Result<(Ended, Vec<u8>), AllocError> {
+) -> Result<(Ended, Vec<u8>), NoHouse> {
     let alloc = rt.alloc();
-    let mut house = house_of(rt, alloc, rows)?;
+    let mut house = house_of(alloc, rows)?;
     let mut source = MemorySource::new(Vec::from_slice(alloc, input)?, piece);
     let mut sink = MemorySink::new(alloc, 400_000)?;
     let mut clock = ListClock::new(Vec::from_slice(alloc, &[1000])?);
@@ -235,7 +253,7 @@ fn is_reply(
     input: &[u8],
     head: &[u8],
     piece: &[u8],
-) -> Result<bool, AllocError> {
+) -> Result<bool, NoHouse> {
     let (ended, output) = answered(rt, rows, input, 16)?;
     let found = output
         .windows(piece.len().max(1))
