@@ -266,7 +266,8 @@ fn reasons(rt: HostRuntime) {
     assert!(rt; own.cacheability.contexts() == contexts.as_slice());
     assert!(rt; own.cacheability.tags() == [Tag::Node(6)].as_slice());
     let public = decided(rt.alloc(), &closed, 2, Op::View, 5).expect(&rt, "memory");
-    assert!(rt; public.cacheability.contexts() == &contexts[1..]);
+    let shared = [Context::NodeGrantsView, Context::UserPermissions];
+    assert!(rt; public.cacheability.contexts() == shared.as_slice());
     assert!(rt; public.cacheability.tags() == [Tag::Node(5)].as_slice());
 }
 
