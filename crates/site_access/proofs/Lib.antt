@@ -3,3 +3,4 @@ pub mod NodePlan
 pub mod OtherPlans
 pub mod Results
 pub mod Returns
+pub mod Exact

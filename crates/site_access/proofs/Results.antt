@@ -26,9 +26,9 @@ votes_answer true false why l r = refl
 votes_answer false true why l r = refl
 votes_answer false false why l r = refl
 
-pub votes_depend : (a b : Bool) (why : Reason) (l r : Cacheability) → (or_result (vote a None l) (vote b (Some why) r)).cacheability ≡ merged l r
-votes_depend true b why l r = refl
-votes_depend false b why l r = refl
+pub votes_merged : (a b : Bool) (why : Reason) (l r : Cacheability) → (or_result (vote a None l) (vote b (Some why) r)).cacheability ≡ merged l r
+votes_merged true b why l r = refl
+votes_merged false b why l r = refl
 
 tags_left : (l r : Cacheability) (t : Tag) → Contains l.tags t → Contains (merged l r).tags t
 tags_left l r t held = (Contains-union tag_cmp exact_tags l.tags r.tags t).1 (inl held)

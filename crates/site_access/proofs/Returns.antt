@@ -27,7 +27,7 @@ use Rattle.site_access.specs.Account.{IsAccountOf}
 use Rattle.site_access.specs.Decided.{IsDecided}
 use Rattle.site_access.proofs.NodePlan.{CoversNode, grants_same, node_decided}
 use Rattle.site_access.proofs.OtherPlans.{CoversField, field_decided, create_decided}
-use Rattle.site_access.proofs.Results.{votes_answer, votes_depend, votes_permissions, votes_cover}
+use Rattle.site_access.proofs.Results.{votes_answer, votes_merged, votes_permissions, votes_cover}
 
 pub chosen : {A : Type 0} (b : Bool) (x y : A) → b ≡ true → x ≡ (if b then x else y)
 chosen true x y told = refl
@@ -68,7 +68,7 @@ votes_decided rows viewer op n node held r there held_is bypass content same =
     let g = grants_depend n in
     let why = reason.Grant op n in
     let granted_is : grants_allow op node held ≡ by_grants rows viewer op node = ap (grants_allow op node) held_is ∙ grants_same rows viewer op node bypass in
-    let depends : r.cacheability ≡ merged l g = ap (λ (s : AccessResult). s.cacheability) same ∙ votes_depend (by_rules rows viewer op node) (grants_allow op node held) why l g in
+    let depends : r.cacheability ≡ merged l g = ap (λ (s : AccessResult). s.cacheability) same ∙ votes_merged (by_rules rows viewer op node) (grants_allow op node held) why l g in
     let answer : access_of r ≡ access_to_node rows viewer op n = ap access_of same ∙ votes_answer (by_rules rows viewer op node) (grants_allow op node held) why l g ∙ ap (λ (b : Bool). if list_any (λ x. x) (by_rules rows viewer op node ∷ b ∷ []) then Allowed else Denied why) granted_is ∙ voted rows viewer op n node there bypass content in
     subst (λ (d : Cacheability). IsDecided (node_access op n) rows viewer (access_of r) d.tags d.contexts) (sym depends)
     (node_decided rows viewer op n (access_of r) (merged l g).tags (merged l g).contexts answer (votes_permissions n (asks_owner op node)) (λ absent held_content. subst (λ (found : Option Node). CoversNode op n found (merged l g).tags (merged l g).contexts) (sym there) (votes_cover op n node)))
@@ -76,7 +76,7 @@ votes_decided rows viewer op n node held r there held_is bypass content same =
 some_same : (a b : FieldRow) → Some a ≡ Some b → a ≡ b
 some_same a b same = cc
 
-field_told : (rows : List (Cell × Row)) (n : ℕ) (name : List ℕ) (node : Node) (type : NodeType) (field : FieldRow) → node_of rows n ≡ Some node → type_of rows node.node_type ≡ Some type → field_in type name ≡ Some field → field_of rows (node_type_of rows n) name ≡ Some field
+pub field_told : (rows : List (Cell × Row)) (n : ℕ) (name : List ℕ) (node : Node) (type : NodeType) (field : FieldRow) → node_of rows n ≡ Some node → type_of rows node.node_type ≡ Some type → field_in type name ≡ Some field → field_of rows (node_type_of rows n) name ≡ Some field
 field_told rows n name node type field there typed found =
     ap (λ (o : Option Node). field_of rows (type_in o) name) there ∙ ap (field_of_type name) typed ∙ found
 

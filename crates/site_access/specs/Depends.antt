@@ -1,5 +1,5 @@
 -- What results of deciding about access are, and what they depend on.
-use Rattle.std.specs.Prelude.{ℕ, List, [], ◌∷◌, Bool, true, not, Option, Some, None, if◌then◌else◌, unwrap_or}
+use Rattle.std.specs.Prelude.{ℕ, List, [], ◌∷◌, Bool, true, not, Option, Some, None, is_some, if◌then◌else◌, unwrap_or}
 use Rattle.cacheability.specs.declared.op.Op.{Op}
 use Rattle.cacheability.specs.declared.op.Op.TheVariants as op
 use Rattle.cacheability.specs.declared.tag.Tag.{Tag}
@@ -13,8 +13,14 @@ use Rattle.access_result.specs.declared.verdict.Verdict.TheVariants as verdict
 use Rattle.access_result.specs.declared.reason.Reason.{Reason}
 use Rattle.access_result.specs.declared.reason.Reason.TheVariants as reason
 use Rattle.access_result.specs.declared.access_result.AccessResult.{AccessResult}
+use Rattle.content_rows.specs.declared.cell.Cell.{Cell}
+use Rattle.content_rows.specs.declared.row.Row.{Row}
 use Rattle.content_rows.specs.declared.row.Node.{Node}
-use Rattle.site_access.specs.Access.{Access, Allowed, Denied}
+use Rattle.content_rows.specs.declared.row.FieldRow.{FieldRow}
+use Rattle.content_state.specs.declared.ask.Viewer.{Viewer}
+use Rattle.content_state.specs.Rows.{node_of}
+use Rattle.content_state.specs.Viewer.{may, bypass_node_access, access_content}
+use Rattle.site_access.specs.Access.{Access, Allowed, Denied, field_permission, field_of, node_type_of}
 
 -- the answer that a result gives: only an allowed one gives access
 abbrev pub answer_of : Verdict → Option Reason → Access
@@ -67,9 +73,39 @@ rules_depend n asks =
 abbrev pub grants_depend : ℕ → Cacheability
 grants_depend n = lasting (tag.Node n ∷ []) (context.NodeGrantsView ∷ [])
 
+-- what the votes for a node depend on: its row, the viewer's grants and permissions, and the viewer, where the rules of
+-- the node ask who it is
+abbrev pub votes_depend : ℕ → Bool → Cacheability
+votes_depend n asks =
+    if asks then lasting (tag.Node n ∷ []) (context.User ∷ context.NodeGrantsView ∷ context.UserPermissions ∷ [])
+    else lasting (tag.Node n ∷ []) (context.NodeGrantsView ∷ context.UserPermissions ∷ [])
+
+-- a node that isn't there has no vote
+abbrev pub votes_in_depend : Op → ℕ → Option Node → Cacheability
+votes_in_depend op n None = by_permissions
+votes_in_depend op n (Some node) = votes_depend n (asks_owner op node)
+
+-- Exactly what access to a node depends on: permissions alone, where bypassing access or the want of `access content`
+-- decides, else what the votes depend on.
+abbrev pub node_depends : List (Cell × Row) → Viewer → Op → ℕ → Cacheability
+node_depends rows viewer op n =
+    if may rows viewer bypass_node_access then by_permissions
+    else (if not (may rows viewer access_content) then by_permissions
+    else votes_in_depend op n (node_of rows n))
+
 -- what a field depends on: its type; permissions, where one is named or the field is for owners; the viewer and the
 -- node's row, where it is for owners
 abbrev pub field_depends : List ℕ → ℕ → Bool → Bool → Cacheability
 field_depends type n named owner =
     if owner then lasting (tag.NodeType type ∷ tag.Node n ∷ []) (context.User ∷ context.UserPermissions ∷ [])
     else (if named then lasting (tag.NodeType type ∷ []) (context.UserPermissions ∷ []) else lasting (tag.NodeType type ∷ []) [])
+
+-- a field that isn't there is looked for in the type
+abbrev pub found_field_depends : Op → ℕ → List ℕ → Option FieldRow → Cacheability
+found_field_depends op n type None = lasting (tag.NodeType type ∷ []) []
+found_field_depends op n type (Some field) = field_depends type n (is_some (field_permission op field)) field.owner
+
+-- exactly what access to the field of that name of a node depends on, whoever views
+abbrev pub field_of_depends : List (Cell × Row) → Op → ℕ → List ℕ → Cacheability
+field_of_depends rows op n name =
+    found_field_depends op n (node_type_of rows n) (field_of rows (node_type_of rows n) name)

@@ -1,11 +1,10 @@
 //! Access of a viewer, for those who ask once.
 ghost use Rattle.std.specs.Prelude.{◌≡◌, IfOk, IsSome};
-ghost use Rattle.cacheability.specs.declared.max_age.MaxAge.TheVariants.{Permanent};
 ghost use Rattle.content_state.specs.Rows.{node_of};
 ghost use Rattle.site_access.specs.Access.{access_to_node, access_to_create, access_to_field_of, field_of, node_type_of};
 ghost use Rattle.site_access.specs.Plans.{node_access as node_plan, create_access as create_plan, field_access as field_plan};
 ghost use Rattle.site_access.specs.Decided.{IsDecided};
-ghost use Rattle.site_access.specs.Depends.{access_of};
+ghost use Rattle.site_access.specs.Depends.{access_of, by_permissions, node_depends, field_of_depends};
 
 use crate::account::Account;
 use access_result::AccessResult;
@@ -25,7 +24,7 @@ pub fn node_access(
     requires { IsSome (node_of state.now.rows n) }
     ensures answer { IfOk result (λ r. access_of r ≡ access_to_node state.now.rows viewer.now op n) }
     ensures covered { IfOk result (λ r. IsDecided (node_plan op n) state.now.rows viewer.now (access_of r) r.cacheability.tags r.cacheability.contexts) }
-    ensures lasting { IfOk result (λ r. r.cacheability.max_age ≡ Permanent) }
+    ensures depends { IfOk result (λ r. r.cacheability ≡ node_depends state.now.rows viewer.now op n) }
 {
     let account = Account::new(alloc, state, viewer)?;
     account.node_access(alloc, state, op, n)
@@ -41,7 +40,7 @@ pub fn create_access(
 ) -> Result<AccessResult, AllocError>
     ensures answer { IfOk result (λ r. access_of r ≡ access_to_create state.now.rows viewer.now node_type.now) }
     ensures covered { IfOk result (λ r. IsDecided (create_plan node_type.now) state.now.rows viewer.now (access_of r) r.cacheability.tags r.cacheability.contexts) }
-    ensures lasting { IfOk result (λ r. r.cacheability.max_age ≡ Permanent) }
+    ensures depends { IfOk result (λ r. r.cacheability ≡ by_permissions) }
 {
     let account = Account::new(alloc, state, viewer)?;
     account.create_access(alloc, node_type)
@@ -61,7 +60,7 @@ pub fn field_access(
     requires has_field { IsSome (field_of state.now.rows (node_type_of state.now.rows n) name.now) }
     ensures answer { IfOk result (λ r. access_of r ≡ access_to_field_of state.now.rows viewer.now op n name.now) }
     ensures covered { IfOk result (λ r. IsDecided (field_plan op n (node_type_of state.now.rows n) name.now) state.now.rows viewer.now (access_of r) r.cacheability.tags r.cacheability.contexts) }
-    ensures lasting { IfOk result (λ r. r.cacheability.max_age ≡ Permanent) }
+    ensures depends { IfOk result (λ r. r.cacheability ≡ field_of_depends state.now.rows op n name.now) }
 {
     let account = Account::new(alloc, state, viewer)?;
     account.field_access(alloc, state, op, n, name)

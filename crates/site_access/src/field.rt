@@ -1,11 +1,10 @@
 //! Access to the fields of nodes.
 ghost use Rattle.std.specs.Prelude.{◌≡◌, IfOk, IsSome, option_copied, is_some};
-ghost use Rattle.cacheability.specs.declared.max_age.MaxAge.TheVariants.{Permanent};
 ghost use Rattle.content_state.specs.Rows.{node_of};
 ghost use Rattle.site_access.specs.Access.{access_to_field, access_to_field_of, field_permission as permission_of, field_in as field_named, field_of, node_type_of};
 ghost use Rattle.site_access.specs.Plans.{field_access};
 ghost use Rattle.site_access.specs.Decided.{IsDecided};
-ghost use Rattle.site_access.specs.Depends.{access_of, field_depends as depends_of_field};
+ghost use Rattle.site_access.specs.Depends.{access_of, field_of_depends, field_depends as depends_of_field};
 ghost use Rattle.site_access.specs.Account.{IsAccountOf, OnRows};
 
 use crate::account::Account;
@@ -35,7 +34,7 @@ impl Account {
         requires has_field { IsSome (field_of state.now.rows (node_type_of state.now.rows n) name.now) }
         ensures answer { IfOk result (λ r. access_of r ≡ access_to_field_of state.now.rows self.now.viewer op n name.now) }
         ensures covered { IfOk result (λ r. IsDecided (field_access op n (node_type_of state.now.rows n) name.now) state.now.rows self.now.viewer (access_of r) r.cacheability.tags r.cacheability.contexts) }
-        ensures lasting { IfOk result (λ r. r.cacheability.max_age ≡ Permanent) }
+        ensures depends { IfOk result (λ r. r.cacheability ≡ field_of_depends state.now.rows op n name.now) }
     {
         let (node, _) = state.node(n);
         let Some(node) = node else { unreachable!() };

@@ -1,6 +1,5 @@
 //! Access to nodes.
 ghost use Rattle.std.specs.Prelude.{◌≡◌, ◌&&◌, ◌||◌, not, IfOk, IsSome, Some, None};
-ghost use Rattle.cacheability.specs.declared.max_age.MaxAge.TheVariants.{Permanent};
 ghost use Rattle.access_result.specs.declared.reason.Reason.TheVariants as reason_is;
 ghost use Rattle.access_result.specs.AccessResult.{or_result};
 ghost use Rattle.content_state.specs.Rows.{node_of};
@@ -8,7 +7,7 @@ ghost use Rattle.content_state.specs.Viewer.{may, view_own_unpublished};
 ghost use Rattle.site_access.specs.Access.{owns as owns_by, any_content, own_content, by_rules, access_to_node, access_to_create};
 ghost use Rattle.site_access.specs.Plans.{node_access, create_access, grants_allow};
 ghost use Rattle.site_access.specs.Decided.{IsDecided};
-ghost use Rattle.site_access.specs.Depends.{access_of, by_permissions as permissions_depend, vote as vote_of, rules_depend as depend_of_rules, grants_depend as depend_of_grants, asks_owner as is_owner_asked};
+ghost use Rattle.site_access.specs.Depends.{access_of, node_depends, by_permissions as permissions_depend, vote as vote_of, rules_depend as depend_of_rules, grants_depend as depend_of_grants, asks_owner as is_owner_asked};
 ghost use Rattle.site_access.specs.Account.{IsAccountOf, OnRows};
 
 use crate::account::Account;
@@ -37,7 +36,7 @@ impl Account {
         requires there { IsSome (node_of state.now.rows n) }
         ensures answer { IfOk result (λ r. access_of r ≡ access_to_node state.now.rows self.now.viewer op n) }
         ensures covered { IfOk result (λ r. IsDecided (node_access op n) state.now.rows self.now.viewer (access_of r) r.cacheability.tags r.cacheability.contexts) }
-        ensures lasting { IfOk result (λ r. r.cacheability.max_age ≡ Permanent) }
+        ensures depends { IfOk result (λ r. r.cacheability ≡ node_depends state.now.rows self.now.viewer op n) }
     {
         if self.may(permission::bypass_node_access()) {
             return Ok(allowed_by(by_permissions(alloc)?));
@@ -58,7 +57,7 @@ impl Account {
     pub fn create_access(&self, alloc: Global, node_type: &Name) -> Result<AccessResult, AllocError>
         ensures answer { IfOk result (λ r. OnRows self.now (λ rows. access_of r ≡ access_to_create rows self.now.viewer node_type.now)) }
         ensures covered { IfOk result (λ r. OnRows self.now (λ rows. IsDecided (create_access node_type.now) rows self.now.viewer (access_of r) r.cacheability.tags r.cacheability.contexts)) }
-        ensures lasting { IfOk result (λ r. r.cacheability.max_age ≡ Permanent) }
+        ensures depends { IfOk result (λ r. r.cacheability ≡ permissions_depend) }
     {
         self.may_create(alloc, node_type)
     }

@@ -265,6 +265,10 @@ fn reasons(rt: HostRuntime) {
     ];
     assert!(rt; own.cacheability.contexts() == contexts.as_slice());
     assert!(rt; own.cacheability.tags() == [Tag::Node(6)].as_slice());
+    let public = decided(rt.alloc(), &closed, 2, Op::View, 5).expect(&rt, "memory");
+    let shared = [Context::NodeGrantsView, Context::UserPermissions];
+    assert!(rt; public.cacheability.contexts() == shared.as_slice());
+    assert!(rt; public.cacheability.tags() == [Tag::Node(5)].as_slice());
 }
 
 // Whether it is denied for want of a permission.
@@ -316,4 +320,8 @@ fn fields(rt: HostRuntime) {
     let diary = name(b"diary").expect(&rt, "a name");
     let denied = decided_field(rt.alloc(), &state, 3, 6, &diary).expect(&rt, "memory");
     assert!(rt; matches!(denied.reason(), Some(Reason::OwnerOnly(owned)) if *owned == diary));
+    let page = name(b"page").expect(&rt, "a name");
+    assert!(rt; denied.cacheability.tags() == [Tag::NodeType(page), Tag::Node(6)].as_slice());
+    let contexts = [Context::User, Context::UserPermissions];
+    assert!(rt; denied.cacheability.contexts() == contexts.as_slice());
 }
