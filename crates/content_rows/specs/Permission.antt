@@ -3,7 +3,7 @@
 -- https://api.drupal.org/api/drupal/core!modules!node!node.api.php/function/hook_node_grants/10
 use Rattle.std.specs.Prelude.{ℕ, List, [], ◌∷◌, ◌++◌, Bool, true, false, ◌==◌, ◌&&◌, ◌||◌, nat_lt, Option, Some, None, codes, fold, if◌then◌else◌}
 use Rattle.std.specs.List.{flat_map, list_any}
-use Rattle.std.specs.Ordering.{nat_cmp, then_cmp}
+use Rattle.std.specs.Ordering.{nat_cmp}
 use Rattle.std.specs.Cmp.Lexicographic.{slice_cmp}
 use Rattle.std.specs.BTreeSet.{insert_key}
 use Rattle.std.specs.Str.{bytes_eq}
@@ -17,8 +17,6 @@ use Rattle.content_rows.specs.declared.row.Node.{Node}
 use Rattle.content_rows.specs.declared.row.Session.{Session}
 use Rattle.content_rows.specs.declared.permission.Permissions.{Permissions}
 use Rattle.content_rows.specs.declared.permission.Permissions.TheVariants as permissions
-use Rattle.content_rows.specs.declared.permission.ViewGrants.{ViewGrants}
-use Rattle.content_rows.specs.declared.permission.ViewGrants.TheVariants as view_grants
 use Rattle.content_rows.specs.GrantOrder.{grant_cmp}
 
 -- the texts in their order, each once

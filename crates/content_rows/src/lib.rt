@@ -4,7 +4,9 @@
 
 mod cell;
 mod duplicate;
+mod kinds;
 mod permission;
+mod right;
 mod row;
 mod starting;
 mod text;

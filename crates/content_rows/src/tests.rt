@@ -1,7 +1,11 @@
-//! A new site's rows, second copies of rows, and the order and the texts of cells.
+//! A new site's rows, right rows and wrong ones, second copies of rows, and the order and the texts of cells.
 
-use crate::{Cell, Duplicate, Items, Row, Text, starter};
+use crate::{
+    Block, BlockKind, Cell, Duplicate, FieldValue, Items, Link, Listing, Menu, Node, Region, Row,
+    Text, User, starter,
+};
 use cacheability::Name;
+use std::alloc::{AllocError, Global};
 
 fn sendable_and_shared<T: Send + Sync>(_: &T) {}
 
@@ -68,4 +72,130 @@ fn texts_and_lists(rt: HostRuntime) {
     assert!(rt; again.len() == 3);
     assert!(rt; again.as_slice() == [3, 1, 2].as_slice());
     assert!(rt; Items::<Text>::none(rt.alloc()).len() == 0);
+}
+
+/// A node of two fields with these names.
+fn node(alloc: Global, path: &[u8], before: Name, after: Name) -> Result<Row, AllocError> {
+    let fields = vec![in alloc;
+        FieldValue {
+            name: before,
+            value: Text::copied(alloc, b"One")?,
+        },
+        FieldValue {
+            name: after,
+            value: Text::copied(alloc, b"Two")?,
+        },
+    ]?;
+    Ok(Row::Node(Node {
+        changed: 1,
+        created: 1,
+        fields: Items::from_vec(fields),
+        grants: Items::none(alloc),
+        path: Some(Text::copied(alloc, path)?),
+        promote: false,
+        refs: Items::none(alloc),
+        status: true,
+        sticky: false,
+        terms: Items::none(alloc),
+        title: Text::copied(alloc, b"One")?,
+        node_type: before,
+        uid: 0,
+        uuid: Text::copied(alloc, b"n-1")?,
+        vid: 1,
+    }))
+}
+
+/// A user with that salt.
+fn user(alloc: Global, salt: &[u8]) -> Result<Row, AllocError> {
+    Ok(Row::User(User {
+        created: 1,
+        digest: None,
+        grants: Items::none(alloc),
+        name: Text::copied(alloc, b"ann")?,
+        roles: Items::none(alloc),
+        salt: Text::copied(alloc, salt)?,
+        status: true,
+        uuid: Text::copied(alloc, b"u-1")?,
+    }))
+}
+
+/// A menu of links that stand under one another, the first under `top`.
+fn menu(alloc: Global, ids: &[Name], top: Option<Name>) -> Result<Row, AllocError> {
+    let mut links = Vec::new(alloc);
+    let mut parent = top;
+    for id in ids {
+        links.push(Link {
+            id: *id,
+            parent,
+            path: Text::copied(alloc, b"/node/1")?,
+            title: Text::copied(alloc, b"One")?,
+            weight: 0,
+        })?;
+        parent = Some(*id);
+    }
+    Ok(Row::Menu(Menu {
+        label: Text::copied(alloc, b"Main")?,
+        links: Items::from_vec(links),
+    }))
+}
+
+/// A listing of nodes that are no older than an hour.
+fn listing(alloc: Global, age: Option<u32>) -> Result<Row, AllocError> {
+    Ok(Row::Listing(Listing {
+        age,
+        path: Some(Text::copied(alloc, b"/node")?),
+        promoted: false,
+        recent: Some(3600),
+        term: None,
+        title: Text::copied(alloc, b"News")?,
+        types: Items::none(alloc),
+    }))
+}
+
+/// A clock.
+fn clock(alloc: Global, age: Option<u32>) -> Result<Row, AllocError> {
+    Ok(Row::Block(Block {
+        age,
+        hide: false,
+        kind: BlockKind::Clock,
+        label: Text::copied(alloc, b"")?,
+        name: None,
+        paths: Items::from_vec(vec![in alloc; Text::copied(alloc, b"<front>")?]?),
+        region: Region::Aside,
+        roles: Items::none(alloc),
+        text: None,
+        weight: -1000,
+    }))
+}
+
+#[test]
+fn rows_that_are_right_and_rows_that_are_not(rt: HostRuntime) {
+    let alloc = rt.alloc();
+    let a = Name::new(b"a").expect(&rt, "a name");
+    let b = Name::new(b"b").expect(&rt, "a name");
+    let mut ids = [a; 10];
+    for (id, byte) in ids.iter_mut().zip(b"abcdefghij") {
+        *id = Name::new(&[*byte]).expect(&rt, "a name");
+    }
+    let rows = [
+        (Cell::Node(1), node(alloc, b"/about/us", a, b), true),
+        (Cell::Node(0), node(alloc, b"/about/us", a, b), false),
+        (Cell::Term(1), node(alloc, b"/about/us", a, b), false),
+        (Cell::Node(1), node(alloc, b"/user/us", a, b), false),
+        (Cell::Node(1), node(alloc, b"/about//us", a, b), false),
+        (Cell::Node(1), node(alloc, b"/about/us", b, a), false),
+        (Cell::User(1), user(alloc, b""), true),
+        (Cell::User(1), user(alloc, b"A"), false),
+        (Cell::Menu(a), menu(alloc, &ids[..9], None), true),
+        (Cell::Menu(a), menu(alloc, &ids, None), false),
+        (Cell::Menu(a), menu(alloc, &ids[..2], Some(b)), false),
+        (Cell::Listing(a), listing(alloc, Some(60)), true),
+        (Cell::Listing(a), listing(alloc, None), false),
+        (Cell::Block(a), clock(alloc, Some(60)), true),
+        (Cell::Block(a), clock(alloc, None), false),
+    ];
+    for (cell, row, is_right) in rows {
+        let row = row.expect(&rt, "memory");
+        assert!(rt; row.is_right(&cell) == is_right);
+    }
 }
