@@ -1,6 +1,6 @@
 -- The search for the first fault finds the first, and none only where there is none.
-use Rattle.std.proofs.Common.{ℕ, List, [], ◌∷◌, ◌≡◌, ◌⊎◌, inl, inr, true, false, refl, sym, ap, subst}
-use Rattle.std.specs.Prelude.{Option, Some, None, ◌||◌, ◌&&◌, is_none, option_and_then}
+use Rattle.std.proofs.Common.{IsTrue, ◌↔◌, ◌∙◌, ℕ, List, [], ◌∷◌, ◌≡◌, ◌⊎◌, inl, inr, true, false, refl, sym, ap, subst}
+use Rattle.std.specs.Prelude.{Bool, Option, Some, None, ◌||◌, ◌&&◌, is_none, is_some, not, option_and_then}
 use Rattle.std.specs.Option.{option_or, MatchOption}
 use Rattle.std.specs.List.{AllByRecursion}
 use Rattle.std.specs.List.Sorted.{IsStrictlySortedBy}
@@ -227,3 +227,14 @@ pub found_present : (rows : List (Cell × Row)) (found : Option NotASite) → Is
     → MatchOption found (MeetsSiteRules rows) (IsFirstFault rows)
 found_present rows None sorted none is = none_at_all rows none (sym is)
 found_present rows (Some found) sorted none is = first_present rows found sorted none (sym is)
+
+-- whether a fault is found tells whether a cell breaks a rule
+pub none_found : (rows : List (Cell × Row)) (found : Option NotASite) (none : Bool) → is_some found ≡ not none
+    → MatchOption found (MeetsSiteRules rows) (IsFirstFault rows) → IsTrue none ↔ MeetsSiteRules rows
+none_found rows None true is meets = (λ _. meets, λ _. refl)
+none_found rows None false is meets = cc
+none_found rows (Some fault) true is first = cc
+none_found rows (Some fault) false is first = (
+  λ e. cc,
+  λ meets. let clash : None ≡ Some (fault.rule, fault.field) = sym (meets fault.cell) ∙ first.broken in cc,
+)

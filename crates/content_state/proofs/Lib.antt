@@ -1,3 +1,4 @@
 pub mod Made
 pub mod Ids
 pub mod Faults
+pub mod RightRows

@@ -1,8 +1,8 @@
 -- What varies a page: the value of each cache context, which of them stand below which, and the tags of a context that
 -- is left out beside one that it stands below.
 -- https://www.drupal.org/docs/drupal-apis/cache-api/cache-contexts
-use Rattle.std.specs.Prelude.{ℕ, suc, zero, List, [], ◌∷◌, ◌++◌, Bool, true, false, ◌||◌, Option, Some, None, codes, map, is_some, unwrap_or, fold, if◌then◌else◌, option_map}
-use Rattle.std.specs.List.{flat_map, filter, find, filter_map}
+use Rattle.std.specs.Prelude.{ℕ, suc, zero, List, [], ◌∷◌, Bool, true, false, ◌||◌, Option, Some, None, codes, map, is_some, fold, if◌then◌else◌, option_map}
+use Rattle.std.specs.List.{flat_map, filter, find}
 use Rattle.std.specs.Map.{lookup}
 use Rattle.std.specs.Ordering.{int_cmp, is_gt}
 use Rattle.std.specs.Str.{bytes_eq}

@@ -5,7 +5,8 @@ use Rattle.std.specs.List.{flat_map}
 use Rattle.std.specs.BTreeSet.{insert_key}
 use Rattle.cacheability.specs.declared.tag.Tag.{Tag}
 use Rattle.cacheability.specs.declared.tag.Tag.TheVariants as tag
-use Rattle.tag_counts.specs.Counts.{tag_cmp, bumped}
+use Rattle.cacheability.specs.Tag.{tag_cmp}
+use Rattle.tag_counts.specs.Counts.{bumped}
 use Rattle.content_rows.specs.declared.cell.Cell.{Cell}
 use Rattle.content_rows.specs.declared.cell.Cell.TheVariants as cell
 use Rattle.content_rows.specs.declared.row.Row.{Row}

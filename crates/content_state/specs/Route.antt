@@ -1,6 +1,6 @@
 -- What a path leads to.
 -- Only the forms of nodes are known so far: `/node/<n>`, n in decimal without a leading zero, a node that is there.
-use Rattle.std.specs.Prelude.{ℕ, List, [], ◌∷◌, ◌++◌, Option, Some, None, Bool, ◌&&◌, nat_le, codes, drop, length, if◌then◌else◌, option_and_then}
+use Rattle.std.specs.Prelude.{ℕ, List, [], ◌∷◌, ◌++◌, Option, Some, None, ◌&&◌, nat_le, codes, drop, length, if◌then◌else◌}
 use Rattle.std.specs.List.{starts_with}
 use Rattle.std.specs.Prelude.{nat_eq, is_some}
 use Rattle.std.specs.Fmt.{decimal}

@@ -1,5 +1,5 @@
 -- Who views, and what the viewer's roles give.
-use Rattle.std.specs.Prelude.{ℕ, List, [], ◌∷◌, Bool, true, false, Option, Some, None, option_and_then, codes, if◌then◌else◌}
+use Rattle.std.specs.Prelude.{ℕ, List, Bool, Option, Some, None, codes, if◌then◌else◌}
 use Rattle.std.specs.List.{filter_map}
 use Rattle.content_rows.specs.declared.cell.Cell.{Cell}
 use Rattle.content_rows.specs.declared.row.Row.{Row}
@@ -10,7 +10,6 @@ use Rattle.content_rows.specs.declared.permission.Permissions.{Permissions}
 use Rattle.content_rows.specs.declared.permission.ViewGrants.{ViewGrants}
 use Rattle.content_rows.specs.declared.permission.ViewGrants.TheVariants as view_grants
 use Rattle.content_rows.specs.Permission.{role_names, permissions_of, has, session_live, grants_of}
-use Rattle.content_state.specs.declared.ask.Ask.{Ask}
 use Rattle.content_state.specs.declared.ask.Viewer.{Viewer}
 use Rattle.content_state.specs.Rows.{role_of, user_of, session_of}
 

@@ -1,9 +1,10 @@
 //! The rules that the rows of a site keep together.
-ghost use Rattle.std.specs.Prelude.{◌≡◌, ◌||◌, if◌then◌else◌};
+ghost use Rattle.std.specs.Prelude.{◌≡◌, ◌↔◌, ◌||◌, if◌then◌else◌, IsTrue, All};
 ghost use Rattle.std.specs.Map.{keys_of};
 ghost use Rattle.std.specs.Option.{option_copied, MatchOption};
 ghost use Rattle.std.specs.List.Sorted.{IsStrictlySortedBy};
 ghost use Rattle.content_rows.specs.CellOrder.{cell_cmp};
+ghost use Rattle.content_rows.specs.ValidRow.{IsValidRow};
 ghost use Rattle.content_rows.specs.Permission.{anonymous as anonymous_name, authenticated as authenticated_name};
 ghost use Rattle.std.specs.Str.{bytes_eq};
 ghost use Rattle.content_state.specs.SiteRules.{
@@ -101,6 +102,25 @@ enum Unique {
     UserUuid,
     UserName,
     Path,
+}
+
+/// Whether each row is right, by itself.
+pub fn has_right_rows(state: &State) -> bool
+    ensures { IsTrue result ↔ All (λ e. IsValidRow e.0 e.1) state.now.rows }
+{
+    'rows: for (cell, row) in state.rows.iter() {
+        if !row.is_right(cell) {
+            return false;
+        }
+    }
+    true
+}
+
+/// Whether no cell breaks a rule of sites.
+pub fn meets_site_rules(state: &State) -> bool
+    ensures { IsTrue result ↔ MeetsSiteRules state.now.rows }
+{
+    first_fault(state).is_none()
 }
 
 /// The first cell, in cell order, that breaks a rule of sites, with the rule and what breaks it.

@@ -1,10 +1,12 @@
 //! The states of a site.
-ghost use Rattle.std.specs.Prelude.{◌≡◌, ◌≤◌, ◌^◌, IfOk, IfErr};
+ghost use Rattle.std.specs.Prelude.{◌≡◌, ◌↔◌, ◌≤◌, ◌^◌, IfOk, IfErr, IsTrue};
 ghost use Rattle.std.specs.Option.{option_copied};
 ghost use Rattle.cacheability.specs.declared.tag.Tag.TheVariants as tag;
 
 use crate::rows::Rows;
-use crate::site_rules::{NotASite, Refused, SiteField, SiteRule, first_fault};
+use crate::site_rules::{
+    NotASite, Refused, SiteField, SiteRule, first_fault, has_right_rows, meets_site_rules,
+};
 use cacheability::{Name, Tag};
 use content_rows::{
     Block, Cell, Listing, Menu, Node, NodeType, Role, Row, Seq, Session, Site, Term, User,
@@ -37,7 +39,7 @@ impl State {
       block_of,
       session_of,
     };
-    ghost use Rattle.content_state.specs.SiteRules.{MeetsSiteRules, IsNoSite};
+    ghost use Rattle.content_state.specs.SiteRules.{MeetsSiteRules, IsNoSite, IsValidState};
 
     /// The state of these rows, counts and number. They are refused exactly where a cell breaks a rule
     /// of sites or the number is above 2^62; then all comes back, with the first cell, in cell order,
@@ -69,6 +71,14 @@ impl State {
             counts: state.counts,
             fault,
         })
+    }
+
+    /// Whether the state is valid: each row is right, and no cell breaks a rule of sites. Takes no
+    /// memory; it compares each node, term, user and listing with every row.
+    pub fn is_valid(&self) -> bool
+        ensures { IsTrue result ↔ IsValidState self.now }
+    {
+        has_right_rows(self) && meets_site_rules(self)
     }
 
     /// The settings of the site, and the tag that covers reading them.

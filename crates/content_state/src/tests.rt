@@ -121,6 +121,7 @@ fn a_site_as_it_begins(rt: HostRuntime) {
         panic!(rt; "the rows are a site");
     };
     sendable(&state);
+    assert!(rt; state.is_valid());
     assert!(rt; state.number == 0);
     assert!(rt; state.node(2).0.is_none());
     assert!(rt; state.node(1).1.equals(&Tag::Node(1)));
@@ -138,6 +139,20 @@ fn a_site_as_it_begins(rt: HostRuntime) {
         assert!(rt; matches!(route, Route::Node(1)) == found);
         assert!(rt; tags.as_slice() == covering);
     }
+}
+
+#[test]
+fn a_row_that_is_not_right(rt: HostRuntime) {
+    let seq = Row::Seq(Seq {
+        node: 2,
+        term: 0,
+        user: 2,
+    });
+    let rows = rows_with(rt.alloc(), &Cell::Seq, seq).expect(&rt, "memory");
+    let Ok(state) = State::from_rows(rows, Counts::new(rt.alloc()), 0) else {
+        panic!(rt; "the rows are a site");
+    };
+    assert!(rt; !state.is_valid());
 }
 
 fn commits_are_sendable(commit: &Commit) {

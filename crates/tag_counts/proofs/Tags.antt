@@ -6,9 +6,8 @@ use Rattle.std.specs.declared.cmp.Ordering.{Ordering}
 use Rattle.std.specs.declared.cmp.Ordering.TheVariants.{Less, Equal, Greater}
 use Rattle.std.proofs.lemmas.Map.Lookups.{CmpEqualImpliesEq, exact_bytes}
 use Rattle.cacheability.specs.declared.tag.Tag.{Tag}
-use Rattle.cacheability.specs.Tag.{tag_text}
+use Rattle.cacheability.specs.Tag.{tag_text, tag_cmp}
 use Rattle.cacheability.proofs.Texts.{tags_apart}
-use Rattle.tag_counts.specs.Counts.{tag_cmp}
 
 -- tags that are level are equal
 pub tag_cmp_exact : CmpEqualImpliesEq tag_cmp

@@ -2,17 +2,10 @@
 -- does not name was never invalidated.
 -- https://www.drupal.org/docs/drupal-apis/cache-api/cache-tags
 use Rattle.std.specs.Prelude.{ℕ, List, ◌+◌, unwrap_or, sum_by}
-use Rattle.std.specs.Ordering.{nat_cmp}
-use Rattle.std.specs.Cmp.Lexicographic.{slice_cmp}
 use Rattle.std.specs.Map.{lookup}
 use Rattle.std.specs.BTreeMap.{is_at, insert_entry}
-use Rattle.std.specs.declared.cmp.Ordering.{Ordering}
 use Rattle.cacheability.specs.declared.tag.Tag.{Tag}
-use Rattle.cacheability.specs.Tag.{tag_text}
-
--- how two tags are ordered: by the bytes of their texts
-abbrev pub tag_cmp : Tag → Tag → Ordering
-tag_cmp a b = slice_cmp nat_cmp (tag_text a) (tag_text b)
+use Rattle.cacheability.specs.Tag.{tag_cmp}
 
 -- the count of a tag, 0 where it is absent
 abbrev pub count_of : List (Tag × ℕ) → Tag → ℕ
