@@ -5,8 +5,8 @@ use crate::place::MemoryPlace;
 use crate::run::{rows_of, run_site};
 use cacheability::Name;
 use content_rows::{
-    Cell, FieldRow, FieldValue, Grant, GrantRow, Items, Node, NodeType, Role, Row, Session, Text,
-    User, starter,
+    Cell, FieldRow, FieldValue, Grant, GrantRow, Items, Node, NodeType, Role, Row, Seq, Session,
+    Text, User, starter,
 };
 use content_state::{Rows, State};
 use site_http::serve_connection;
@@ -148,6 +148,12 @@ fn club(alloc: Global, more: Option<&[u8]>) -> Result<Rows, AllocError> {
         view: true,
     };
     let rows = starting(alloc)?;
+    let seq = Seq {
+        node: 7,
+        term: 1,
+        user: 4,
+    };
+    let rows = with(rows, Cell::Seq, Row::Seq(seq))?;
     let rows = with(
         rows,
         Cell::Role(name(b"authenticated")?),
