@@ -322,7 +322,7 @@ fn reaches_top(most: usize, links: &[Link], link: &Link) -> bool
     ensures { result ≡ reaches_top most links.now link.now }
 {
     let mut at = link;
-    'steps: for step in 0..most {
+    'steps: for _step in 0..most {
         let Some(parent) = at.parent else {
             return true;
         };
