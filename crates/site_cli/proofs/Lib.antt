@@ -1,2 +1,3 @@
 mod Replaying
 pub mod Starter
+mod Causes

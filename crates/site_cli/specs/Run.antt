@@ -1,5 +1,5 @@
 -- What the program does, by its words, and the status that it ends with.
-use Rattle.std.specs.Prelude.{ℕ, List, [], ◌≡◌, ◌⊎◌, Bool, true, false, Option, fold}
+use Rattle.std.specs.Prelude.{ℕ, List, [], ◌≡◌, ◌≢◌, ◌⊎◌, Bool, true, false, Option, fold}
 use Rattle.site_io.specs.declared.ended.Ended.{Ended}
 use Rattle.site_io.specs.declared.ended.Ended.TheVariants as ended
 use Rattle.site_io.specs.Told.{after, AddsFront, Rose}
@@ -60,7 +60,10 @@ Runs true moments left left-after written written-after writing writing-after st
 Runs false moments left left-after written written-after writing writing-after status =
     Refuses left left-after written written-after writing writing-after status
 
--- a fault of the input or the output is told only where its count rose
+-- A fault of the input is told exactly where its count rose, and one of the output likewise, but that printing how the
+-- program is called may fail too.
 pub record HasCause (status reading reading-after writing writing-after : ℕ) : Type 0 where
   pub input : status ≡ 5 → Rose reading reading-after
+  pub input_steady : status ≢ 5 → reading-after ≡ reading
   pub output : status ≡ 6 → Rose writing writing-after
+  pub output_steady : status ≢ 6 → status ≢ 2 → writing-after ≡ writing

@@ -1,5 +1,5 @@
 -- The command line.
-use Rattle.std.specs.Prelude.{ℕ, List, [], ◌∷◌, Bool, true, false, codes}
+use Rattle.std.specs.Prelude.{ℕ, List, [], ◌∷◌, Bool, false, codes}
 use Rattle.std.specs.Str.{bytes_eq}
 
 unfoldable pub replay_word : List ℕ

@@ -139,7 +139,12 @@ Connection ended.WriteFault left left-after given given-after written written-af
 Connection ended.OutOfMemory left left-after given given-after written written-after base log limit low =
     Starved left left-after given given-after written written-after base log limit low
 
--- a fault is answered only where the count of its device rose
-pub record HasCause (result : Ended) (reading reading-after writing writing-after : ℕ) : Type 0 where
-  pub read : result ≡ ended.ReadFault → Rose reading reading-after
-  pub write : result ≡ ended.WriteFault → Rose writing writing-after
+-- A fault of the input is told exactly where its count of faults rose, and one of the output where its own did; at every
+-- other end the counts are as they were.
+abbrev pub CountsReads : Ended → ℕ → ℕ → Type 0
+CountsReads ended.ReadFault old new = Rose old new
+CountsReads _ old new = new ≡ old
+
+abbrev pub CountsWrites : Ended → ℕ → ℕ → Type 0
+CountsWrites ended.WriteFault old new = Rose old new
+CountsWrites _ old new = new ≡ old

@@ -15,7 +15,7 @@ use Rattle.site_http.specs.declared.next.Trouble.TheVariants.{ReadFault, OutOfMe
 use Rattle.site_http.specs.declared.answer.Outcome.{Outcome}
 use Rattle.site_http.specs.declared.answer.Outcome.TheVariants.{Written, WriteFault}
 use Rattle.site_http.specs.Reply.{IsReply, memory_text, refusal_text}
-use Rattle.site_http.specs.Connection.{newest, closes_after}
+use Rattle.site_http.specs.Connection.{newest, closes_after, CountsReads, CountsWrites}
 
 -- some bytes were taken
 pub record Takes (left left-after : Option (List ℕ)) : Type 0 where
@@ -35,16 +35,16 @@ abbrev pub NotRead : Trouble → Option (List ℕ) → Option (List ℕ) → Typ
 NotRead ReadFault left left-after = left-after ≡ left
 NotRead OutOfMemory left left-after = Takes left left-after
 
--- a fault of reading is told only where the count rose
+-- a fault of reading is told exactly where the count rose
 abbrev pub Faulted : Trouble → ℕ → ℕ → Type 0
 Faulted ReadFault old new = Rose old new
-Faulted OutOfMemory old new = Unit {0}
+Faulted OutOfMemory old new = new ≡ old
 
 abbrev pub FaultedNext : Next → ℕ → ℕ → Type 0
 FaultedNext (next.Trouble t) old new = Faulted t old new
-FaultedNext (next.Request r) old new = Unit {0}
-FaultedNext (next.Refused c) old new = Unit {0}
-FaultedNext (next.End n) old new = Unit {0}
+FaultedNext (next.Request r) old new = new ≡ old
+FaultedNext (next.Refused c) old new = new ≡ old
+FaultedNext (next.End n) old new = new ≡ old
 
 -- what the bytes are that were read, all of them, and what stays in the buffer
 abbrev pub Decides : Next → Option (List ℕ) → List ℕ → List ℕ → Type 0
@@ -54,10 +54,22 @@ Decides (next.End n) left-after all buffer-after = Parses all More × (n ≡ len
 Decides (next.Trouble ReadFault) left-after all buffer-after = Parses all More
 Decides (next.Trouble OutOfMemory) left-after all buffer-after = Unit {0}
 
+-- the last piece that was read came where the bytes before it are a part of a request
+pub record LastPiece (buffer more : List ℕ) : Type 0 where
+  pub early : List ℕ
+  pub last : List ℕ
+  pub more_is : more ≡ early ++ last
+  pub part : Parses (buffer ++ early) More
+
+-- nothing was read, or no more than was needed
+abbrev pub ReadInNeed : List ℕ → List ℕ → Type 0
+ReadInNeed buffer more = (more ≡ []) ⊎ LastPiece buffer more
+
 -- the next request was looked for, and more was read only where the bytes so far are a part of one
 pub record Fetches (left left-after : Option (List ℕ)) (buffer buffer-after : List ℕ) (result : Next) : Type 0 where
   pub more : List ℕ
   pub source : left ≡ before more left-after
+  pub needed : ReadInNeed buffer more
   pub decides : Decides result left-after (buffer ++ more) buffer-after
 
 -- what was found in the buffer alone
@@ -67,6 +79,20 @@ Decided (Some (next.Request r)) buffer buffer-after = (size : ℕ) × Parses buf
 Decided (Some (next.Refused code)) buffer buffer-after = Parses buffer (Refused code)
 Decided (Some (next.End n)) buffer buffer-after = ⊥
 Decided (Some (next.Trouble t)) buffer buffer-after = t ≡ OutOfMemory
+
+-- what was written is counted: a fault exactly where the count rose
+abbrev pub CountsOutcome : Outcome → ℕ → ℕ → Type 0
+CountsOutcome Written old new = new ≡ old
+CountsOutcome WriteFault old new = Rose old new
+
+-- the same of a turn, which goes on at none
+abbrev pub TurnReads : Option Ended → ℕ → ℕ → Type 0
+TurnReads None old new = new ≡ old
+TurnReads (Some end) old new = CountsReads end old new
+
+abbrev pub TurnWrites : Option Ended → ℕ → ℕ → Type 0
+TurnWrites None old new = new ≡ old
+TurnWrites (Some end) old new = CountsWrites end old new
 
 -- the reply on the newest state, or that memory was wanting
 abbrev pub IsMade : State → List Commit → Request → ℕ → Bool → List ℕ → Type 0
@@ -86,12 +112,13 @@ pub record Replies (given given-after written written-after : Option (List ℕ))
   pub made : IsMade base log request moment closing text
   pub leaves : Leaves outcome written written-after text
 
--- one request was taken and answered
+-- one request was taken and answered, and no more was read than it needed
 pub record TookOne (left left-after given given-after written written-after : Option (List ℕ)) (base : State) (log : List Commit) (limit index : ℕ) (buffer buffer-after : List ℕ) (closes : Bool) : Type 0 where
   pub more : List ℕ
   pub request : Request
   pub size : ℕ
   pub source : left ≡ before more left-after
+  pub needed : ReadInNeed buffer more
   pub parses : Parses (buffer ++ more) (Whole request size)
   pub kept : buffer-after ≡ drop size (buffer ++ more)
   pub closes_is : request.closes ≡ closes
@@ -111,6 +138,7 @@ pub record Ends (left left-after given given-after written written-after : Optio
 pub record Refuses (left left-after given given-after : Option (List ℕ)) (buffer : List ℕ) (code : ℕ) : Type 0 where
   pub more : List ℕ
   pub source : left ≡ before more left-after
+  pub needed : ReadInNeed buffer more
   pub parses : Parses (buffer ++ more) (Refused code)
   pub clock : given-after ≡ given
 
@@ -135,6 +163,7 @@ pub record HalfAnswered (left left-after given given-after written written-after
   pub request : Request
   pub size : ℕ
   pub source : left ≡ before more left-after
+  pub needed : ReadInNeed buffer more
   pub parses : Parses (buffer ++ more) (Whole request size)
   pub replies : Replies given given-after written written-after base log request (closes_after limit index request) WriteFault
 

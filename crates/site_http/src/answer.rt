@@ -1,11 +1,10 @@
 //! One reply, on the newest state.
 ghost use Rattle.std.specs.Prelude.{◌≡◌, ◌++◌, ◌≤◌, ◌<◌, OnOk, IfOk, OnErr, IfErr, length};
-ghost use Rattle.site_io.specs.Told.{Rose};
 ghost use Rattle.site_io.specs.Series.{GivesInTurn, last_moment};
 ghost use Rattle.content_state.specs.Replay.{Begins};
 ghost use Rattle.site_http.specs.Reply.{IsReplyTo};
 ghost use Rattle.site_http.specs.Connection.{newest};
-ghost use Rattle.site_http.specs.Turn.{Replies};
+ghost use Rattle.site_http.specs.Turn.{Replies, CountsOutcome};
 
 use crate::refusal::memory_text;
 use crate::reply::{Call, call_of, reply_on};
@@ -63,8 +62,7 @@ pub fn answer<H: House, O: Sink, C: Clock, G: Gate>(
     ensures never_falls { H.faults house.old ≤ H.faults house.new }
     ensures replies { Replies (C.given clock.old) (C.given clock.new) (O.written sink.old) (O.written sink.new) (H.base house.new) (H.seen house.new) request closing result }
     ensures moments { GivesInTurn last_moment (C.moments clock.old) (C.moments clock.new) (C.given clock.old) (C.given clock.new) }
-    ensures cause { result ≡ Outcome.WriteFault → Rose (O.faults sink.old) (O.faults sink.new) }
-    ensures sink_count { O.faults sink.old ≤ O.faults sink.new }
+    ensures cause { CountsOutcome result (O.faults sink.old) (O.faults sink.new) }
 {
     let now = clock.now();
     let call = call_of(request);

@@ -2,7 +2,7 @@
 ghost use Rattle.std.specs.Prelude.{◌≡◌, ◌≤◌};
 ghost use Rattle.content_state.specs.Replay.{Begins};
 ghost use Rattle.site_io.specs.Series.{GivesInTurn, last_moment};
-ghost use Rattle.site_http.specs.Connection.{Connection, HasCause, newest};
+ghost use Rattle.site_http.specs.Connection.{Connection, CountsReads, CountsWrites, newest};
 
 use crate::next::Inbox;
 use crate::turn::{LIMIT, turn};
@@ -14,7 +14,7 @@ use std::alloc::Global;
 ///
 /// `Closed` and `Truncated` come where the input ended, between requests or within one; `Asked` after the reply to a
 /// request that asked to close; `Spent` after the 1,000th reply; `Refused` after the reply with its code (RFC 9112,
-/// sections 9.3 and 9.6); `ReadFault` and `WriteFault` only where the source's or the sink's count of faults rose;
+/// sections 9.3 and 9.6); `ReadFault` and `WriteFault` exactly where the source's or the sink's count of faults rose;
 /// `OutOfMemory` where memory was wanting to read a request. The runtime is lent for what waits; nothing here does.
 pub fn serve_connection<H: House, S: Source, O: Sink, C: Clock, E: Entropy, G: Gate>(
     _rt: &HostRuntime,
@@ -32,12 +32,11 @@ pub fn serve_connection<H: House, S: Source, O: Sink, C: Clock, E: Entropy, G: G
     ensures name { H.name house.new ≡ H.name house.old }
     ensures grows { Begins (H.seen house.old) (H.seen house.new) }
     ensures never_falls { H.faults house.old ≤ H.faults house.new }
-    ensures connection { Connection result (S.left source.old) (S.left source.new) (C.given clock.old) (C.given clock.new) (O.written sink.old) (O.written sink.new) (H.base house.new) (H.seen house.new) LIMIT (newest (H.base house.old) (H.seen house.old)) }
+    ensures connection { Connection result (S.left source.old) (S.left source.new) (C.given clock.old) (C.given clock.new) (O.written sink.old) (O.written sink.new) (H.base house.new) (H.seen house.new) 1000 (newest (H.base house.old) (H.seen house.old)) }
     ensures moments { GivesInTurn last_moment (C.moments clock.old) (C.moments clock.new) (C.given clock.old) (C.given clock.new) }
     ensures words { E.given entropy.new ≡ E.given entropy.old }
-    ensures cause { HasCause result (S.faults source.old) (S.faults source.new) (O.faults sink.old) (O.faults sink.new) }
-    ensures source_count { S.faults source.old ≤ S.faults source.new }
-    ensures sink_count { O.faults sink.old ≤ O.faults sink.new }
+    ensures reads { CountsReads result (S.faults source.old) (S.faults source.new) }
+    ensures writes { CountsWrites result (O.faults sink.old) (O.faults sink.new) }
 {
     let Ok(mut inbox) = Inbox::new(alloc) else {
         return Ended::OutOfMemory;

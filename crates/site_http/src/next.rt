@@ -61,7 +61,7 @@ impl Inbox {
         ensures err { IfErr result (λ e. NotRead e (S.left source.old) (S.left source.new)) }
         ensures same { OnErr result (self.new ≡ self.old) }
         ensures cause { IfErr result (λ e. Faulted e (S.faults source.old) (S.faults source.new)) }
-        ensures never_falls { S.faults source.old ≤ S.faults source.new }
+        ensures steady { OnOk result (S.faults source.new ≡ S.faults source.old) }
     {
         let mut piece = [0u8; 512];
         let Ok(n) = source.read(&mut piece) else {
@@ -102,7 +102,6 @@ impl Inbox {
     pub fn next_request<S: Source>(&mut self, alloc: Global, source: &mut S) -> Next
         ensures fetches { Fetches (S.left source.old) (S.left source.new) self.old self.new result }
         ensures cause { FaultedNext result (S.faults source.old) (S.faults source.new) }
-        ensures never_falls { S.faults source.old ≤ S.faults source.new }
     {
         'pieces: loop {
             if let Some(next) = self.take_next(alloc) {

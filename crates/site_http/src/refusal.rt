@@ -84,7 +84,7 @@ pub fn write_refusal<O: Sink>(sink: &mut O, code: u16) -> Result<(), Failed>
     ensures ok { OnOk result (O.written sink.new ≡ after (O.written sink.old) (refusal_text code)) }
     ensures failed { OnErr result (AddsFront (O.written sink.old) (O.written sink.new) (refusal_text code)) }
     ensures cause { OnErr result (Rose (O.faults sink.old) (O.faults sink.new)) }
-    ensures never_falls { O.faults sink.old ≤ O.faults sink.new }
+    ensures steady { OnOk result (O.faults sink.new ≡ O.faults sink.old) }
 {
     write_whole(sink, refusal(code))
 }

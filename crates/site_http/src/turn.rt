@@ -2,8 +2,7 @@
 ghost use Rattle.std.specs.Prelude.{◌≡◌, ◌++◌, ◌≤◌, ◌<◌, OnOk, OnErr, IfSome, Some};
 ghost use Rattle.content_state.specs.Replay.{Begins};
 ghost use Rattle.site_io.specs.Series.{GivesInTurn, last_moment};
-ghost use Rattle.site_http.specs.Connection.{HasCause};
-ghost use Rattle.site_http.specs.Turn.{Turned};
+ghost use Rattle.site_http.specs.Turn.{Turned, TurnReads, TurnWrites};
 
 use crate::answer::{Outcome, answer};
 use crate::next::{Inbox, Next, Trouble};
@@ -35,9 +34,8 @@ pub fn turn<H: House, S: Source, O: Sink, C: Clock, G: Gate>(
     ensures never_falls { H.faults house.old ≤ H.faults house.new }
     ensures turned { Turned result (S.left source.old) (S.left source.new) (C.given clock.old) (C.given clock.new) (O.written sink.old) (O.written sink.new) (H.base house.new) (H.seen house.new) LIMIT index inbox.old inbox.new }
     ensures moments { GivesInTurn last_moment (C.moments clock.old) (C.moments clock.new) (C.given clock.old) (C.given clock.new) }
-    ensures cause { IfSome result (λ e. HasCause e (S.faults source.old) (S.faults source.new) (O.faults sink.old) (O.faults sink.new)) }
-    ensures source_count { S.faults source.old ≤ S.faults source.new }
-    ensures sink_count { O.faults sink.old ≤ O.faults sink.new }
+    ensures reads { TurnReads result (S.faults source.old) (S.faults source.new) }
+    ensures writes { TurnWrites result (O.faults sink.old) (O.faults sink.new) }
 {
     let request = match inbox.next_request(alloc, source) {
         Next::Request(request) => request,

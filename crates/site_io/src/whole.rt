@@ -6,13 +6,14 @@ use crate::device::{Failed, Sink};
 
 /// Writes the bytes, in as many pieces as the sink takes them.
 ///
-/// At `Ok` all of them were written, once and in order. `Failed` comes only where a write failed and the sink's count of
+/// At `Ok` all of them were written, once and in order. `Failed` comes exactly where a write failed and the sink's count of
 /// faults rose; then a front of them was written. Each turn writes at least a byte, so no sink holds it up for ever.
 #[tactic(auto, using(crate::proofs::Told::after_more, crate::proofs::Told::after_none))]
 pub fn write_whole<O: Sink>(sink: &mut O, bytes: &[u8]) -> Result<(), Failed>
     ensures whole { OnOk result (O.written sink.new ≡ after (O.written sink.old) bytes.now) }
     ensures front { OnErr result (AddsFront (O.written sink.old) (O.written sink.new) bytes.now) }
     ensures cause { OnErr result (Rose (O.faults sink.old) (O.faults sink.new)) }
+    ensures steady { OnOk result (O.faults sink.new ≡ O.faults sink.old) }
     ensures never_falls { O.faults sink.old ≤ O.faults sink.new }
 {
     let mut sent = 0;

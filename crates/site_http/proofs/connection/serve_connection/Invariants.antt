@@ -15,6 +15,6 @@ invariant-requests g l = record {
   progress : Progress (g.S.Source.left l.fn.source) (g.S.Source.left l.source) (g.C.Clock.given l.fn.clock) (g.C.Clock.given l.clock) (g.O.Sink.written l.fn.sink) (g.O.Sink.written l.sink) (g.H.House.base l.house) (g.H.House.seen l.house) 1000 (newest (g.H.House.base l.fn.house) (g.H.House.seen l.fn.house)) l.index l.inbox;
   moments : GivesInTurn last_moment (g.C.Clock.moments l.fn.clock) (g.C.Clock.moments l.clock) (g.C.Clock.given l.fn.clock) (g.C.Clock.given l.clock);
   keeping : g.H.House.faults l.fn.house ≤ g.H.House.faults l.house;
-  reading : g.S.Source.faults l.fn.source ≤ g.S.Source.faults l.source;
-  writing : g.O.Sink.faults l.fn.sink ≤ g.O.Sink.faults l.sink;
+  reading : g.S.Source.faults l.source ≡ g.S.Source.faults l.fn.source;
+  writing : g.O.Sink.faults l.sink ≡ g.O.Sink.faults l.fn.sink;
 }

@@ -6,7 +6,7 @@ abbrev pub invariant-pieces : goal.invariant-pieces
 invariant-pieces g l = record {
   within : l.sent ≤ length l.bytes;
   told : g.O.Sink.written l.sink ≡ after (g.O.Sink.written l.fn.sink) (take l.sent l.bytes);
-  faults : g.O.Sink.faults l.fn.sink ≤ g.O.Sink.faults l.sink;
+  faults : g.O.Sink.faults l.sink ≡ g.O.Sink.faults l.fn.sink;
 }
 
 abbrev pub decreases-pieces : goal.decreases-pieces

@@ -17,4 +17,4 @@ pieces-smaller g c =
 
 pub returns-in-Err-clause-fetches : goal.returns-in-Err-clause-fetches
 returns-in-Err-clause-fetches g c =
-    fails_to_fetch c.in-Err.trouble (g.S.Source.left c.args.source.now) (g.S.Source.left c.pieces.source) (g.S.Source.left c.read_more.new.source) c.args.self.now c.pieces.invariant.more c.take_next.new.self c.read_more.new.self c.pieces.invariant.source (c.in_default.ensures.1 ∙ c.pieces.invariant.inbox) (subst (λ (l : List ℕ). Parses l More) (sym c.in_default.ensures.1) c.in_default.ensures.0) c.in-Err.ensures.err
+    fails_to_fetch c.in-Err.trouble (g.S.Source.left c.args.source.now) (g.S.Source.left c.pieces.source) (g.S.Source.left c.read_more.new.source) c.args.self.now c.pieces.invariant.more c.take_next.new.self c.read_more.new.self c.pieces.invariant.source c.pieces.invariant.needed (c.in_default.ensures.1 ∙ c.pieces.invariant.inbox) (subst (λ (l : List ℕ). Parses l More) (sym c.in_default.ensures.1) c.in_default.ensures.0) c.in-Err.ensures.err
