@@ -8,6 +8,3 @@ mod verdict;
 pub use access_result::AccessResult;
 pub use reason::{PermissionText, Reason};
 pub use verdict::Verdict;
-
-#[cfg(test)]
-mod tests;

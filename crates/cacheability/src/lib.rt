@@ -18,6 +18,3 @@ pub use name::{BadName, Name};
 pub use op::Op;
 pub use ordered_set::OrderedSet;
 pub use tag::Tag;
-
-#[cfg(test)]
-mod tests;

@@ -4,9 +4,9 @@ use Rattle.content_state.specs.declared.element.Library.{Library}
 use Rattle.content_state.specs.Read.{Answer, answer}
 use Rattle.content_state.specs.Context.{Visit, Value, value}
 use Rattle.content_state.specs.Plan.{Piece, Plan, Done, Write, Attach, Reading, Asking, Clock, Part, Needs, Made}
-use Rattle.fragment_cache.specs.Determined.{Agree, PagesAreDetermined, ElementsAreDetermined}
+use Rattle.fragment_cache.specs.Determined.{IsMadeAgain, IsDetermined, PagesAreMadeAgain, ElementsAreMadeAgain, EntriesAreMadeAgain, PagesAreDetermined, ElementsAreDetermined}
 
-made_again : {A : Type 0} (p : Plan A) (v w : Visit) (x : A) (shown : List Piece) (libraries : List Library) (needs : Needs) → Agree v w needs → Made p v x shown libraries needs → Made p w x shown libraries needs
+pub made_again : {A : Type 0} (p : Plan A) → IsMadeAgain p
 made_again (Done a) v w x shown libraries needs same made = made
 made_again (Write bs k) v w x shown libraries needs same made = (made.0, made.1, made_again k v w x made.0 libraries needs same made.2)
 made_again (Attach l k) v w x shown libraries needs same made = (made.0, made.1, made_again k v w x shown made.0 needs same made.2)
@@ -28,16 +28,25 @@ made_again (Clock age k) v w x shown libraries needs same made = (
 )
 made_again (Part h k) v w x shown libraries needs same made = (made.0, made.1, made_again k v w x made.0 libraries needs same made.2)
 
-pub pages : PagesAreDetermined
-pages p v w x shown libraries needs made same not_over = record {
+-- so it may be shown there, until it is over
+determined : {A : Type 0} (p : Plan A) → IsDetermined p
+determined p v w x shown libraries needs made same not_over = record {
   needs = needs;
   not_over = not_over;
   made = made_again p v w x shown libraries needs same made;
 }
 
+pub pages_again : PagesAreMadeAgain
+pages_again p = made_again p
+
+pub elements_again : ElementsAreMadeAgain
+elements_again p = made_again p
+
+pub entries_again : EntriesAreMadeAgain
+entries_again p = made_again p
+
+pub pages : PagesAreDetermined
+pages p = determined p
+
 pub elements : ElementsAreDetermined
-elements p v w x shown libraries needs made same not_over = record {
-  needs = needs;
-  not_over = not_over;
-  made = made_again p v w x shown libraries needs same made;
-}
+elements p = determined p

@@ -1,6 +1,6 @@
 -- What a fragment shows is determined by what it depends on.
 -- https://www.drupal.org/docs/drupal-apis/render-api/cacheability-of-render-arrays
-use Rattle.std.specs.Prelude.{ℕ, List, ◌≡◌, ◌≤◌}
+use Rattle.std.specs.Prelude.{ℕ, List, ◌≡◌, ◌≤◌, Option}
 use Rattle.cacheability.specs.declared.context.Context.{Context}
 use Rattle.content_state.specs.declared.element.Library.{Library}
 use Rattle.content_state.specs.Read.{Read, answer, cover}
@@ -15,6 +15,22 @@ pub record Agree (v w : Visit) (needs : Needs) : Type 0 where
   pub values : (c : Context) → CoversContext v needs c → value v c ≡ value w c
   pub contexts : (c : Context) → CoversContext v needs c → CoversContext w needs c
   pub not_before : v.moment ≤ w.moment
+
+-- what the plan makes on one visit, it makes on another that agrees with it on the needs, and needs no more there
+abbrev pub IsMadeAgain : {A : Type 0} → Plan A → Type 0
+IsMadeAgain {A} p =
+    (v w : Visit) (x : A) (shown : List Piece) (libraries : List Library) (needs : Needs)
+    → Agree v w needs → Made p v x shown libraries needs → Made p w x shown libraries needs
+
+abbrev pub PagesAreMadeAgain : Type 0
+PagesAreMadeAgain = (p : Plan ℕ) → IsMadeAgain p
+
+abbrev pub ElementsAreMadeAgain : Type 0
+ElementsAreMadeAgain = (p : Plan (Unit {0})) → IsMadeAgain p
+
+-- what is kept of an element: the status of a page, or none
+abbrev pub EntriesAreMadeAgain : Type 0
+EntriesAreMadeAgain = (p : Plan (Option ℕ)) → IsMadeAgain p
 
 -- what the plan makes on one visit, it shows on another that agrees with it on the needs, until they are over
 abbrev pub IsDetermined : {A : Type 0} → Plan A → Type 0

@@ -1,5 +1,21 @@
 //! Laws of the definitions, which the contract of an empty function states.
-ghost use Rattle.fragment_cache.specs.Determined.{PagesAreDetermined, ElementsAreDetermined};
+ghost use Rattle.fragment_cache.specs.Determined.{
+  PagesAreMadeAgain,
+  ElementsAreMadeAgain,
+  EntriesAreMadeAgain,
+  PagesAreDetermined,
+  ElementsAreDetermined,
+};
+
+/// What a page, an element or a kept entry of one makes on one visit, it makes on every other that agrees with it on all
+/// that it needs, and there it needs no more.
+/// <https://www.drupal.org/docs/drupal-apis/cache-api/cache-api>
+#[tactic(auto, using(crate::proofs::Determined::pages_again, crate::proofs::Determined::elements_again, crate::proofs::Determined::entries_again))]
+pub fn made_again()
+    ensures pages { PagesAreMadeAgain }
+    ensures elements { ElementsAreMadeAgain }
+    ensures entries { EntriesAreMadeAgain }
+{}
 
 /// What a page or an element shows on one visit, it shows on every other that agrees with it on all that it depends on, as
 /// long as its last moment isn't over.

@@ -4,4 +4,4 @@
 
 mod laws;
 
-pub use laws::shown_is_determined;
+pub use laws::{made_again, shown_is_determined};

@@ -14,6 +14,3 @@ pub use list::Segments;
 pub use part::Segment;
 pub use shared::Bytes;
 pub use threads::{bytes_go_between_threads, segments_go_between_threads};
-
-#[cfg(test)]
-mod tests;

@@ -2,3 +2,4 @@ pub mod Told
 pub mod Reached
 pub mod Memory
 pub mod Series
+pub mod Adapters

@@ -1,22 +1,23 @@
 //! What a site reads from, writes to, and takes its moments and its chance from.
 //!
 //! Each device is a trait, so that the work on bytes is proved for every device. A device tells what it holds, what
-//! was written to it or what it gave, as a list, or doesn't tell. Those in memory tell; those of the system don't.
+//! was written to it or what it gave, as a list, or doesn't tell. Those in memory tell, those
+//! over a reader or a writer tell what that tells, and those of the system don't.
 #![tactic(auto)]
 
+mod adapters;
 mod device;
 mod ended;
 mod memory;
+mod retry;
 mod series;
 mod system;
 mod whole;
 
+pub use adapters::{Reading, Writing};
 pub use device::{Clock, Entropy, Failed, Gate, LAST_MOMENT, Point, Sink, Source};
 pub use ended::Ended;
 pub use memory::{MemorySink, MemorySource};
 pub use series::{ListClock, ListEntropy};
-pub use system::{OpenGate, Reading, SystemClock, SystemEntropy, Writing};
+pub use system::{OpenGate, SystemClock, SystemEntropy};
 pub use whole::write_whole;
-
-#[cfg(test)]
-mod tests;

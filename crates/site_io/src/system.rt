@@ -1,93 +1,9 @@
 //! The devices of the system, which tell nothing of what they hold.
-ghost use Rattle.std.specs.Prelude.{◌≡◌, ◌≤◌, None};
-ghost use Rattle.site_io.specs.Told.{Rose};
+ghost use Rattle.std.specs.Prelude.{None};
 
-use crate::device::{Clock, Entropy, Failed, Gate, LAST_MOMENT, Point, Sink, Source};
-use std::io::{Read, Write};
+use crate::device::{Clock, Entropy, Gate, LAST_MOMENT, Point};
 use std::random::RandomSource;
 use std::time::{SystemTime, UNIX_EPOCH};
-
-/// A source over a reader of the standard library, as standard input, a file or a TCP stream.
-#[derive(Drop)]
-pub struct Reading<R> {
-    reader: R,
-    faults: u64,
-}
-
-impl<R> Reading<R> {
-    /// Reads from this reader. No fault is counted yet.
-    pub fn new(reader: R) -> Reading<R>
-        ensures { result.faults ≡ 0 }
-    {
-        Reading { reader, faults: 0 }
-    }
-}
-
-impl<R: Read> Source for Reading<R> {
-    ghost left = { λ _. None };
-
-    ghost faults = { λ r. r.faults };
-
-    fn read(&mut self, buffer: &mut [u8]) -> Result<usize, Failed> {
-        match self.reader.read(buffer) {
-            Ok(n) => Ok(n),
-            Err(_) => {
-                self.faults = self.faults.saturating_add(1);
-                Err(Failed)
-            }
-        }
-    }
-
-    fn faults(&self) -> u64 {
-        self.faults
-    }
-}
-
-/// A sink over a writer of the standard library, as standard output, a file or a TCP stream.
-#[derive(Drop)]
-pub struct Writing<W> {
-    writer: W,
-    faults: u64,
-}
-
-impl<W> Writing<W> {
-    /// Writes to this writer. No fault is counted yet.
-    pub fn new(writer: W) -> Writing<W>
-        ensures { result.faults ≡ 0 }
-    {
-        Writing { writer, faults: 0 }
-    }
-
-    // Counts a fault.
-    fn fault(&mut self) -> Failed
-        ensures cause { Rose self.old.faults self.new.faults }
-        ensures never_falls { self.old.faults ≤ self.new.faults }
-    {
-        self.faults = self.faults.saturating_add(1);
-        Failed
-    }
-}
-
-impl<W: Write> Sink for Writing<W> {
-    ghost written = { λ _. None };
-
-    ghost faults = { λ w. w.faults };
-
-    // A buffered writer is flushed, so that a peer that waits for these bytes gets them.
-    fn write(&mut self, piece: &[u8]) -> Result<usize, Failed> {
-        match self.writer.write(piece) {
-            Ok(n) if n > 0 || piece.is_empty() => match self.writer.flush() {
-                Ok(()) => Ok(n),
-                Err(_) => Err(self.fault()),
-            },
-            _ => Err(self.fault()),
-        }
-    }
-
-    fn faults(&self) -> u64 {
-        self.faults
-    }
-}
 
 /// The system's clock. A moment that it can't give, or before 1970, is 0; one after the year 2099 is 4,102,444,800.
 #[derive(Drop)]

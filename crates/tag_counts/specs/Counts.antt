@@ -2,8 +2,9 @@
 -- does not name was never invalidated.
 -- https://www.drupal.org/docs/drupal-apis/cache-api/cache-tags
 use Rattle.std.specs.Prelude.{ℕ, List, ◌+◌, unwrap_or, sum_by}
-use Rattle.std.specs.Map.{lookup}
+use Rattle.std.specs.Map.{lookup, keys_of}
 use Rattle.std.specs.BTreeMap.{is_at, insert_entry}
+use Rattle.std.specs.List.Sorted.{IsStrictlySortedBy}
 use Rattle.cacheability.specs.declared.tag.Tag.{Tag}
 use Rattle.cacheability.specs.Tag.{tag_cmp}
 
@@ -18,3 +19,7 @@ sum_of counts tags = sum_by (count_of counts) tags
 -- the counts with one more of a tag
 abbrev pub bumped : List (Tag × ℕ) → Tag → List (Tag × ℕ)
 bumped counts tag = insert_entry tag_cmp counts tag (count_of counts tag + 1)
+
+-- each tag stands once, in the order of the tags' texts
+abbrev pub IsInOrder : List (Tag × ℕ) → Type 0
+IsInOrder counts = IsStrictlySortedBy tag_cmp (keys_of counts)

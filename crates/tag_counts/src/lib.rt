@@ -1,7 +1,7 @@
 //! How often each cache tag was invalidated.
 #![tactic(auto)]
 
-ghost use Rattle.std.specs.Prelude.{◌≡◌, ◌≢◌, ◌↔◌, ◌+◌, [], IfOk, OnOk, OnErr, IsErrOf, IfErr};
+ghost use Rattle.std.specs.Prelude.{◌≡◌, ◌≢◌, ◌↔◌, ◌+◌, [], length, IfOk, OnOk, OnErr, IsErrOf, IfErr, IsTrue};
 ghost use Rattle.tag_counts.specs.declared.BumpFault.TheVariants as bump_fault;
 
 use cacheability::Tag;
@@ -48,7 +48,7 @@ impl Model for Counts {
 }
 
 impl Counts {
-    ghost use Rattle.tag_counts.specs.Counts.{count_of, sum_of, bumped};
+    ghost use Rattle.tag_counts.specs.Counts.{count_of, sum_of, bumped, IsInOrder};
     ghost use Rattle.cacheability.specs.declared.tag.Tag.{Tag as TagValue};
 
     /// No tag was invalidated.
@@ -58,6 +58,22 @@ impl Counts {
         Counts {
             map: BTreeMap::new(alloc),
         }
+    }
+
+    /// How many tags were invalidated. Each stands once, in the order of the tags' texts: so it is
+    /// in every value of this type.
+    pub fn len(&self) -> usize
+        ensures same { result ≡ length self.now }
+        ensures ordered { IsInOrder self.now }
+    {
+        self.map.len()
+    }
+
+    /// Whether no tag was invalidated.
+    pub fn is_empty(&self) -> bool
+        ensures { IsTrue result ↔ (self.now ≡ []) }
+    {
+        self.map.is_empty()
     }
 
     /// The count of a tag.
@@ -87,6 +103,7 @@ impl Counts {
         ensures ok { OnOk result (self.new ≡ bumped self.old tag.now) }
         ensures one_more { OnOk result (count_of self.new tag.now ≡ count_of self.old tag.now + 1) }
         ensures others { OnOk result ((t : TagValue) → t ≢ tag.now → count_of self.new t ≡ count_of self.old t) }
+        ensures ordered { OnOk result (IsInOrder self.new) }
         ensures err { OnErr result (self.new ≡ self.old) }
         ensures full { IsErrOf result (BumpFault.Full (record { 0 = tag.now })) ↔ (count_of self.old tag.now ≡ 18_446_744_073_709_551_615) }
         ensures only { IfErr result (λ e. e ≢ BumpFault.Full (record { 0 = tag.now }) → e ≡ BumpFault.OutOfMemory) }
@@ -101,13 +118,11 @@ impl Counts {
 
     /// The same counts again, in memory of their own. `Err` only where memory is wanting.
     pub fn duplicate(&self, _alloc: Global) -> Result<Counts, AllocError>
-        ensures { IfOk result (λ copy. copy ≡ self.now) }
+        ensures same { IfOk result (λ copy. copy ≡ self.now) }
+        ensures ordered { IfOk result (λ copy. IsInOrder copy) }
     {
         Ok(Counts {
             map: self.map.clone()?,
         })
     }
 }
-
-#[cfg(test)]
-mod tests;

@@ -1,0 +1,156 @@
+//! Sources and sinks over readers and writers of the standard library, which tell what those tell.
+ghost use Rattle.std.specs.Prelude.{◌≡◌, ◌≤◌, true, false, OnErr, OnOk};
+ghost use Rattle.site_io.specs.Told.{Rose};
+
+use crate::device::{Failed, Sink, Source};
+use crate::retry::{flush_retrying, read_retrying, write_retrying};
+use http_server::Log;
+use std::io::{Read, Write};
+use std::marker::Model;
+
+/// A source over a reader of the standard library, as standard input, a file or a TCP stream.
+///
+/// A read that a signal interrupts is made again, and is no fault.
+#[derive(Drop)]
+pub struct Reading<R: Read + Drop> {
+    reader: R,
+    // The reader as it was given, for proofs alone.
+    first: Log<R, ()>,
+    faults: u64,
+}
+
+impl<R: Read + Drop> Model for Reading<R> {
+    ghost use Rattle.site_io.specs.Adapters.{Intake, StillTells, still_told, told_first};
+
+    ghost Value = { Intake };
+
+    ghost view = { λ r. record { left = still_told (told_first R.remaining r.first.items) (R.remaining r.reader); faults = r.faults } };
+
+    ghost invariant = { λ r. StillTells (told_first R.remaining r.first.items) (R.remaining r.reader) };
+}
+
+impl<R: Read + Drop> Reading<R> {
+    /// Reads from this reader, and tells what it tells. No fault is counted yet.
+    pub fn new(reader: R) -> Reading<R>
+        ensures { result ≡ record { left = R.remaining reader; faults = 0 } }
+    {
+        let first = Log::new().and(&reader, &());
+        Reading {
+            reader,
+            first,
+            faults: 0,
+        }
+    }
+}
+
+impl<R: Read + Drop> Source for Reading<R> {
+    ghost left = { λ r. r.left };
+
+    ghost faults = { λ r. r.faults };
+
+    fn read(&mut self, buffer: &mut [u8]) -> Result<usize, Failed> {
+        match read_retrying(&mut self.reader, buffer) {
+            Ok(n) => Ok(n),
+            Err(_) => {
+                self.faults = self.faults.saturating_add(1);
+                Err(Failed)
+            }
+        }
+    }
+
+    fn faults(&self) -> u64 {
+        self.faults
+    }
+}
+
+/// A sink over a writer of the standard library, as standard output, a file or a TCP stream.
+///
+/// A call that a signal interrupts is made again, and is no fault.
+#[derive(Drop)]
+pub struct Writing<W: Write + Drop> {
+    writer: W,
+    // The writer as it was given, for proofs alone.
+    first: Log<W, ()>,
+    owes_flush: bool,
+    faults: u64,
+}
+
+impl<W: Write + Drop> Model for Writing<W> {
+    ghost use Rattle.site_io.specs.Adapters.{Outlet, StillTells, still_told, told_first};
+
+    ghost Value = { Outlet };
+
+    ghost view = { λ w. record { written = still_told (told_first W.contents w.first.items) (W.contents w.writer); owes_flush = w.owes_flush; faults = w.faults } };
+
+    ghost invariant = { λ w. StillTells (told_first W.contents w.first.items) (W.contents w.writer) };
+}
+
+impl<W: Write + Drop> Writing<W> {
+    /// Writes to this writer, and tells what it tells. No fault is counted yet.
+    pub fn new(writer: W) -> Writing<W>
+        ensures { result ≡ record { written = W.contents writer; owes_flush = false; faults = 0 } }
+    {
+        let first = Log::new().and(&writer, &());
+        Writing {
+            writer,
+            first,
+            owes_flush: false,
+            faults: 0,
+        }
+    }
+
+    // Counts a fault.
+    fn fault(&mut self) -> Failed
+        ensures written { self.new.written ≡ self.old.written }
+        ensures owes { self.new.owes_flush ≡ self.old.owes_flush }
+        ensures cause { Rose self.old.faults self.new.faults }
+        ensures never_falls { self.old.faults ≤ self.new.faults }
+    {
+        self.faults = self.faults.saturating_add(1);
+        Failed
+    }
+
+    /// Flushes the writer, where the flush after the last write failed: bytes that were written may be held back by it.
+    ///
+    /// `Failed` comes exactly where that fails again and the count of faults rose in this call. Each write begins with
+    /// this; so call it once the last write is made.
+    pub fn settle(&mut self) -> Result<(), Failed>
+        ensures written { self.new.written ≡ self.old.written }
+        ensures settled { OnOk result (self.new.owes_flush ≡ false) }
+        ensures owed { OnErr result (self.old.owes_flush ≡ true) }
+        ensures cause { OnErr result (Rose self.old.faults self.new.faults) }
+        ensures steady { OnOk result (self.new.faults ≡ self.old.faults) }
+        ensures never_falls { self.old.faults ≤ self.new.faults }
+    {
+        if self.owes_flush {
+            if flush_retrying(&mut self.writer).is_err() {
+                return Err(self.fault());
+            }
+            self.owes_flush = false;
+        }
+        Ok(())
+    }
+}
+
+impl<W: Write + Drop> Sink for Writing<W> {
+    ghost written = { λ w. w.written };
+
+    ghost faults = { λ w. w.faults };
+
+    // A buffered writer is flushed, so that a peer that waits for these bytes gets them. They are written then, so a
+    // flush that fails is told by the next call, unless it can be made good there.
+    fn write(&mut self, piece: &[u8]) -> Result<usize, Failed> {
+        self.settle()?;
+        match write_retrying(&mut self.writer, piece) {
+            Ok(n) if n > 0 || piece.is_empty() => {
+                self.owes_flush = flush_retrying(&mut self.writer).is_err();
+                Ok(n)
+            }
+            _ => Err(self.fault()),
+        }
+    }
+
+    fn faults(&self) -> u64 {
+        self.faults
+    }
+}
