@@ -1,5 +1,7 @@
 pub mod Apart
 pub mod Ascending
 pub mod CellLemmas
+pub mod GrantLemmas
+pub mod Ids
 pub mod MenuWalk
 pub mod StarterLemmas

@@ -1,6 +1,7 @@
 pub mod CellOrder
 pub mod CellText
 pub mod GrantOrder
+pub mod IdText
 pub mod Kinds
 pub mod LiteralName
 pub mod MenuTree

@@ -95,7 +95,7 @@ pub(crate) fn is_line(most: usize, text: &[u8]) -> bool
 }
 
 /// Whether no byte is a control byte.
-fn has_line_bytes(text: &[u8]) -> bool
+pub fn has_line_bytes(text: &[u8]) -> bool
     ensures { result ≡ list_all is_line_byte text.now }
 {
     text.iter().all(|&byte| is_line_byte(byte))
@@ -116,7 +116,7 @@ pub(crate) fn is_text(text: &[u8]) -> bool
 }
 
 /// Whether no byte is a control byte but those of lines.
-fn has_text_bytes(text: &[u8]) -> bool
+pub fn has_text_bytes(text: &[u8]) -> bool
     ensures { result ≡ list_all is_text_byte text.now }
 {
     text.iter().all(|&byte| is_text_byte(byte))
@@ -130,7 +130,7 @@ fn is_text_byte(byte: u8) -> bool
 }
 
 /// Whether bytes are UTF-8.
-fn is_utf8(text: &[u8]) -> bool
+pub fn is_utf8(text: &[u8]) -> bool
     ensures { result ≡ is_utf8 text.now }
 {
     str::from_utf8(text).is_ok()
@@ -144,7 +144,7 @@ pub(crate) fn is_uuid(text: &[u8]) -> bool
 }
 
 /// Whether each byte may stand in a universal id.
-fn has_uuid_bytes(text: &[u8]) -> bool
+pub fn has_uuid_bytes(text: &[u8]) -> bool
     ensures { result ≡ list_all is_uuid_byte text.now }
 {
     text.iter().all(|&byte| is_uuid_byte(byte))
@@ -172,7 +172,7 @@ pub(crate) fn is_hex(count: usize, text: &[u8]) -> bool
 }
 
 /// Whether each byte is a lower-case hex digit.
-fn has_hex_digits(text: &[u8]) -> bool
+pub fn has_hex_digits(text: &[u8]) -> bool
     ensures { result ≡ list_all is_hex_digit text.now }
 {
     text.iter().all(|&byte| is_hex_digit(byte))
@@ -186,7 +186,7 @@ fn is_hex_digit(byte: u8) -> bool
 }
 
 /// Whether a text is a path of the site: `/` and 1 to 255 bytes more, no segment of which is empty.
-pub(crate) fn is_target(text: &[u8]) -> bool
+pub fn is_target(text: &[u8]) -> bool
     ensures { result ≡ is_target text.now }
 {
     match text {
@@ -225,7 +225,7 @@ fn has_no_empty_segment(rest: &[u8]) -> bool
 }
 
 /// Whether a path begins with a segment of the site's own.
-fn is_reserved(text: &[u8]) -> bool
+pub fn is_reserved(text: &[u8]) -> bool
     ensures { result ≡ is_reserved text.now }
 {
     match text {
@@ -277,7 +277,7 @@ pub(crate) fn is_listing_path(text: &[u8]) -> bool
 }
 
 /// Whether a block may be placed at the path: also at `/`, and at `<front>`, the front page.
-pub(crate) fn is_block_path(text: &[u8]) -> bool
+pub fn is_block_path(text: &[u8]) -> bool
     ensures { result ≡ is_block_path text.now }
 {
     is_target(text) || text == b"/".as_slice() || text == b"<front>".as_slice()

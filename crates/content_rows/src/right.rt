@@ -119,7 +119,7 @@ fn is_right_field(field: &FieldRow) -> bool
 }
 
 /// Whether each name of a field is there once.
-fn have_distinct_names(fields: &[FieldRow]) -> bool
+pub fn have_distinct_names(fields: &[FieldRow]) -> bool
     ensures { IsTrue result ↔ IsDistinct bytes_eq (map (λ f. f.name) fields.now) }
 {
     let mut left = fields;
@@ -265,7 +265,7 @@ fn is_right_link(link: &Link) -> bool
 }
 
 /// Whether each id of a link is there once.
-fn have_distinct_ids(links: &[Link]) -> bool
+pub fn have_distinct_ids(links: &[Link]) -> bool
     ensures { IsTrue result ↔ IsDistinct bytes_eq (map (λ l. l.id) links.now) }
 {
     let mut left = links;
@@ -286,7 +286,7 @@ fn has_link(links: &[Link], id: &Name) -> bool
 }
 
 /// Whether each link stands at the top, or its parent is there.
-fn have_their_parents(links: &[Link]) -> bool
+pub fn have_their_parents(links: &[Link]) -> bool
     ensures { result ≡ list_all (has_its_parent links.now) links.now }
 {
     links.iter().all(|link| has_its_parent(links, link))
@@ -310,7 +310,7 @@ fn link_at<'a>(links: &'a [Link], id: &Name) -> Option<&'a Link>
 }
 
 /// Whether each link comes to the top within so many links, itself counted.
-fn all_reach_top(most: usize, links: &[Link]) -> bool
+pub fn all_reach_top(most: usize, links: &[Link]) -> bool
     ensures { result ≡ list_all (reaches_top most links.now) links.now }
 {
     links.iter().all(|link| reaches_top(most, links, link))

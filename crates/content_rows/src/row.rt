@@ -2,6 +2,7 @@
 
 use crate::text::{Items, Text};
 use cacheability::Name;
+use std::cmp::Ordering;
 
 /// The settings of the site.
 #[derive(Drop, Debug)]
@@ -52,14 +53,38 @@ pub struct NodeType {
     pub submitted: bool,
 }
 
-/// A grant that a role or a user holds: a number in a realm.
+/// A grant that a role or a user holds: a number in a realm. Grants are in order of the bytes of
+/// their realms, and within a realm by number.
 /// <https://api.drupal.org/api/drupal/core!modules!node!node.api.php/function/hook_node_grants/10>
 #[derive(Clone, Copy, Debug, PartialEq, Eq, PartialOrd, Ord)]
 pub struct Grant {
-    /// The number of the grant.
-    pub gid: u32,
     /// The realm that the number belongs to.
     pub realm: Name,
+    /// The number of the grant.
+    pub gid: u32,
+}
+
+impl Grant {
+    ghost use Rattle.std.specs.Prelude.{◌≡◌, ◌↔◌, IsTrue};
+    ghost use Rattle.content_rows.specs.GrantOrder.{grant_cmp, order_of_grants, TellsGrantsApart};
+
+    /// How the two stand in the order of grants: by the bytes of the realm, and then by number.
+    /// <https://api.drupal.org/api/drupal/core!modules!node!src!Cache!NodeAccessGrantsCacheContext.php/class/NodeAccessGrantsCacheContext/10>
+    pub fn order(&self, other: &Grant) -> Ordering
+        ensures told { result ≡ order_of_grants self.now other.now }
+        ensures kept { result ≡ grant_cmp self.now other.now }
+    {
+        self.cmp(other)
+    }
+
+    /// Whether both are the same grant, which the order of grants tells too: it is `Equal` there
+    /// alone.
+    pub fn equals(&self, other: &Grant) -> bool
+        ensures same { IsTrue result ↔ (self.now ≡ other.now) }
+        ensures apart { TellsGrantsApart }
+    {
+        self == other
+    }
 }
 
 /// A role.

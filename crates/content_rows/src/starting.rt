@@ -81,18 +81,18 @@ fn seq() -> Row
 fn page_type(alloc: Global) -> Result<Row, AllocError>
     ensures { IfOk result (λ r. r ≡ starter_page_type) }
 {
-    let mut fields = Vec::with_capacity(alloc, 1)?;
-    fields.push(FieldRow {
+    let label = Text::copied(alloc, b"Page")?;
+    let body = FieldRow {
         edit: None,
         label: Text::copied(alloc, b"Body")?,
         name: name(b"body"),
         owner: false,
         teaser: true,
         view: None,
-    })?;
+    };
     Ok(Row::NodeType(NodeType {
-        fields: Items::from_vec(fields),
-        label: Text::copied(alloc, b"Page")?,
+        fields: Items::one(alloc, body)?,
+        label,
         submitted: false,
     }))
 }
@@ -100,43 +100,46 @@ fn page_type(alloc: Global) -> Result<Row, AllocError>
 fn role(alloc: Global, label: &[u8]) -> Result<Row, AllocError>
     ensures { IfOk result (λ r. r ≡ starter_role label.now) }
 {
-    let mut permissions = Vec::with_capacity(alloc, 1)?;
-    permissions.push(Text::copied(alloc, b"access content")?)?;
+    let label = Text::copied(alloc, label)?;
+    let permissions = Items::one(alloc, Text::copied(alloc, b"access content")?)?;
     Ok(Row::Role(Role {
         admin: false,
         grants: Items::none(alloc),
-        label: Text::copied(alloc, label)?,
-        permissions: Items::from_vec(permissions),
+        label,
+        permissions,
     }))
 }
 
 fn admin(alloc: Global) -> Result<Row, AllocError>
     ensures { IfOk result (λ r. r ≡ starter_admin) }
 {
+    let name = Text::copied(alloc, b"admin")?;
+    let uuid = Text::copied(alloc, b"u-1")?;
     Ok(Row::User(User {
         created: 0,
         digest: None,
         grants: Items::none(alloc),
-        name: Text::copied(alloc, b"admin")?,
+        name,
         roles: Items::none(alloc),
-        salt: Text::copied(alloc, b"")?,
+        salt: Text::from_vec(Vec::new(alloc)),
         status: true,
-        uuid: Text::copied(alloc, b"u-1")?,
+        uuid,
     }))
 }
 
 fn node(alloc: Global) -> Result<Row, AllocError>
     ensures { IfOk result (λ r. r ≡ starter_node) }
 {
-    let mut fields = Vec::with_capacity(alloc, 1)?;
-    fields.push(FieldValue {
+    let title = Text::copied(alloc, b"First")?;
+    let uuid = Text::copied(alloc, b"n-1")?;
+    let body = FieldValue {
         name: name(b"body"),
         value: Text::copied(alloc, b"Hello")?,
-    })?;
+    };
     Ok(Row::Node(Node {
         changed: 100,
         created: 100,
-        fields: Items::from_vec(fields),
+        fields: Items::one(alloc, body)?,
         grants: Items::none(alloc),
         path: None,
         promote: true,
@@ -144,10 +147,10 @@ fn node(alloc: Global) -> Result<Row, AllocError>
         status: true,
         sticky: false,
         terms: Items::none(alloc),
-        title: Text::copied(alloc, b"First")?,
+        title,
         node_type: name(b"page"),
         uid: 1,
-        uuid: Text::copied(alloc, b"n-1")?,
+        uuid,
         vid: 1,
     }))
 }
@@ -155,13 +158,15 @@ fn node(alloc: Global) -> Result<Row, AllocError>
 fn frontpage(alloc: Global) -> Result<Row, AllocError>
     ensures { IfOk result (λ r. r ≡ starter_frontpage) }
 {
+    let path = Text::copied(alloc, b"/node")?;
+    let title = Text::copied(alloc, b"Home")?;
     Ok(Row::Listing(Listing {
         age: None,
-        path: Some(Text::copied(alloc, b"/node")?),
+        path: Some(path),
         promoted: true,
         recent: None,
         term: None,
-        title: Text::copied(alloc, b"Home")?,
+        title,
         types: Items::none(alloc),
     }))
 }

@@ -1,5 +1,5 @@
 //! Texts and lists of rows: each is a `Vec` that contracts see as the list of its members.
-ghost use Rattle.std.specs.Prelude.{◌≡◌, List, ℕ, [], length, IfOk, IsTrue, ◌↔◌, Some, nat_eq, refl, take};
+ghost use Rattle.std.specs.Prelude.{◌≡◌, List, ℕ, [], ◌∷◌, length, IfOk, IsTrue, ◌↔◌, Some, nat_eq, refl, take};
 ghost use Rattle.std.specs.Ordering.{nat_cmp};
 ghost use Rattle.std.specs.Cmp.{partial_equiv_from_equiv};
 ghost use Rattle.std.specs.Cmp.Lexicographic.{pointwise, slice_cmp, nat_list_eq_equiv, nat_list_cmp_total, texts_po, texts_ties};
@@ -130,13 +130,22 @@ impl<T: Drop> Items<T> {
         self.items
     }
 
-    /// An empty list. `Err` only where memory is wanting.
+    /// An empty list. It takes no memory.
     pub fn none(alloc: Global) -> Items<T>
         ensures { result ≡ [] }
     {
         Items {
             items: Vec::new(alloc),
         }
+    }
+
+    /// A list of this member alone. `Err` only where memory is wanting.
+    pub fn one(alloc: Global, member: T) -> Result<Items<T>, AllocError>
+        ensures { IfOk result (λ m. m ≡ member ∷ []) }
+    {
+        let mut items = Vec::with_capacity(alloc, 1)?;
+        items.push(member)?;
+        Ok(Items { items })
     }
 
     /// The members in their order.

@@ -2,6 +2,7 @@
 ghost use Rattle.std.specs.Prelude.{◌≡◌, ◌∷◌, ◌++◌, OnOk, IfOk, option_copied, map, fold};
 ghost use Rattle.std.specs.List.{flat_map};
 ghost use Rattle.std.specs.BTreeSet.{insert_key};
+ghost use Rattle.std.specs.List.Sorted.{IsStrictlySortedBy};
 ghost use Rattle.content_rows.specs.GrantOrder.{grant_cmp};
 ghost use Rattle.content_rows.specs.Permission.{grants_of as grants_by, grants_of_user, grant_set, everybody as everybody_grant};
 
@@ -10,7 +11,7 @@ use content_rows::{Grant, Items, Role, User};
 use std::alloc::{AllocError, Global};
 use std::collections::BTreeSet;
 
-/// The grants of a viewer, by number and then by realm, each once: number 0 in the realm `all`,
+/// The grants of a viewer, by the bytes of the realm and then by number, each once: number 0 in the realm `all`,
 /// which everybody has, those of the viewer's row, if there is one, and those of the present ones
 /// of its roles. `Err` only where memory is wanting.
 /// <https://api.drupal.org/api/drupal/core!modules!node!node.api.php/function/hook_node_grants/10>
@@ -19,7 +20,8 @@ pub fn grants_of(
     user: Option<&User>,
     roles: &[&Role],
 ) -> Result<Items<Grant>, AllocError>
-    ensures { IfOk result (λ grants. grants ≡ grants_by (option_copied user.entry) (map (λ role. role.now) roles.now)) }
+    ensures same { IfOk result (λ grants. grants ≡ grants_by (option_copied user.entry) (map (λ role. role.now) roles.now)) }
+    ensures in_order { IfOk result (λ grants. IsStrictlySortedBy grant_cmp grants) }
 {
     let mut grants = BTreeSet::new(alloc);
     grants.insert(everybody())?;

@@ -5,8 +5,6 @@
 mod grants;
 mod naming;
 mod records;
-#[cfg(test)]
-mod tests;
 
 pub use grants::grants_of;
 pub use naming::granted;

@@ -1,1 +1,2 @@
+pub mod Csrf
 pub mod Permitted

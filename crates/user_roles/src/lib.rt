@@ -1,13 +1,14 @@
-//! What the roles of a user give: their names, what they permit, and whether a session is live.
+//! What the roles of a user give: their names, what they permit, whether a session is live, and
+//! what guards its forms.
 #![tactic(auto)]
 
+mod csrf;
 mod names;
 mod permission;
 mod session;
 mod sorted;
-#[cfg(test)]
-mod tests;
 
+pub use csrf::csrf_of;
 pub use names::role_names;
 pub use permission::{has, permissions_of};
 pub use session::session_live;
