@@ -4,3 +4,5 @@ pub mod Within
 pub mod Laws
 pub mod Heads
 pub mod Statuses
+pub mod Fates
+pub mod Total

@@ -47,3 +47,7 @@ abbrev pub ReadsOnce : Type 0
 ReadsOnce =
     (k : ℕ) (bytes : List ℕ) (requests others : List Request) (end last : End)
     → Reads k bytes requests end → Reads k bytes others last → SameReading requests others end last
+
+-- every text has a reading, whatever its limit
+abbrev pub ReadsSome : Type 0
+ReadsSome = (k : ℕ) (bytes : List ℕ) → (requests : List Request) × (end : End) × Reads k bytes requests end

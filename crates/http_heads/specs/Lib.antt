@@ -1,6 +1,7 @@
 pub mod Fields
 pub mod Cookies
 pub mod Framing
+pub mod Target
 pub mod Head
 pub mod Parses
 pub mod Requests

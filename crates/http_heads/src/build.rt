@@ -5,7 +5,8 @@ ghost use Rattle.percent_encoding.specs.Percent.{percent_decode};
 ghost use Rattle.httparse.specs.Grammar.{RequestHead};
 ghost use Rattle.httparse.specs.Spans.{IsWithin};
 ghost use Rattle.http_heads.specs.Cookies.{NamesSession, token_of};
-ghost use Rattle.http_heads.specs.Head.{is_question, cut_before, cut_after, path_of, query_of, version_of, closes_by, IsRequestOf};
+ghost use Rattle.http_heads.specs.Head.{version_of, closes_by, IsRequestOf};
+ghost use Rattle.http_heads.specs.Target.{is_question, cut_before, cut_after, path_of, query_of};
 ghost use Rattle.http_heads.specs.Lines.{lines, AreWithin, IsPartsOf};
 
 use crate::fields::{asks_close, content_type, csrf_token, session_token};

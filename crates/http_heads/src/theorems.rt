@@ -1,5 +1,5 @@
 //! The laws of what bytes begin with: each is the contract of a function that does nothing.
-ghost use Rattle.http_heads.specs.Laws.{WholeStays, RefusedStays, WholeTakes, MoreIsShort, ParsesOnce, ReadsOnce};
+ghost use Rattle.http_heads.specs.Laws.{WholeStays, RefusedStays, WholeTakes, MoreIsShort, ParsesOnce, ReadsOnce, ReadsSome};
 
 /// A whole request stays one, whatever bytes follow. So a connection may be read in pieces of any
 /// length.
@@ -31,4 +31,9 @@ pub fn parses_once()
 /// The requests of a text and its end are determined: two readings of it are equal.
 pub fn reads_once()
     ensures { ReadsOnce }
+{}
+
+/// Every text has a reading, for every limit: some requests, and an end.
+pub fn reads_some()
+    ensures { ReadsSome }
 {}
