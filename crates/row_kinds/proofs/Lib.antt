@@ -1,0 +1,13 @@
+pub mod Codec
+pub mod ContentLaws
+pub mod Fields
+pub mod Keys
+pub mod Lists
+pub mod Names
+pub mod Numbers
+pub mod Objects
+pub mod PeopleLaws
+pub mod Strings
+pub mod StructureLaws
+pub mod Utf8
+pub mod WordCodecs

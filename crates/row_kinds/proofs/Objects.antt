@@ -1,0 +1,98 @@
+-- What a table that lets an object through says of what is read of each of its keys.
+use Rattle.std.proofs.Common.{◌≡◌, ℕ, List, ◌∷◌, Bool, true, false, cond, Option, Some, None, refl, sym, ap, subst, ◌∙◌, codes, option_map}
+use Rattle.std.specs.Cmp.Lexicographic.{slice_cmp}
+use Rattle.std.specs.List.Sorted.{IsStrictlySortedBy}
+use Rattle.std.specs.Ordering.{nat_cmp, match_ordering}
+use Rattle.std.specs.declared.cmp.Ordering.{Ordering}
+use Rattle.std.specs.declared.cmp.Ordering.TheVariants.{Less, Equal, Greater}
+use Rattle.serde_json.specs.Data.{Data, null, boolean, number, string, array, object, Members, no_members, member}
+use Rattle.serde_json.specs.Find.{get, get_member}
+use Rattle.json_keys.specs.Fault.{named, members_in, members_fault, missing_key, object_fault, row_fault, columns_of, entry_fault, always}
+use Rattle.json_keys.specs.Order.{AllInOrder, MembersInOrder, IsInOrder}
+use Rattle.json_keys.specs.declared.rule.Rule.{Rule}
+use Rattle.json_keys.specs.declared.shape.Columns.{Columns}
+use Rattle.json_keys.proofs.Agree.{is_ascending, all_named, AgreesOn, same_by_table}
+use Rattle.json_keys.proofs.Held.{neither, some_same, get_in, present, must}
+use Rattle.row_kinds.specs.Look.{value_at}
+use Rattle.row_kinds.proofs.Codec.{Codec}
+
+-- ---- what is inside is in order
+
+inside_one : (o : Ordering) (d v : Data) (rest : Option Data) → AllInOrder d → (rest ≡ Some v → AllInOrder v) → match_ordering o rest (Some d) rest ≡ Some v → AllInOrder v
+inside_one Less d v rest o more g = more g
+inside_one Greater d v rest o more g = more g
+inside_one Equal d v rest o more g = subst AllInOrder (some_same d v g) o
+
+inside_at : (ms : Members) (k : List ℕ) (v : Data) → MembersInOrder ms → get_member k ms ≡ Some v → AllInOrder v
+inside_at no_members k v o g = absurd cc
+inside_at (member l d ms) k v o g = inside_one (slice_cmp nat_cmp k l) d v (get_member k ms) o.0 (inside_at ms k v o.1) g
+
+inside : (d : Data) (k : List ℕ) (v : Data) → AllInOrder d → get k d ≡ Some v → AllInOrder v
+inside (object ms) k v o g = inside_at ms k v o.1 g
+inside null k v o g = absurd cc
+inside (boolean b) k v o g = absurd cc
+inside (number n) k v o g = absurd cc
+inside (string s) k v o g = absurd cc
+inside (array ds) k v o g = absurd cc
+
+-- ---- objects
+
+is_object : (d : Data) (k : List ℕ) (v : Data) → get k d ≡ Some v → object (members_in d) ≡ d
+is_object (object ms) k v g = refl
+is_object null k v g = absurd cc
+is_object (boolean b) k v g = absurd cc
+is_object (number n) k v g = absurd cc
+is_object (string s) k v g = absurd cc
+is_object (array ds) k v g = absurd cc
+
+in_order : (d : Data) → AllInOrder d → IsInOrder (members_in d)
+unfolding IsStrictlySortedBy
+in_order (object ms) o = o.0
+in_order null o = tt
+in_order (boolean b) o = tt
+in_order (number n) o = tt
+in_order (string s) o = tt
+in_order (array ds) o = tt
+
+-- an object in order that a table lets through
+pub record IsPassed {A : Type 0} (fault : A → Data → Option Rule) (wanted : A → Bool) (ks : List (List ℕ × A)) (d : Data) : Type 0 where
+  pub order : AllInOrder d
+  pub passed : object_fault fault wanted ks d ≡ None
+
+-- what is read at a key that is to be there is good
+pub good : {A X : Type 0} {of : Data → X} {shown : X → Data} {Good : X → Type 0} {fault : A → Data → Option Rule} {wanted : A → Bool} {ks : List (List ℕ × A)} {d : Data}
+    → IsPassed fault wanted ks d → (k : List ℕ) (a : A) → named ks k ≡ Some a → wanted a ≡ true → Codec X (fault a) of shown Good → Good (of (value_at k d))
+good {A} {X} {of} {shown} {Good} {fault} {wanted} {ks} {d} p k a n w c =
+    c.right (value_at k d) (inside d k (value_at k d) p.order (present fault wanted ks k a d p.passed n w)) (must fault wanted ks k a d p.passed n w)
+
+-- what is written of what is read there is what is there
+pub keeps : {A X : Type 0} {of : Data → X} {shown : X → Data} {Good : X → Type 0} {fault : A → Data → Option Rule} {wanted : A → Bool} {ks : List (List ℕ × A)} {d : Data}
+    → IsPassed fault wanted ks d → (k : List ℕ) (a : A) → named ks k ≡ Some a → wanted a ≡ true → Codec X (fault a) of shown Good → Some (shown (of (value_at k d))) ≡ get_member k (members_in d)
+keeps {A} {X} {of} {shown} {Good} {fault} {wanted} {ks} {d} p k a n w c =
+    let there = present fault wanted ks k a d p.passed n w in
+    ap Some (c.kept (value_at k d) (inside d k (value_at k d) p.order there) (must fault wanted ks k a d p.passed n w)) ∙ sym there ∙ get_in k d
+
+-- members that stand in the code, in order and with the keys of the table, are all that is there, where they agree with
+-- what is there
+pub rebuilt : {A : Type 0} {fault : A → Data → Option Rule} {wanted : A → Bool} {ks : List (List ℕ × A)} {d : Data}
+    → IsPassed fault wanted ks d → (k : List ℕ) (a : A) → named ks k ≡ Some a → wanted a ≡ true → (ms : Members) → is_ascending ms ≡ true → all_named ks ms ≡ true → AgreesOn ks ms (members_in d)
+    → object ms ≡ d
+rebuilt {A} {fault} {wanted} {ks} {d} p k a n w ms up listed agree =
+    ap object (same_by_table fault ks ms (members_in d) up listed (in_order d p.order) (neither (members_fault fault ks (members_in d)) (missing_key wanted ks d) p.passed).0 agree) ∙ is_object d k (value_at k d) (present fault wanted ks k a d p.passed n w)
+
+-- ---- objects in lists
+
+unmapped : (o : Option (List ℕ × Rule)) → option_map (λ f. f.1) o ≡ None → o ≡ None
+unmapped None h = refl
+unmapped (Some f) h = absurd cc
+
+row_passed : (cs : Columns) (d : Data) → row_fault cs d ≡ None → object_fault entry_fault always (columns_of cs) d ≡ None
+row_passed cs (object ms) h = unmapped (object_fault entry_fault always (columns_of cs) (object ms)) h
+row_passed cs null h = absurd cc
+row_passed cs (boolean b) h = absurd cc
+row_passed cs (number n) h = absurd cc
+row_passed cs (string s) h = absurd cc
+row_passed cs (array ds) h = absurd cc
+
+pub columns_passed : (cs : Columns) (d : Data) → AllInOrder d → row_fault cs d ≡ None → IsPassed entry_fault always (columns_of cs) d
+columns_passed cs d o h = record { order = o; passed = row_passed cs d h }

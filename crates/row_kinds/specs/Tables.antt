@@ -1,0 +1,37 @@
+-- The tables of keys, with their names as texts.
+use Rattle.std.specs.Prelude.{ℕ, List, map}
+use Rattle.json_keys.specs.declared.shape.Ask.{Ask}
+use Rattle.row_kinds.specs.declared.tables.TheConstants.{SITE, SEQ, TYPE, ROLE, USER, TERM, NODE, MENU, LISTING, BLOCK, SESSION}
+
+abbrev pub site_row : List (List ℕ × Ask)
+site_row = map (λ k. (k.0.now, k.1)) SITE
+
+abbrev pub seq_row : List (List ℕ × Ask)
+seq_row = map (λ k. (k.0.now, k.1)) SEQ
+
+abbrev pub type_row : List (List ℕ × Ask)
+type_row = map (λ k. (k.0.now, k.1)) TYPE
+
+abbrev pub role_row : List (List ℕ × Ask)
+role_row = map (λ k. (k.0.now, k.1)) ROLE
+
+abbrev pub user_row : List (List ℕ × Ask)
+user_row = map (λ k. (k.0.now, k.1)) USER
+
+abbrev pub term_row : List (List ℕ × Ask)
+term_row = map (λ k. (k.0.now, k.1)) TERM
+
+abbrev pub node_row : List (List ℕ × Ask)
+node_row = map (λ k. (k.0.now, k.1)) NODE
+
+abbrev pub menu_row : List (List ℕ × Ask)
+menu_row = map (λ k. (k.0.now, k.1)) MENU
+
+abbrev pub listing_row : List (List ℕ × Ask)
+listing_row = map (λ k. (k.0.now, k.1)) LISTING
+
+abbrev pub block_row : List (List ℕ × Ask)
+block_row = map (λ k. (k.0.now, k.1)) BLOCK
+
+abbrev pub session_row : List (List ℕ × Ask)
+session_row = map (λ k. (k.0.now, k.1)) SESSION

@@ -1,0 +1,18 @@
+//! The kinds of rows in JSON: for each its table of keys, how it is read of an object, and how it
+//! is written as one.
+//!
+//! What is read of an object is a value for every object. Where the table of the kind lets the
+//! object through, it is what the object says; else it is shown to nobody. So reading has no
+//! errors but want of memory, and a key costs a line.
+#![tactic(auto)]
+
+mod content;
+mod field;
+mod people;
+mod structure;
+mod tables;
+mod texts;
+mod words;
+
+pub use field::{Read, Write, name_bytes, name_of, put_at, read_at, read_checked};
+pub use tables::{BLOCK, LISTING, MENU, NODE, ROLE, SEQ, SESSION, SITE, TERM, TYPE, USER};
