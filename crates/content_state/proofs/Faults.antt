@@ -228,13 +228,29 @@ pub found_present : (rows : List (Cell × Row)) (found : Option NotASite) → Is
 found_present rows None sorted none is = none_at_all rows none (sym is)
 found_present rows (Some found) sorted none is = first_present rows found sorted none (sym is)
 
--- whether a fault is found tells whether a cell breaks a rule
-pub none_found : (rows : List (Cell × Row)) (found : Option NotASite) (none : Bool) → is_some found ≡ not none
-    → MatchOption found (MeetsSiteRules rows) (IsFirstFault rows) → IsTrue none ↔ MeetsSiteRules rows
-none_found rows None true is meets = (λ _. meets, λ _. refl)
-none_found rows None false is meets = cc
-none_found rows (Some fault) true is first = cc
-none_found rows (Some fault) false is first = (
+-- a first fault is one
+pub refutes : (rows : List (Cell × Row)) (fault : NotASite) → IsFirstFault rows fault → IsTrue false ↔ MeetsSiteRules rows
+refutes rows fault first = (
   λ e. cc,
   λ meets. let clash : None ≡ Some (fault.rule, fault.field) = sym (meets fault.cell) ∙ first.broken in cc,
 )
+
+pub meets : (rows : List (Cell × Row)) → MeetsSiteRules rows → IsTrue true ↔ MeetsSiteRules rows
+meets rows all = (λ _. all, λ _. refl)
+
+or_none : {A : Type 0} (a : Option A) → option_or a None ≡ a
+or_none None = refl
+or_none (Some a) = refl
+
+-- the search among the cells that are to be there, told one after another
+pub required_are : (rows : List (Cell × Row)) (site seq visitors members : Option NotASite)
+    → site ≡ fault_at cell.Site (cell_fault rows cell.Site) → seq ≡ fault_at cell.Seq (cell_fault rows cell.Seq)
+    → visitors ≡ fault_at (cell.Role anonymous) (cell_fault rows (cell.Role anonymous))
+    → members ≡ fault_at (cell.Role authenticated) (cell_fault rows (cell.Role authenticated))
+    → option_or site (option_or seq (option_or visitors members)) ≡ first_among rows required
+required_are rows site seq visitors members a b c d =
+    ap (λ f. option_or f (option_or seq (option_or visitors members))) a
+    ∙ ap (λ f. option_or (fault_at cell.Site (cell_fault rows cell.Site)) (option_or f (option_or visitors members))) b
+    ∙ ap (λ f. option_or (fault_at cell.Site (cell_fault rows cell.Site)) (option_or (fault_at cell.Seq (cell_fault rows cell.Seq)) (option_or f members))) c
+    ∙ ap (λ f. option_or (fault_at cell.Site (cell_fault rows cell.Site)) (option_or (fault_at cell.Seq (cell_fault rows cell.Seq)) (option_or (fault_at (cell.Role anonymous) (cell_fault rows (cell.Role anonymous))) f)))
+    (d ∙ sym (or_none (fault_at (cell.Role authenticated) (cell_fault rows (cell.Role authenticated)))))

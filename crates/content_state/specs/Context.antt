@@ -13,15 +13,14 @@ use Rattle.cacheability.specs.declared.context.Context.{Context}
 use Rattle.cacheability.specs.declared.context.Context.TheVariants as context
 use Rattle.content_rows.specs.declared.cell.Cell.{Cell}
 use Rattle.content_rows.specs.declared.row.Row.{Row}
-use Rattle.content_rows.specs.declared.row.Site.{Site}
 use Rattle.content_rows.specs.declared.row.Menu.{Menu}
 use Rattle.content_rows.specs.declared.row.Link.{Link}
 use Rattle.content_rows.specs.declared.permission.Permissions.{Permissions}
 use Rattle.content_rows.specs.declared.permission.ViewGrants.{ViewGrants}
 use Rattle.content_state.specs.declared.ask.Ask.{Ask}
 use Rattle.content_state.specs.declared.ask.Viewer.{Viewer}
-use Rattle.content_state.specs.Rows.{site_of, menu_of}
-use Rattle.content_state.specs.Route.{root_path}
+use Rattle.content_state.specs.Rows.{menu_of}
+use Rattle.content_state.specs.Route.{root_path, front_path, meant}
 use Rattle.content_state.specs.Viewer.{roles_of, viewer_permissions, view_grants_of}
 
 -- what a page is made for: the rows of a state, a viewer, what was asked, and a moment
@@ -30,14 +29,6 @@ pub record Visit : Type 0 where
   pub viewer : Viewer
   pub ask : Ask
   pub moment : ℕ
-
--- the path of the front page, which `/` stands for
-abbrev pub front_in : Option Site → List ℕ
-front_in None = []
-front_in (Some site) = site.front
-
-abbrev pub front_path : List (Cell × Row) → List ℕ
-front_path rows = front_in (site_of rows)
 
 -- whether a path is that of the front page
 abbrev pub is_front : List (Cell × Row) → List ℕ → Bool
@@ -73,12 +64,11 @@ upward (suc height) links None = []
 upward (suc height) links (Some id) =
     id ∷ upward height links (parent_of (find (λ l. bytes_eq l.id id) links))
 
--- The active trail of a menu: the first link in preorder that leads to the path, and the links above it. Where the
--- path is `/`, it is the front page's.
+-- The active trail of a menu: the first link in preorder that leads to the path that is meant, and the links above it.
 abbrev pub trail_in : List (Cell × Row) → List ℕ → Option Menu → List (List ℕ)
 trail_in rows path None = []
 trail_in rows path (Some menu) =
-    let to = if bytes_eq path root_path then front_path rows else path in
+    let to = meant rows path in
     upward 9 menu.links (option_map (λ l. l.id) (find (λ l. bytes_eq l.path to) (preorder 9 menu.links None)))
 
 -- the type of a context's value

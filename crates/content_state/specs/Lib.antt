@@ -1,9 +1,16 @@
+pub mod State
+pub mod Write
 pub mod Rows
+pub mod Ask
 pub mod Route
+pub mod There
 pub mod Read
 pub mod Viewer
 pub mod Context
 pub mod Plan
+pub mod Met
+pub mod Places
 pub mod Replay
 pub mod SiteRules
 pub mod FirstFault
+pub mod Seen

@@ -1,18 +1,20 @@
 -- What an accepted edit makes of a state, and what a log of edits does.
 -- The tags that an edit invalidates: https://www.drupal.org/docs/drupal-apis/cache-api/cache-tags
-use Rattle.std.specs.Prelude.{ℕ, List, [], ◌∷◌, ◌++◌, ◌≡◌, ◌+◌, ◌-◌, Option, Some, None, fold, take}
-use Rattle.std.specs.List.{flat_map}
+use Rattle.std.specs.Prelude.{ℕ, List, [], ◌∷◌, ◌++◌, ◌≡◌, ◌+◌, ◌-◌, Option, Some, None, fold, map, take}
+use Rattle.std.specs.List.{flat_map, IsDistinct}
+use Rattle.std.specs.Ordering.{eq_by_cmp}
 use Rattle.std.specs.BTreeSet.{insert_key}
 use Rattle.cacheability.specs.declared.tag.Tag.{Tag}
 use Rattle.cacheability.specs.declared.tag.Tag.TheVariants as tag
 use Rattle.cacheability.specs.Tag.{tag_cmp}
 use Rattle.tag_counts.specs.Counts.{bumped}
+use Rattle.content_rows.specs.CellOrder.{cell_cmp}
 use Rattle.content_rows.specs.declared.cell.Cell.{Cell}
 use Rattle.content_rows.specs.declared.cell.Cell.TheVariants as cell
 use Rattle.content_rows.specs.declared.row.Row.{Row}
 use Rattle.content_rows.specs.declared.row.Row.TheVariants as row
-use Rattle.content_state.specs.declared.state.State.{State}
-use Rattle.content_state.specs.declared.commit.Write.{Write}
+use Rattle.content_state.specs.State.{State}
+use Rattle.content_state.specs.Write.{Write}
 use Rattle.content_state.specs.declared.commit.Commit.{Commit}
 use Rattle.content_state.specs.Rows.{row_at, with_row, without_row}
 
@@ -57,6 +59,11 @@ with_row_or_none rows c (Some row) = with_row rows c row
 
 abbrev pub written : List (Cell × Row) → Write → List (Cell × Row)
 written rows write = with_row_or_none rows write.cell write.row
+
+-- The writes of an edit are to distinct cells: so what it does, and the tags that it invalidates, do not hang on the
+-- order of its writes, and the row that a write finds is the one that stood before the edit.
+pub record IsCommit (commit : Commit) : Type 0 where
+  pub distinct : IsDistinct (eq_by_cmp cell_cmp) (map (λ w. w.cell) commit.writes)
 
 -- the state after an edit: its writes are made, the count of each tag that it invalidates is one greater, and so is
 -- the number

@@ -4,6 +4,7 @@ use Rattle.std.specs.List.{filter_map, filter}
 use Rattle.std.specs.Map.{lookup, remove_entry}
 use Rattle.std.specs.BTreeMap.{is_at, insert_entry}
 use Rattle.std.specs.Str.{bytes_eq}
+use denote.Ref.{Bor}
 use Rattle.content_rows.specs.declared.cell.Cell.{Cell}
 use Rattle.content_rows.specs.declared.cell.Cell.TheVariants as cell
 use Rattle.content_rows.specs.declared.row.Row.{Row}
@@ -20,6 +21,13 @@ use Rattle.content_rows.specs.declared.row.Listing.{Listing}
 use Rattle.content_rows.specs.declared.row.Block.{Block}
 use Rattle.content_rows.specs.declared.row.Session.{Session}
 use Rattle.content_rows.specs.CellOrder.{cell_cmp}
+
+-- what a pair of references shows, and what an iterator of rows has left
+abbrev pub entry_of : Bor Cell × Bor Row → Cell × Row
+entry_of e = (e.0.now, e.1.now)
+
+abbrev pub entries_left : List (Cell × Row) → List (Cell × Row)
+entries_left rows = rows
 
 -- the row of a cell, if there is one; with a row set, and without a cell
 abbrev pub row_at : List (Cell × Row) → Cell → Option Row

@@ -3,6 +3,8 @@
 use Rattle.std.specs.Prelude.{ℕ, List, [], ◌∷◌, ◌≡◌, ◌<◌, ◌^◌, ◌⊎◌, ◌==◌, Bool, false, not, ◌&&◌, ◌||◌, nat_le, Option, Some, None, is_none, All, if◌then◌else◌}
 use Rattle.std.specs.List.{list_any}
 use Rattle.std.specs.Ordering.{is_lt}
+use Rattle.std.specs.List.Sorted.{IsStrictlySortedBy}
+use Rattle.std.specs.Map.{keys_of}
 use Rattle.std.specs.Str.{bytes_eq}
 use Rattle.std.specs.declared.cmp.Ordering.TheVariants.{Less}
 use Rattle.content_rows.specs.CellOrder.{cell_cmp}
@@ -18,17 +20,20 @@ use Rattle.content_rows.specs.declared.row.Term.{Term}
 use Rattle.content_rows.specs.declared.row.Node.{Node}
 use Rattle.content_rows.specs.declared.row.Listing.{Listing}
 use Rattle.content_rows.specs.declared.row.Session.{Session}
+use Rattle.tag_counts.specs.Counts.{IsInOrder}
 use Rattle.content_state.specs.Rows.{site_of, seq_of, type_of, role_of, user_of, term_of, node_of, listing_of, session_of}
 use Rattle.content_state.specs.declared.site_rules.SiteRule.{SiteRule}
 use Rattle.content_state.specs.declared.site_rules.SiteRule.TheVariants as rule
 use Rattle.content_state.specs.declared.site_rules.SiteField.{SiteField}
 use Rattle.content_state.specs.declared.site_rules.SiteField.TheVariants as field
 use Rattle.content_state.specs.declared.site_rules.NotASite.{NotASite}
+use Rattle.content_state.specs.declared.site_rules.Refusal.{Refusal}
+use Rattle.content_state.specs.declared.site_rules.Refusal.TheVariants as refusal
 use Rattle.content_state.specs.declared.site_rules.Numbered.{Numbered}
 use Rattle.content_state.specs.declared.site_rules.Numbered.TheVariants as numbered
 use Rattle.content_state.specs.declared.site_rules.Unique.{Unique}
 use Rattle.content_state.specs.declared.site_rules.Unique.TheVariants as unique
-use Rattle.content_state.specs.declared.state.State.{State}
+use Rattle.content_state.specs.State.{State}
 
 -- the first of some rules that is broken, with the field that breaks it
 abbrev pub first_broken : List (Bool × SiteRule × SiteField) → Option (SiteRule × SiteField)
@@ -64,45 +69,67 @@ abbrev pub taken : List (Cell × Row) → Cell → Unique → Option (List ℕ) 
 taken rows c what None = false
 taken rows c what (Some text) = list_any (λ e. is_lt (cell_cmp e.0 c) && is_text text (text_of what e.1)) rows
 
+-- The tests of a row, in the order in which they are told of: each with the rule that is broken where it is true, and
+-- what of the row breaks it.
+
 -- each number is above every id of its kind
-abbrev pub seq_fault : List (Cell × Row) → Option Seq → Option (SiteRule × SiteField)
-seq_fault rows None = Some (rule.Missing, field.Cell)
-seq_fault rows (Some seq) = first_broken (
+abbrev pub seq_tests : List (Cell × Row) → Seq → List (Bool × SiteRule × SiteField)
+seq_tests rows seq =
     (has_id_from rows numbered.Node seq.node, rule.Range, field.Node)
     ∷ (has_id_from rows numbered.Term seq.term, rule.Range, field.Term)
     ∷ (has_id_from rows numbered.User seq.user, rule.Range, field.User)
-    ∷ [])
+    ∷ []
 
 -- the uuid and the name are its own
-abbrev pub user_fault : List (Cell × Row) → Cell → Option User → Option (SiteRule × SiteField)
-user_fault rows c None = None
-user_fault rows c (Some user) = first_broken (
+abbrev pub user_tests : List (Cell × Row) → Cell → User → List (Bool × SiteRule × SiteField)
+user_tests rows c user =
     (taken rows c unique.UserUuid (Some user.uuid), rule.Taken, field.Uuid)
     ∷ (taken rows c unique.UserName (Some user.name), rule.Taken, field.Name)
-    ∷ [])
+    ∷ []
 
-abbrev pub term_fault : List (Cell × Row) → Cell → Option Term → Option (SiteRule × SiteField)
-term_fault rows c None = None
-term_fault rows c (Some term) = first_broken ((taken rows c unique.TermUuid (Some term.uuid), rule.Taken, field.Uuid) ∷ [])
+abbrev pub term_tests : List (Cell × Row) → Cell → Term → List (Bool × SiteRule × SiteField)
+term_tests rows c term = (taken rows c unique.TermUuid (Some term.uuid), rule.Taken, field.Uuid) ∷ []
 
 -- its type is there, its user is 0 or there, and the uuid and the path are its own
-abbrev pub node_fault : List (Cell × Row) → Cell → Option Node → Option (SiteRule × SiteField)
-node_fault rows c None = None
-node_fault rows c (Some node) = first_broken (
+abbrev pub node_tests : List (Cell × Row) → Cell → Node → List (Bool × SiteRule × SiteField)
+node_tests rows c node =
     (is_none (type_of rows node.node_type), rule.Absent, field.Type)
     ∷ (not (node.uid == 0) && is_none (user_of rows node.uid), rule.Absent, field.Uid)
     ∷ (taken rows c unique.NodeUuid (Some node.uuid), rule.Taken, field.Uuid)
     ∷ (taken rows c unique.Path node.path, rule.Taken, field.Path)
-    ∷ [])
+    ∷ []
+
+abbrev pub listing_tests : List (Cell × Row) → Cell → Listing → List (Bool × SiteRule × SiteField)
+listing_tests rows c listing = (taken rows c unique.Path listing.path, rule.Taken, field.Path) ∷ []
+
+-- its user is there
+abbrev pub session_tests : List (Cell × Row) → Session → List (Bool × SiteRule × SiteField)
+session_tests rows session = (is_none (user_of rows session.uid), rule.Absent, field.Uid) ∷ []
+
+-- the rule that a row breaks, where it is there; the ids that are next have to be there
+abbrev pub seq_fault : List (Cell × Row) → Option Seq → Option (SiteRule × SiteField)
+seq_fault rows None = Some (rule.Missing, field.Cell)
+seq_fault rows (Some seq) = first_broken (seq_tests rows seq)
+
+abbrev pub user_fault : List (Cell × Row) → Cell → Option User → Option (SiteRule × SiteField)
+user_fault rows c None = None
+user_fault rows c (Some user) = first_broken (user_tests rows c user)
+
+abbrev pub term_fault : List (Cell × Row) → Cell → Option Term → Option (SiteRule × SiteField)
+term_fault rows c None = None
+term_fault rows c (Some term) = first_broken (term_tests rows c term)
+
+abbrev pub node_fault : List (Cell × Row) → Cell → Option Node → Option (SiteRule × SiteField)
+node_fault rows c None = None
+node_fault rows c (Some node) = first_broken (node_tests rows c node)
 
 abbrev pub listing_fault : List (Cell × Row) → Cell → Option Listing → Option (SiteRule × SiteField)
 listing_fault rows c None = None
-listing_fault rows c (Some listing) = first_broken ((taken rows c unique.Path listing.path, rule.Taken, field.Path) ∷ [])
+listing_fault rows c (Some listing) = first_broken (listing_tests rows c listing)
 
--- its user is there
 abbrev pub session_fault : List (Cell × Row) → Option Session → Option (SiteRule × SiteField)
 session_fault rows None = None
-session_fault rows (Some session) = first_broken ((is_none (user_of rows session.uid), rule.Absent, field.Uid) ∷ [])
+session_fault rows (Some session) = first_broken (session_tests rows session)
 
 -- The rule that a cell breaks, and with what. The settings, the ids that are next and the two roles that every viewer
 -- or every user has are there; of the other cells none has to be.
@@ -126,9 +153,20 @@ cell_fault rows cell.Head = None
 abbrev pub MeetsSiteRules : List (Cell × Row) → Type 0
 MeetsSiteRules rows = (c : Cell) → cell_fault rows c ≡ None
 
--- each row is right by itself, and all of them together
+-- each row is right, by itself
+abbrev pub AreValidRows : List (Cell × Row) → Type 0
+AreValidRows rows = All (λ e. IsValidRow e.0 e.1) rows
+
+-- each cell has one row at most, and they stand in the order of the cells
+abbrev pub InOrder : List (Cell × Row) → Type 0
+InOrder rows = IsStrictlySortedBy cell_cmp (keys_of rows)
+
+-- The rows are a finite map in cell order and the counts one in the order of the tags, each row is right by itself, and
+-- all of them are together.
 pub record IsValidState (state : State) : Type 0 where
-  pub rows : All (λ e. IsValidRow e.0 e.1) state.rows
+  pub in_order : InOrder state.rows
+  pub counts_in_order : IsInOrder state.counts
+  pub rows : AreValidRows state.rows
   pub together : MeetsSiteRules state.rows
 
 -- the cell that is named breaks that rule with that field, and no cell before it breaks any
@@ -145,3 +183,8 @@ pub record IsTooGreat (rows : List (Cell × Row)) (number : ℕ) (fault : NotASi
 -- why rows and a number are no site
 abbrev pub IsNoSite : List (Cell × Row) → ℕ → NotASite → Type 0
 IsNoSite rows number fault = IsFirstFault rows fault ⊎ IsTooGreat rows number fault
+
+-- why no site was made of rows and a number: they are none, or memory was wanting
+abbrev pub IsRefusal : List (Cell × Row) → ℕ → Refusal → Type 0
+IsRefusal rows number (refusal.NoSite fault) = IsNoSite rows number fault
+IsRefusal rows number refusal.OutOfMemory = Unit {0}

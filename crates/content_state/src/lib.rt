@@ -5,18 +5,20 @@
 mod ask;
 mod commit;
 mod element;
+mod laws;
 mod route;
 mod rows;
+mod seen;
 mod site_rules;
 mod state;
 
 pub use ask::{Ask, Viewer};
 pub use commit::{Commit, Write};
-pub use element::{Hole, Library};
+pub use element::{Depth, Fragment, Hole, Library, Mode, Placing};
+pub use laws::routes_lead_there;
 pub use route::{Route, route_of};
-pub use rows::Rows;
-pub use site_rules::{NotASite, Refused, SiteField, SiteRule};
+pub use rows::{Rows, RowsIter};
+pub use site_rules::{
+    NotASite, Numbered, Refusal, Refused, SiteField, SiteRule, Unique, has_text, text_of,
+};
 pub use state::State;
-
-#[cfg(test)]
-mod tests;

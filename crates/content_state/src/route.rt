@@ -1,19 +1,30 @@
 //! Where a path leads.
-ghost use Rattle.std.specs.Prelude.{◌≡◌, IfOk};
+ghost use Rattle.std.specs.Prelude.{◌≡◌, ◌≢◌, IfOk};
+ghost use Rattle.std.specs.List.{find};
+ghost use Rattle.std.specs.Option.{option_copied, option_map};
+ghost use Rattle.content_state.specs.Rows.{entry_of};
 ghost use Rattle.content_state.specs.Route.{
-  id_of,
   id_after,
+  meant,
+  led_to,
   node_route,
+  term_route,
+  user_route,
+  listing_route,
+  cell_route,
+  cell_with,
   route_of,
   route_tags,
   path_tags,
 };
+ghost use Rattle.content_state.specs.SiteRules.{is_text, text_of};
+ghost use Rattle.content_state.specs.There.{IsThere};
 
+use crate::site_rules::{Unique, text_of};
 use crate::state::State;
 use cacheability::{Name, Tag};
-use content_rows::Items;
+use content_rows::{Cell, Items, Row, id_of};
 use std::alloc::{AllocError, Global};
-use std::str;
 
 /// What a path leads to.
 #[derive(Clone, Copy, Debug)]
@@ -32,26 +43,62 @@ pub enum Route {
     Nothing,
 }
 
-/// Where a path leads on a state, with the tags that cover that reading: those of the row that is
-/// found, else `4xx-response` and the tag of the row that the path names by its number; for `/` the
-/// site's besides. `Err` only where memory is wanting.
-#[tactic(auto, unfolding(crate::specs::Route::route_of, crate::specs::Route::path_tags, crate::specs::Route::root_path, crate::specs::Route::node_front))]
+/// Where a path leads on a state, with the tags that cover that reading. `/` stands for the front
+/// path of the settings, and every other path for itself. The tags are those of the row that is found,
+/// else `4xx-response` and the tag of the row that the path meant names by its number; for `/` the
+/// settings' besides. `Err` only where memory is wanting.
+/// <https://api.drupal.org/api/drupal/core%21lib%21Drupal%21Core%21PathProcessor%21PathProcessorFront.php/class/PathProcessorFront/10>
+#[tactic(auto, unfolding(crate::specs::Route::route_of, crate::specs::Route::path_tags, crate::specs::Route::root_path))]
 pub fn route_of(
     alloc: Global,
     state: &State,
     path: &[u8],
 ) -> Result<(Route, Items<Tag>), AllocError>
-    ensures { IfOk result (λ r. (r.0 ≡ route_of state.now.rows path.now) × (r.1 ≡ path_tags state.now.rows path.now)) }
+    ensures leads { IfOk result (λ r. (r.0 ≡ route_of state.now.rows path.now) × (r.1 ≡ path_tags state.now.rows path.now)) }
+    ensures there { IfOk result (λ r. r.0 ≢ Route.Nothing → IsThere state.now.rows r.0) }
 {
-    let route = match id_after(b"/node/", path) {
-        Some(nid) => node_route(state, nid),
-        None => Route::Nothing,
-    };
-    let mut tags = route_tags(alloc, &route, path)?;
+    let meant = meant(state, path);
+    let route = led_to(state, meant);
+    let mut tags = route_tags(alloc, &route, meant)?;
     if path == b"/".as_slice() {
         tags.push(Tag::Site)?;
     }
     Ok((route, Items::from_vec(tags)))
+}
+
+/// The path that a path stands for.
+#[tactic(auto, unfolding(crate::specs::Route::root_path))]
+fn meant<'a>(state: &'a State, path: &'a [u8]) -> &'a [u8]
+    ensures { result.now ≡ meant state.now.rows path.now }
+{
+    if path != b"/".as_slice() {
+        return path;
+    }
+    match state.site().0 {
+        Some(site) => site.front.as_slice(),
+        None => &[],
+    }
+}
+
+/// Where a path leads that is meant as it stands: by the number that stands in it, else as a node or
+/// a listing has it.
+#[tactic(auto, unfolding(crate::specs::Route::login_path, crate::specs::Route::node_front, crate::specs::Route::term_front, crate::specs::Route::user_front))]
+fn led_to(state: &State, path: &[u8]) -> Route
+    ensures { result ≡ led_to state.now.rows path.now }
+{
+    if path == b"/user/login".as_slice() {
+        return Route::Login;
+    }
+    if let Some(nid) = id_after(b"/node/", path) {
+        return node_route(state, nid);
+    }
+    if let Some(tid) = id_after(b"/taxonomy/term/", path) {
+        return term_route(state, tid);
+    }
+    match id_after(b"/user/", path) {
+        Some(uid) => user_route(state, uid),
+        None => cell_route(state, cell_with(state, path)),
+    }
 }
 
 /// The page of the node of that number, where it is there.
@@ -61,6 +108,74 @@ fn node_route(state: &State, nid: u32) -> Route
     match state.node(nid) {
         (Some(_), _) => Route::Node(nid),
         (None, _) => Route::Nothing,
+    }
+}
+
+/// The page of the term of that number, where it is there.
+fn term_route(state: &State, tid: u32) -> Route
+    ensures { result ≡ term_route state.now.rows tid }
+{
+    match state.term(tid) {
+        (Some(_), _) => Route::Term(tid),
+        (None, _) => Route::Nothing,
+    }
+}
+
+/// The profile of the user of that number, where it is there.
+fn user_route(state: &State, uid: u32) -> Route
+    ensures { result ≡ user_route state.now.rows uid }
+{
+    match state.user(uid) {
+        (Some(_), _) => Route::User(uid),
+        (None, _) => Route::Nothing,
+    }
+}
+
+/// The page of the listing of that name, where it is there.
+fn listing_route(state: &State, name: Name) -> Route
+    ensures { result ≡ listing_route state.now.rows name }
+{
+    match state.listing(name) {
+        (Some(_), _) => Route::Listing(name),
+        (None, _) => Route::Nothing,
+    }
+}
+
+/// The page of a cell's row: nodes and listings alone have paths of their own.
+fn cell_route(state: &State, cell: Option<&Cell>) -> Route
+    ensures { result ≡ cell_route state.now.rows (option_copied cell.entry) }
+{
+    match cell {
+        Some(Cell::Node(nid)) => node_route(state, *nid),
+        Some(Cell::Listing(name)) => listing_route(state, *name),
+        _ => Route::Nothing,
+    }
+}
+
+/// The first cell whose row has this path.
+fn cell_with<'a>(state: &'a State, path: &[u8]) -> Option<&'a Cell>
+    ensures { option_copied result ≡ cell_with state.now.rows path.now }
+{
+    match entry_with(state, path) {
+        Some((cell, _)) => Some(cell),
+        None => None,
+    }
+}
+
+/// The first row that has this path, with its cell.
+fn entry_with<'a>(state: &'a State, path: &[u8]) -> Option<(&'a Cell, &'a Row)>
+    ensures { option_map entry_of result ≡ find (λ e. is_text path.now (text_of Unique.Path e.1)) state.now.rows }
+{
+    state.rows().iter().find(|entry| has_path(entry.1, path))
+}
+
+/// Whether a row has this path of its own.
+fn has_path(row: &Row, path: &[u8]) -> bool
+    ensures { result ≡ is_text path.now (text_of Unique.Path row.now) }
+{
+    match text_of(Unique::Path, row) {
+        Some(own) => own.as_slice() == path,
+        None => false,
     }
 }
 
@@ -104,29 +219,6 @@ fn id_after(front: &[u8], path: &[u8]) -> Option<u32>
 {
     if path.starts_with(front) {
         id_of(&path[front.len()..])
-    } else {
-        None
-    }
-}
-
-/// The id that a text writes in decimal without a leading zero: from 1 to 4,294,967,294.
-fn id_of(text: &[u8]) -> Option<u32>
-    ensures { result ≡ id_of text.now }
-{
-    let Some(first) = text.first() else {
-        return None;
-    };
-    if *first <= b'0' {
-        return None;
-    }
-    let Ok(digits) = str::from_utf8(text) else {
-        return None;
-    };
-    let Ok(id) = digits.parse::<u32>() else {
-        return None;
-    };
-    if id >= 1 && id <= 4_294_967_294 {
-        Some(id)
     } else {
         None
     }

@@ -1,19 +1,49 @@
 //! The rows of a state.
-ghost use Rattle.std.specs.Prelude.{◌≡◌, [], Some, None, OnOk, OnErr};
-ghost use Rattle.std.specs.Option.{option_copied};
+ghost use Rattle.std.specs.Prelude.{◌≡◌, [], Some, None, IfOk, IfErr, OnOk, OnErr, length};
+ghost use Rattle.std.specs.Option.{option_copied, option_map};
+ghost use Rattle.std.specs.Arc.{arc_value};
 ghost use Rattle.std.specs.Map.{keys_of};
 ghost use Rattle.std.specs.List.Sorted.{IsStrictlySortedBy};
+ghost use Rattle.std.specs.Iterator.{YieldsFirstBy, item_count};
+ghost use Rattle.content_state.specs.Rows.{entry_of, entries_left};
 
 use content_rows::{Cell, Row};
-use std::alloc::{AllocFailed, Global};
+use std::alloc::{AllocError, AllocFailed, Global};
 use std::collections::BTreeMap;
 use std::collections::btree_map::Iter;
 use std::marker::Model;
+use std::sync::Arc;
+
+/// A row that several states may share, which contracts see as the row.
+#[derive(Drop, Debug)]
+struct Shared {
+    row: Arc<Row>,
+}
+
+impl Model for Shared {
+    ghost use Rattle.std.specs.Arc.{arc_value};
+    ghost use Rattle.content_rows.specs.declared.row.Row.{Row as RowValue};
+
+    ghost Value = { RowValue };
+
+    ghost view = { λ s. arc_value s.row };
+}
+
+impl Clone for Shared {
+    ghost is_clone = { λ s t. t ≡ s };
+
+    fn clone(&self) -> Result<Shared, AllocError> {
+        Ok(Shared {
+            row: Arc::try_clone(&self.row)?,
+        })
+    }
+}
 
 /// The rows of a state: a finite map from cells to rows, which contracts see as the list of its pairs in cell order.
+/// Several states may share a row.
 #[derive(Drop, Debug)]
 pub struct Rows {
-    map: BTreeMap<Cell, Row>,
+    map: BTreeMap<Cell, Shared>,
 }
 
 impl Model for Rows {
@@ -26,8 +56,39 @@ impl Model for Rows {
     ghost view = { λ r. r.map.entries };
 }
 
+/// The cells that have a row, each with its row, in cell order. Contracts see it as the list of those that are left.
+#[derive(Drop)]
+pub struct RowsIter<'a> {
+    entries: Iter<'a, Cell, Shared>,
+}
+
+impl<'a> Model for RowsIter<'a> {
+    ghost use Rattle.std.specs.Prelude.{List};
+    ghost use Rattle.content_rows.specs.declared.cell.Cell.{Cell as CellValue};
+    ghost use Rattle.content_rows.specs.declared.row.Row.{Row as RowValue};
+
+    ghost Value = { List (CellValue × RowValue) };
+
+    ghost view = { λ i. i.entries };
+}
+
+impl<'a> Iterator for RowsIter<'a> {
+    type Item = (&'a Cell, &'a Row);
+
+    ghost next_gives = { YieldsFirstBy entry_of entries_left };
+
+    ghost remaining = { item_count entries_left };
+
+    fn next(&mut self) -> Option<(&'a Cell, &'a Row)> {
+        match self.entries.next() {
+            Some((cell, shared)) => Some((cell, shared.row.as_ref())),
+            None => None,
+        }
+    }
+}
+
 impl Rows {
-    ghost use Rattle.content_state.specs.Rows.{row_at, with_row};
+    ghost use Rattle.content_state.specs.Rows.{row_at, with_row, without_row};
     ghost use Rattle.content_rows.specs.CellOrder.{cell_cmp};
 
     /// No rows.
@@ -43,23 +104,56 @@ impl Rows {
     pub fn get(&self, cell: Cell) -> Option<&Row>
         ensures { option_copied result ≡ row_at self.now cell }
     {
-        self.map.get(&cell)
+        match self.map.get(&cell) {
+            Some(shared) => Some(shared.row.as_ref()),
+            None => None,
+        }
     }
 
     /// The cells that have a row, each with its row, in cell order.
-    pub fn iter(&self) -> Iter<'_, Cell, Row>
+    pub fn iter(&self) -> RowsIter<'_>
         ensures rest { result ≡ self.now }
         ensures ordered { IsStrictlySortedBy cell_cmp (keys_of self.now) }
     {
-        self.map.iter()
+        RowsIter {
+            entries: self.map.iter(),
+        }
     }
 
-    /// Sets the row of a cell. Where memory is wanting, the rows are as they were and the row comes back.
-    pub fn set(&mut self, cell: Cell, row: Row) -> Result<(), AllocFailed<(Cell, Row)>>
-        ensures ok { OnOk result (self.new ≡ with_row self.old cell row) }
+    /// Sets the row of a cell. Where memory is wanting, the rows are as they were, and the cell and the row come back.
+    pub fn set(&mut self, cell: Cell, row: Arc<Row>) -> Result<(), AllocFailed<(Cell, Arc<Row>)>>
+        ensures ok { OnOk result (self.new ≡ with_row self.old cell (arc_value row)) }
         ensures err { OnErr result (self.new ≡ self.old) }
+        ensures back { IfErr result (λ f. (f.value.0 ≡ cell) × (arc_value f.value.1 ≡ arc_value row)) }
     {
-        self.map.insert(cell, row)?;
-        Ok(())
+        match self.map.insert(cell, Shared { row }) {
+            Ok(_) => Ok(()),
+            Err(refused) => {
+                let (cell, shared) = refused.value;
+                Err(AllocFailed {
+                    value: (cell, shared.row),
+                })
+            }
+        }
+    }
+
+    /// Removes the row of a cell, and hands it out where there was one.
+    pub fn remove(&mut self, cell: &Cell) -> Option<Arc<Row>>
+        ensures rows { self.new ≡ without_row self.old cell.now }
+        ensures row { option_map (λ r. arc_value r) result ≡ row_at self.old cell.now }
+    {
+        match self.map.remove(cell) {
+            Some(shared) => Some(shared.row),
+            None => None,
+        }
+    }
+
+    /// The same rows again, which share each row with these. `Err` only where memory is wanting.
+    pub fn duplicate(&self, _alloc: Global) -> Result<Rows, AllocError>
+        ensures { IfOk result (λ copy. copy ≡ self.now) }
+    {
+        Ok(Rows {
+            map: self.map.clone()?,
+        })
     }
 }

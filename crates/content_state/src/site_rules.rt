@@ -1,13 +1,12 @@
 //! The rules that the rows of a site keep together.
-ghost use Rattle.std.specs.Prelude.{◌≡◌, ◌↔◌, ◌||◌, if◌then◌else◌, IsTrue, All};
+ghost use Rattle.std.specs.Prelude.{◌≡◌, ◌↔◌, ◌||◌, if◌then◌else◌, IsTrue, IfOk, OnOk};
 ghost use Rattle.std.specs.Map.{keys_of};
 ghost use Rattle.std.specs.Option.{option_copied, MatchOption};
-ghost use Rattle.std.specs.List.Sorted.{IsStrictlySortedBy};
-ghost use Rattle.content_rows.specs.CellOrder.{cell_cmp};
-ghost use Rattle.content_rows.specs.ValidRow.{IsValidRow};
 ghost use Rattle.content_rows.specs.Permission.{anonymous as anonymous_name, authenticated as authenticated_name};
 ghost use Rattle.std.specs.Str.{bytes_eq};
 ghost use Rattle.content_state.specs.SiteRules.{
+  InOrder,
+  AreValidRows,
   MeetsSiteRules,
   IsFirstFault,
   cell_fault,
@@ -24,11 +23,15 @@ ghost use Rattle.content_state.specs.SiteRules.{
 };
 ghost use Rattle.content_state.specs.Rows.{user_of, term_of, node_of, listing_of, session_of};
 ghost use Rattle.content_state.specs.FirstFault.{fault_at, first_among, required};
+ghost use Rattle.content_state.specs.Seen.{IsSeenBefore, AddsRow, AddsText};
 
 use crate::rows::Rows;
+use crate::seen::Held;
 use crate::state::State;
 use cacheability::Name;
 use content_rows::{Cell, Row, Text};
+use std::alloc::{AllocError, Global};
+use std::collections::BTreeSet;
 use tag_counts::Counts;
 
 /// A rule that all rows of a site keep together.
@@ -78,58 +81,80 @@ pub struct NotASite {
     pub field: SiteField,
 }
 
-/// Rows that are no site, handed back with the counts, and why.
+/// Why no site was made.
+#[derive(Clone, Copy, Debug)]
+pub enum Refusal {
+    /// The rows or the number are no site's.
+    NoSite(NotASite),
+    /// Memory is wanting.
+    OutOfMemory,
+}
+
+/// Rows of which no site was made, handed back with the counts, and why.
 #[derive(Drop, Debug)]
 pub struct Refused {
     pub rows: Rows,
     pub counts: Counts,
-    pub fault: NotASite,
+    pub why: Refusal,
 }
 
 /// The kinds of rows whose ids are given in turn.
-#[derive(Clone, Copy)]
-enum Numbered {
+#[derive(Clone, Copy, Debug)]
+pub enum Numbered {
     Node,
     Term,
     User,
 }
 
 /// What no two rows have in common.
-#[derive(Clone, Copy)]
-enum Unique {
+#[derive(Clone, Copy, Debug, PartialEq, Eq, PartialOrd, Ord)]
+pub enum Unique {
+    /// The universal id of a node.
     NodeUuid,
+    /// The universal id of a term.
     TermUuid,
+    /// The universal id of a user.
     UserUuid,
+    /// The name of a user.
     UserName,
+    /// The path of a node or of a listing.
     Path,
 }
 
-/// Whether each row is right, by itself.
-pub fn has_right_rows(state: &State) -> bool
-    ensures { IsTrue result ↔ All (λ e. IsValidRow e.0 e.1) state.now.rows }
-{
-    'rows: for (cell, row) in state.rows.iter() {
-        if !row.is_right(cell) {
-            return false;
+impl Rows {
+    /// Whether each row is right, by itself.
+    pub fn are_right(&self) -> bool
+        ensures { IsTrue result ↔ AreValidRows self.now }
+    {
+        'rows: for (cell, row) in self.iter() {
+            if !row.is_right(cell) {
+                return false;
+            }
         }
+        true
     }
-    true
 }
 
-/// Whether no cell breaks a rule of sites.
-pub fn meets_site_rules(state: &State) -> bool
-    ensures { IsTrue result ↔ MeetsSiteRules state.now.rows }
+/// Whether no cell breaks a rule of sites. `Err` only where memory is wanting.
+#[tactic(auto, using(crate::proofs::Faults::meets, crate::proofs::Faults::refutes))]
+pub fn meets_site_rules(alloc: Global, state: &State) -> Result<bool, AllocError>
+    ensures { IfOk result (λ meets. IsTrue meets ↔ MeetsSiteRules state.now.rows) }
 {
-    first_fault(state).is_none()
+    match first_fault(alloc, state) {
+        Ok(Some(_)) => Ok(false),
+        Ok(None) => Ok(true),
+        Err(wanting) => Err(wanting),
+    }
 }
 
-/// The first cell, in cell order, that breaks a rule of sites, with the rule and what breaks it.
-pub fn first_fault(state: &State) -> Option<NotASite>
-    ensures { MatchOption result (MeetsSiteRules state.now.rows) (IsFirstFault state.now.rows) }
+/// The first cell, in cell order, that breaks a rule of sites, with the rule and what breaks it. What no two rows may have
+/// is sought in a sorted set of what the rows before have. `Err` only where memory is wanting.
+pub fn first_fault(alloc: Global, state: &State) -> Result<Option<NotASite>, AllocError>
+    ensures { IfOk result (λ fault. MatchOption fault (MeetsSiteRules state.now.rows) (IsFirstFault state.now.rows)) }
 {
     match required_fault(state) {
-        Some(fault) => Some(fault),
-        None => present_fault(state),
+        Some(fault) => Ok(Some(fault)),
+        None => present_fault(alloc, state),
     }
 }
 
@@ -137,64 +162,73 @@ pub fn first_fault(state: &State) -> Option<NotASite>
 fn required_fault(state: &State) -> Option<NotASite>
     ensures { result ≡ first_among state.now.rows required }
 {
-    let cells = [
-        Cell::Site,
-        Cell::Seq,
-        Cell::Role(anonymous()),
-        Cell::Role(authenticated()),
-    ];
-    'cells: for cell in &cells {
-        let fault = fault_at(state, cell);
-        if fault.is_some() {
-            return fault;
-        }
-    }
-    None
+    let site = found(Cell::Site, site_fault(state));
+    let seq = found(Cell::Seq, seq_fault(state));
+    let visitors = missing_role(state, anonymous());
+    let members = missing_role(state, authenticated());
+    site.or(seq.or(visitors.or(members)))
+}
+
+/// The fault of a role that every site has, unless it is there, with its cell.
+fn missing_role(state: &State, name: Name) -> Option<NotASite>
+    ensures { result ≡ fault_at (Cell.Role name) (cell_fault state.now.rows (Cell.Role name)) }
+{
+    found(Cell::Role(name), role_fault(state, &name))
 }
 
 /// The first of the cells that are there which breaks a rule.
-fn present_fault(state: &State) -> Option<NotASite>
-    ensures in_order { IsStrictlySortedBy cell_cmp (keys_of state.now.rows) }
-    ensures first { result ≡ first_among state.now.rows (keys_of state.now.rows) }
+fn present_fault(alloc: Global, state: &State) -> Result<Option<NotASite>, AllocError>
+    ensures in_order { InOrder state.now.rows }
+    ensures first { IfOk result (λ fault. fault ≡ first_among state.now.rows (keys_of state.now.rows)) }
 {
-    'rows: for (cell, _) in state.rows.iter() {
-        let fault = fault_at(state, cell);
+    let mut seen = BTreeSet::new(alloc);
+    'rows: for (cell, row) in state.rows().iter() {
+        let fault = found(*cell, cell_fault(state, &seen, cell));
         if fault.is_some() {
-            return fault;
+            return Ok(fault);
         }
+        note(&mut seen, row)?;
     }
-    None
+    Ok(None)
 }
 
-/// The rule that a cell breaks, with the cell.
-fn fault_at(state: &State, cell: &Cell) -> Option<NotASite>
-    ensures { result ≡ fault_at cell.now (cell_fault state.now.rows cell.now) }
+/// The rule that a cell breaks, if it breaks one, with the cell.
+fn found(cell: Cell, fault: Option<(SiteRule, SiteField)>) -> Option<NotASite>
+    ensures { result ≡ fault_at cell fault }
 {
-    match cell_fault(state, cell) {
-        Some((rule, field)) => Some(NotASite {
-            cell: *cell,
-            rule,
-            field,
-        }),
+    match fault {
+        Some((rule, field)) => Some(NotASite { cell, rule, field }),
         None => None,
     }
 }
 
-/// The rule that a cell breaks, and with what.
-fn cell_fault(state: &State, cell: &Cell) -> Option<(SiteRule, SiteField)>
+/// The rule that a cell breaks, and with what, where what the rows before it have is known.
+fn cell_fault<'a>(
+    state: &'a State,
+    seen: &BTreeSet<Held<'a>>,
+    cell: &Cell,
+) -> Option<(SiteRule, SiteField)>
+    requires { IsSeenBefore state.now.rows cell.now seen.now }
     ensures { result ≡ cell_fault state.now.rows cell.now }
 {
     match cell {
-        Cell::Site => missing_unless(state.site().0.is_some()),
+        Cell::Site => site_fault(state),
         Cell::Seq => seq_fault(state),
-        Cell::Role(name) => missing_unless(!is_required(name) || state.role(*name).0.is_some()),
-        Cell::User(uid) => user_fault(state, cell, *uid),
-        Cell::Term(tid) => term_fault(state, cell, *tid),
-        Cell::Node(nid) => node_fault(state, cell, *nid),
-        Cell::Listing(name) => listing_fault(state, cell, name),
+        Cell::Role(name) => role_fault(state, name),
+        Cell::User(uid) => user_fault(state, seen, cell, *uid),
+        Cell::Term(tid) => term_fault(state, seen, cell, *tid),
+        Cell::Node(nid) => node_fault(state, seen, cell, *nid),
+        Cell::Listing(name) => listing_fault(state, seen, cell, name),
         Cell::Session(token) => session_fault(state, token),
         Cell::NodeType(_) | Cell::Menu(_) | Cell::Block(_) | Cell::Head => None,
     }
+}
+
+/// The fault of the settings, unless they are there.
+fn site_fault(state: &State) -> Option<(SiteRule, SiteField)>
+    ensures { result ≡ cell_fault state.now.rows Cell.Site }
+{
+    missing_unless(state.site().0.is_some())
 }
 
 /// The fault of a row that every site has, unless it is there.
@@ -206,6 +240,13 @@ fn missing_unless(is_there: bool) -> Option<(SiteRule, SiteField)>
     } else {
         Some((SiteRule::Missing, SiteField::Cell))
     }
+}
+
+/// The fault of a role that every site has, unless it is there.
+fn role_fault(state: &State, name: &Name) -> Option<(SiteRule, SiteField)>
+    ensures { result ≡ cell_fault state.now.rows (Cell.Role name.now) }
+{
+    missing_unless(!is_required(name) || state.role(*name).0.is_some())
 }
 
 /// Whether every site has the role of that name.
@@ -259,14 +300,20 @@ fn seq_fault(state: &State) -> Option<(SiteRule, SiteField)>
 }
 
 /// A user's uuid or name that a user before has.
-fn user_fault(state: &State, cell: &Cell, uid: u32) -> Option<(SiteRule, SiteField)>
+fn user_fault<'a>(
+    state: &'a State,
+    seen: &BTreeSet<Held<'a>>,
+    cell: &Cell,
+    uid: u32,
+) -> Option<(SiteRule, SiteField)>
+    requires { IsSeenBefore state.now.rows cell.now seen.now }
     ensures { result ≡ user_fault state.now.rows cell.now (user_of state.now.rows uid) }
 {
     match state.user(uid).0 {
         Some(user) => {
-            if is_taken(state, cell, Unique::UserUuid, &user.uuid) {
+            if is_seen(state, seen, cell, Unique::UserUuid, &user.uuid) {
                 Some((SiteRule::Taken, SiteField::Uuid))
-            } else if is_taken(state, cell, Unique::UserName, &user.name) {
+            } else if is_seen(state, seen, cell, Unique::UserName, &user.name) {
                 Some((SiteRule::Taken, SiteField::Name))
             } else {
                 None
@@ -277,11 +324,17 @@ fn user_fault(state: &State, cell: &Cell, uid: u32) -> Option<(SiteRule, SiteFie
 }
 
 /// A term's uuid that a term before has.
-fn term_fault(state: &State, cell: &Cell, tid: u32) -> Option<(SiteRule, SiteField)>
+fn term_fault<'a>(
+    state: &'a State,
+    seen: &BTreeSet<Held<'a>>,
+    cell: &Cell,
+    tid: u32,
+) -> Option<(SiteRule, SiteField)>
+    requires { IsSeenBefore state.now.rows cell.now seen.now }
     ensures { result ≡ term_fault state.now.rows cell.now (term_of state.now.rows tid) }
 {
     match state.term(tid).0 {
-        Some(term) if is_taken(state, cell, Unique::TermUuid, &term.uuid) => {
+        Some(term) if is_seen(state, seen, cell, Unique::TermUuid, &term.uuid) => {
             Some((SiteRule::Taken, SiteField::Uuid))
         }
         _ => None,
@@ -289,7 +342,13 @@ fn term_fault(state: &State, cell: &Cell, tid: u32) -> Option<(SiteRule, SiteFie
 }
 
 /// A node's type or user that is not there, or its uuid or path that a row before has.
-fn node_fault(state: &State, cell: &Cell, nid: u32) -> Option<(SiteRule, SiteField)>
+fn node_fault<'a>(
+    state: &'a State,
+    seen: &BTreeSet<Held<'a>>,
+    cell: &Cell,
+    nid: u32,
+) -> Option<(SiteRule, SiteField)>
+    requires { IsSeenBefore state.now.rows cell.now seen.now }
     ensures { result ≡ node_fault state.now.rows cell.now (node_of state.now.rows nid) }
 {
     match state.node(nid).0 {
@@ -298,10 +357,10 @@ fn node_fault(state: &State, cell: &Cell, nid: u32) -> Option<(SiteRule, SiteFie
                 Some((SiteRule::Absent, SiteField::Type))
             } else if node.uid != 0 && state.user(node.uid).0.is_none() {
                 Some((SiteRule::Absent, SiteField::Uid))
-            } else if is_taken(state, cell, Unique::NodeUuid, &node.uuid) {
+            } else if is_seen(state, seen, cell, Unique::NodeUuid, &node.uuid) {
                 Some((SiteRule::Taken, SiteField::Uuid))
             } else {
-                path_fault(state, cell, &node.path)
+                path_fault(state, seen, cell, &node.path)
             }
         }
         None => None,
@@ -309,21 +368,33 @@ fn node_fault(state: &State, cell: &Cell, nid: u32) -> Option<(SiteRule, SiteFie
 }
 
 /// A listing's path that a row before has.
-fn listing_fault(state: &State, cell: &Cell, name: &Name) -> Option<(SiteRule, SiteField)>
+fn listing_fault<'a>(
+    state: &'a State,
+    seen: &BTreeSet<Held<'a>>,
+    cell: &Cell,
+    name: &Name,
+) -> Option<(SiteRule, SiteField)>
+    requires { IsSeenBefore state.now.rows cell.now seen.now }
     ensures { result ≡ listing_fault state.now.rows cell.now (listing_of state.now.rows name.now) }
 {
     match state.listing(*name).0 {
-        Some(listing) => path_fault(state, cell, &listing.path),
+        Some(listing) => path_fault(state, seen, cell, &listing.path),
         None => None,
     }
 }
 
 /// A path that a row before a cell has.
-fn path_fault(state: &State, cell: &Cell, path: &Option<Text>) -> Option<(SiteRule, SiteField)>
+fn path_fault<'a>(
+    state: &'a State,
+    seen: &BTreeSet<Held<'a>>,
+    cell: &Cell,
+    path: &'a Option<Text>,
+) -> Option<(SiteRule, SiteField)>
+    requires { IsSeenBefore state.now.rows cell.now seen.now }
     ensures { result ≡ (if taken state.now.rows cell.now Unique.Path path.now then Some (SiteRule.Taken, SiteField.Path) else None) }
 {
     match path {
-        Some(path) if is_taken(state, cell, Unique::Path, path) => {
+        Some(path) if is_seen(state, seen, cell, Unique::Path, path) => {
             Some((SiteRule::Taken, SiteField::Path))
         }
         _ => None,
@@ -346,7 +417,7 @@ fn session_fault(state: &State, token: &Name) -> Option<(SiteRule, SiteField)>
 fn has_id_from(state: &State, kind: Numbered, next: u32) -> bool
     ensures { result ≡ has_id_from state.now.rows kind next }
 {
-    'rows: for (cell, _) in state.rows.iter() {
+    'rows: for (cell, _) in state.rows().iter() {
         if is_id_from(kind, next, cell) {
             return true;
         }
@@ -367,19 +438,49 @@ fn is_id_from(kind: Numbered, next: u32, cell: &Cell) -> bool
 }
 
 /// Whether a row that stands before a cell has the text already.
-fn is_taken(state: &State, cell: &Cell, what: Unique, text: &Text) -> bool
+fn is_seen<'a>(
+    state: &'a State,
+    seen: &BTreeSet<Held<'a>>,
+    cell: &Cell,
+    what: Unique,
+    text: &'a Text,
+) -> bool
+    requires { IsSeenBefore state.now.rows cell.now seen.now }
     ensures { result ≡ taken state.now.rows cell.now what (Some text.now) }
 {
-    'rows: for (other, row) in state.rows.iter() {
-        if other < cell && has_text(what, row, text) {
-            return true;
+    seen.contains(&Held { what, text })
+}
+
+/// Notes what a row has that no other row may have.
+fn note<'a>(seen: &mut BTreeSet<Held<'a>>, row: &'a Row) -> Result<(), AllocError>
+    ensures { OnOk result (AddsRow seen.old seen.new row.now) }
+{
+    note_text(seen, Unique::NodeUuid, text_of(Unique::NodeUuid, row))?;
+    note_text(seen, Unique::TermUuid, text_of(Unique::TermUuid, row))?;
+    note_text(seen, Unique::UserUuid, text_of(Unique::UserUuid, row))?;
+    note_text(seen, Unique::UserName, text_of(Unique::UserName, row))?;
+    note_text(seen, Unique::Path, text_of(Unique::Path, row))
+}
+
+/// Notes a text, if there is one.
+fn note_text<'a>(
+    seen: &mut BTreeSet<Held<'a>>,
+    what: Unique,
+    text: Option<&'a Text>,
+) -> Result<(), AllocError>
+    ensures { OnOk result (AddsText seen.old seen.new what (option_copied text.entry)) }
+{
+    match text {
+        Some(text) => {
+            seen.insert(Held { what, text })?;
+            Ok(())
         }
+        None => Ok(()),
     }
-    false
 }
 
 /// Whether a row has the text, as what no other may have.
-fn has_text(what: Unique, row: &Row, text: &Text) -> bool
+pub fn has_text(what: Unique, row: &Row, text: &Text) -> bool
     ensures { result ≡ is_text text.now (text_of what row.now) }
 {
     match text_of(what, row) {
@@ -388,8 +489,8 @@ fn has_text(what: Unique, row: &Row, text: &Text) -> bool
     }
 }
 
-/// What a row has that no other row may have.
-fn text_of(what: Unique, row: &Row) -> Option<&Text>
+/// What a row has that no other row may have, if it has that.
+pub fn text_of(what: Unique, row: &Row) -> Option<&Text>
     ensures { option_copied result ≡ text_of what row.now }
 {
     match (what, row) {

@@ -1,16 +1,18 @@
 //! The states of a site.
 ghost use Rattle.std.specs.Prelude.{◌≡◌, ◌↔◌, ◌≤◌, ◌^◌, IfOk, IfErr, IsTrue};
-ghost use Rattle.std.specs.Option.{option_copied};
+ghost use Rattle.std.specs.Option.{option_copied, MatchOption};
 ghost use Rattle.cacheability.specs.declared.tag.Tag.TheVariants as tag;
 
 use crate::rows::Rows;
 use crate::site_rules::{
-    NotASite, Refused, SiteField, SiteRule, first_fault, has_right_rows, meets_site_rules,
+    NotASite, Refusal, Refused, SiteField, SiteRule, first_fault, meets_site_rules,
 };
 use cacheability::{Name, Tag};
 use content_rows::{
     Block, Cell, Listing, Menu, Node, NodeType, Role, Row, Seq, Session, Site, Term, User,
 };
+use std::alloc::{AllocError, Global};
+use std::marker::Model;
 use tag_counts::Counts;
 
 /// The greatest number that a site may begin with: 2^62, so that the edits of no run lead past a u64.
@@ -20,9 +22,17 @@ const GREATEST_NUMBER: u64 = 4_611_686_018_427_387_904;
 /// accepted edit raises by one.
 #[derive(Drop, Debug)]
 pub struct State {
-    pub rows: Rows,
-    pub counts: Counts,
-    pub number: u64,
+    rows: Rows,
+    counts: Counts,
+    number: u64,
+}
+
+impl Model for State {
+    ghost use Rattle.content_state.specs.State.{State as StateValue};
+
+    ghost Value = { StateValue };
+
+    ghost view = { λ s. record { rows = s.rows; counts = s.counts; number = s.number } };
 }
 
 impl State {
@@ -39,46 +49,123 @@ impl State {
       block_of,
       session_of,
     };
-    ghost use Rattle.content_state.specs.SiteRules.{MeetsSiteRules, IsNoSite, IsValidState};
+    ghost use Rattle.content_state.specs.SiteRules.{
+      InOrder,
+      AreValidRows,
+      MeetsSiteRules,
+      IsNoSite,
+      IsRefusal,
+      IsValidState,
+    };
+    ghost use Rattle.tag_counts.specs.Counts.{IsInOrder};
 
-    /// The state of these rows, counts and number. They are refused exactly where a cell breaks a rule
-    /// of sites or the number is above 2^62; then all comes back, with the first cell, in cell order,
-    /// that breaks a rule, the rule, and what breaks it. Of a number that is too great `Cell::Head`,
-    /// `Range` and `Number` are named, where no cell breaks a rule. Takes no memory; it compares each
-    /// node, term, user and listing with every row.
-    pub fn from_rows(rows: Rows, counts: Counts, number: u64) -> Result<State, Refused>
-        ensures same { IfOk result (λ s. s ≡ record { rows = rows; counts = counts; number = number }) }
-        ensures together { IfOk result (λ s. MeetsSiteRules rows × (number ≤ 2 ^ 62)) }
-        ensures refused { IfErr result (λ r. IsNoSite rows number r.fault) }
-        ensures back { IfErr result (λ r. (r.rows ≡ rows) × (r.counts ≡ counts)) }
+    /// The state of these rows, counts and number, whether they are a site or not.
+    pub fn new(rows: Rows, counts: Counts, number: u64) -> State
+        ensures { result ≡ record { rows = rows; counts = counts; number = number } }
     {
-        let state = State {
+        State {
             rows,
             counts,
             number,
-        };
-        let fault = match first_fault(&state) {
-            Some(fault) => fault,
-            None if number <= GREATEST_NUMBER => return Ok(state),
-            None => NotASite {
-                cell: Cell::Head,
-                rule: SiteRule::Range,
-                field: SiteField::Number,
-            },
+        }
+    }
+
+    /// Its rows.
+    pub fn rows(&self) -> &Rows
+        ensures { result.now ≡ self.now.rows }
+    {
+        &self.rows
+    }
+
+    /// How often each tag was invalidated.
+    pub fn counts(&self) -> &Counts
+        ensures { result.now ≡ self.now.counts }
+    {
+        &self.counts
+    }
+
+    /// Its number, which each accepted edit raises by one.
+    pub fn number(&self) -> u64
+        ensures { result ≡ self.now.number }
+    {
+        self.number
+    }
+
+    /// The same state again, which shares each row with this one. `Err` only where memory is wanting.
+    pub fn duplicate(&self, alloc: Global) -> Result<State, AllocError>
+        ensures { IfOk result (λ copy. copy ≡ self.now) }
+    {
+        Ok(State {
+            rows: self.rows.duplicate(alloc)?,
+            counts: self.counts.duplicate(alloc)?,
+            number: self.number,
+        })
+    }
+
+    /// The law that the rows and the counts of every state are in order: each cell and each tag stands once.
+    pub fn stands_in_order(&self)
+        ensures rows { InOrder self.now.rows }
+        ensures counts { IsInOrder self.now.counts }
+    {
+        let _entries = self.rows.iter();
+        let _tags = self.counts.len();
+    }
+
+    /// The valid state of these rows, each of which is right by itself, counts and number. They are refused where a
+    /// cell breaks a rule of sites or the number is above 2^62, with the first cell, in cell order, that breaks a rule,
+    /// the rule, and what breaks it: of a number that is too great `Cell::Head`, `Range` and `Number`, where no cell
+    /// breaks a rule. They are refused, too, where memory is wanting. What is refused comes back.
+    pub fn from_rows(
+        alloc: Global,
+        rows: Rows,
+        counts: Counts,
+        number: u64,
+    ) -> Result<State, Refused>
+        requires { AreValidRows rows }
+        ensures same { IfOk result (λ s. s ≡ record { rows = rows; counts = counts; number = number }) }
+        ensures valid { IfOk result (λ s. IsValidState s × (number ≤ 2 ^ 62)) }
+        ensures refused { IfErr result (λ r. IsRefusal rows number r.why) }
+        ensures back { IfErr result (λ r. (r.rows ≡ rows) × (r.counts ≡ counts)) }
+    {
+        let state = State::new(rows, counts, number);
+        state.stands_in_order();
+        let why = match state.no_site(alloc) {
+            Ok(None) => return Ok(state),
+            Ok(Some(fault)) => Refusal::NoSite(fault),
+            Err(_) => Refusal::OutOfMemory,
         };
         Err(Refused {
             rows: state.rows,
             counts: state.counts,
-            fault,
+            why,
         })
     }
 
-    /// Whether the state is valid: each row is right, and no cell breaks a rule of sites. Takes no
-    /// memory; it compares each node, term, user and listing with every row.
-    pub fn is_valid(&self) -> bool
-        ensures { IsTrue result ↔ IsValidState self.now }
+    /// Why the state is no site, if it is none: the first cell that breaks a rule of sites, or else the number.
+    fn no_site(&self, alloc: Global) -> Result<Option<NotASite>, AllocError>
+        ensures { IfOk result (λ fault. MatchOption fault (MeetsSiteRules self.now.rows × (self.now.number ≤ 2 ^ 62)) (IsNoSite self.now.rows self.now.number)) }
     {
-        has_right_rows(self) && meets_site_rules(self)
+        match first_fault(alloc, self)? {
+            Some(fault) => Ok(Some(fault)),
+            None if self.number <= GREATEST_NUMBER => Ok(None),
+            None => Ok(Some(NotASite {
+                cell: Cell::Head,
+                rule: SiteRule::Range,
+                field: SiteField::Number,
+            })),
+        }
+    }
+
+    /// Whether the state is valid: each row is right by itself, and no cell breaks a rule of sites. `Err` only where
+    /// memory is wanting.
+    pub fn is_valid(&self, alloc: Global) -> Result<bool, AllocError>
+        ensures { IfOk result (λ valid. IsTrue valid ↔ IsValidState self.now) }
+    {
+        self.stands_in_order();
+        if !self.rows.are_right() {
+            return Ok(false);
+        }
+        meets_site_rules(alloc, self)
     }
 
     /// The settings of the site, and the tag that covers reading them.

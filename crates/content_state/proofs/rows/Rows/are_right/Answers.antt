@@ -2,7 +2,7 @@ use Rattle.std.proofs.Common.{refl}
 use Rattle.std.proofs.lemmas.Bool.{both_ways}
 use Rattle.content_rows.specs.ValidRow.{IsValidRow}
 use Rattle.content_state.proofs.RightRows.{none_left, first_right, first_wrong}
-use Rattle.content_state.proofs.site_rules.has_right_rows.Goals as goal
+use Rattle.content_state.proofs.rows.Rows.are_right.Goals as goal
 
 pub returns-then-not-is_right : goal.returns-then-not-is_right
 returns-then-not-is_right c =
