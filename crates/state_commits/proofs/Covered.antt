@@ -1,0 +1,199 @@
+-- A read is the same on two states of one log where no tag that covers it was invalidated in between.
+use Rattle.std.proofs.Common.{ℕ, List, [], ◌∷◌, ◌++◌, ◌≡◌, ◌⊎◌, refl, sym, ◌∙◌, ap, subst, arith, inl, inr, Bool, true, false, cond, Option, Some, None, Contains, is_some}
+use Rattle.std.specs.Prelude.{if◌then◌else◌, option_and_then}
+use Rattle.std.specs.List.{cons_option, filter, filter_map}
+use Rattle.std.specs.Str.{bytes_eq}
+use Rattle.std.proofs.lemmas.List.Elements.{Contains-append_left, Contains-append_right}
+use Rattle.std.proofs.lemmas.Slice.Eq.{bytes_eq-Decides}
+use Rattle.cacheability.specs.declared.tag.Tag.{Tag}
+use Rattle.cacheability.specs.declared.tag.Tag.TheVariants as tag
+use Rattle.tag_counts.specs.Counts.{count_of}
+use Rattle.content_rows.specs.declared.cell.Cell.{Cell}
+use Rattle.content_rows.specs.declared.cell.Cell.TheVariants as cell
+use Rattle.content_rows.specs.declared.row.Row.{Row}
+use Rattle.content_rows.specs.declared.row.Row.TheVariants as row
+use Rattle.content_rows.specs.declared.row.Node.{Node}
+use Rattle.content_state.specs.declared.route.Route.{Route}
+use Rattle.content_state.specs.declared.route.Route.TheVariants as route
+use Rattle.content_state.specs.State.{State}
+use Rattle.content_state.specs.Rows.{row_at, as_site, as_type, as_role, as_user, as_term, as_node, as_menu, as_listing, as_block, node_entry, block_entry, node_of, term_of, user_of}
+use Rattle.content_state.specs.Route.{id_after, node_front, term_front, user_front, login_path, root_path, front_in, front_path, meant, found_route, led_to, route_of, cell_with, cell_route, tag_of_id, numbered_tags, route_tags, front_tags, path_tags}
+use Rattle.content_state.specs.Read.{Read, SiteRow, TypeRow, RoleRow, UserRow, TermRow, NodeRow, MenuRow, ListingRow, BlockRow, AllNodes, NodesOfType, AllBlocks, PathRoute, cover}
+use Rattle.content_state.specs.Replay.{list_of_type, bumps}
+use Rattle.content_state.specs.SiteRules.{InOrder, IsValidState}
+use Rattle.state_commits.specs.Edits.{SameRead, AreFitFor, CoveredReadsStay}
+use Rattle.state_commits.proofs.Steps.{Names, Tells}
+use Rattle.state_commits.proofs.Logs.{Kin, kin, same_row, same_gathered, leads_from, ordered_on}
+use Rattle.state_commits.proofs.Owners.{owns, first_of, tags_of, led_by_owner, all_right, owner, Comes, NoOne, Someone, comes, leads_to_owner}
+
+-- which writes have to do with the lists
+nodes_told : Tells node_entry tag.NodeList
+nodes_told (cell.Node n) old new never x which = absurd (never (1, omega arith, refl))
+nodes_told _ old new never x which = refl
+
+blocks_told : Tells block_entry tag.BlockList
+blocks_told (cell.Block b) old new never x which = absurd (never (1, omega arith, refl))
+blocks_told _ old new never x which = refl
+
+owners_told : (path : List ℕ) → Tells (owns path) tag.NotFound
+owners_told path (cell.Node n) old new never x which = absurd (never (2, omega arith, refl))
+owners_told path (cell.Listing l) old new never x which = absurd (never (1, omega arith, refl))
+owners_told path _ old new never x which = refl
+
+-- the nodes of a type, gathered at once
+abbrev kept_if : {Y : Type 0} → (Y → Bool) → Option Y → Option Y
+kept_if p None = None
+kept_if p (Some y) = cond (p y) (Some y) None
+
+gathered_at_once : {X Y : Type 0} (p : Y → Bool) (f : X → Option Y) (xs : List X) → filter p (filter_map f xs) ≡ filter_map (λ x. kept_if p (f x)) xs
+gathered_at_once p f [] = refl
+gathered_at_once {X} {Y} p f (x ∷ xs) = go (f x) (gathered_at_once p f xs)
+  where
+    pick : (b : Bool) (y : Y) → filter p (filter_map f xs) ≡ filter_map (λ z. kept_if p (f z)) xs → cond b (y ∷ filter p (filter_map f xs)) (filter p (filter_map f xs)) ≡ cons_option (cond b (Some y) None) (filter_map (λ z. kept_if p (f z)) xs)
+    pick true y rest = ap (λ l. y ∷ l) rest
+    pick false y rest = rest
+
+    go : (o : Option Y) → filter p (filter_map f xs) ≡ filter_map (λ z. kept_if p (f z)) xs → filter p (cons_option o (filter_map f xs)) ≡ cons_option (kept_if p o) (filter_map (λ z. kept_if p (f z)) xs)
+    go None rest = rest
+    go (Some y) rest = pick (p y) y rest
+
+abbrev is_of_type : List ℕ → ℕ × Node → Bool
+is_of_type t e = bytes_eq e.1.node_type t
+
+abbrev node_of_type : List ℕ → Cell × Row → Option (ℕ × Node)
+node_of_type t e = kept_if (is_of_type t) (node_entry e)
+
+-- a write by which a node of a type comes or goes invalidates the list of that type
+lists_type : (t : List ℕ) (n : ℕ) (r : Node) (old new : Option Row) → r.node_type ≡ t → (old ≡ Some (row.Node r)) ⊎ (new ≡ Some (row.Node r)) → Contains (bumps (cell.Node n) old new) (tag.NodeListOf t)
+lists_type t n r old new typed (inl is) =
+    subst (λ o. Contains (bumps (cell.Node n) o new) (tag.NodeListOf t)) (sym is) (3, omega arith, ap tag.NodeListOf typed)
+lists_type t n r old new typed (inr is) =
+    Contains-append_right (tag.Node n ∷ tag.NodeList ∷ tag.NotFound ∷ []) (list_of_type old ++ list_of_type new) (tag.NodeListOf t)
+    (Contains-append_right (list_of_type old) (list_of_type new) (tag.NodeListOf t)
+    (subst (λ o. Contains (list_of_type o) (tag.NodeListOf t)) (sym is) (0, omega arith, ap tag.NodeListOf typed)))
+
+typed_told : (t : List ℕ) → Tells (node_of_type t) (tag.NodeListOf t)
+typed_told t (cell.Node n) old new never (row.Node r) which = go (bytes_eq r.node_type t) refl
+  where
+    go : (b : Bool) → bytes_eq r.node_type t ≡ b → cond {A = Option (ℕ × Node)} b (Some (n, r)) None ≡ None
+    go true is = absurd (never (lists_type t n r old new ((bytes_eq-Decides r.node_type t).0 is) which))
+    go false is = refl
+typed_told t _ old new never _ which = refl
+
+-- the tags of a route, by those of the numbers that stand in the path
+by_numbers : (to : Route) (path : List ℕ) → route_tags to path ≡ tags_of to (numbered_tags path)
+by_numbers (route.Node n) path = refl
+by_numbers (route.Term t) path = refl
+by_numbers (route.User u) path = refl
+by_numbers (route.Listing l) path = refl
+by_numbers route.Login path = refl
+by_numbers route.Nothing path = refl
+
+module _ (s t : State) (same : Kin s t) (sorted : InOrder s.rows) (sorted' : InOrder t.rows) where
+  -- the count of a tag is the same on both
+  abbrev Stays : Tag → Type 0
+  Stays g = count_of s.counts g ≡ count_of t.counts g
+
+  abbrev AllStay : List Tag → Type 0
+  AllStay tags = (g : Tag) → Contains tags g → Stays g
+
+  at : (c : Cell) (g : Tag) → Names c g → Stays g → row_at s.rows c ≡ row_at t.rows c
+  at c g names stays = same_row same sorted sorted' c g names stays
+
+  -- by a number
+  own_stays : (g : Tag) (to : Route) (numbers : List Tag) (b : Bool) → Contains (tags_of to numbers) g → Contains (tag.NotFound ∷ numbers) g → AllStay (tags_of (if b then to else route.Nothing) numbers) → Stays g
+  own_stays g to numbers true one other stay = stay g one
+  own_stays g to numbers false one other stay = stay g other
+
+  -- by the path of a node or a listing
+  module _ (valid : IsValidState s) (valid' : IsValidState t) where
+    by_owner : (path : List ℕ) (numbers : List Tag) → Comes (owns path) s.rows → AllStay (tags_of (first_of (filter_map (owns path) s.rows)) numbers) → first_of (filter_map (owns path) s.rows) ≡ first_of (filter_map (owns path) t.rows)
+    by_owner path numbers (NoOne none) stay =
+        ap first_of (same_gathered (owns path) same sorted sorted' tag.NotFound (owners_told path)
+        (stay tag.NotFound (subst (λ l. Contains (tags_of (first_of l) numbers) tag.NotFound) (sym none) (0, omega arith, refl))))
+    by_owner path numbers (Someone e to held gives leads) stay =
+        let right = all_right s.rows sorted valid.rows e held in
+        let own = owner path e.0 e.1 right.valid to gives in
+        let stays : Stays own.own = stay own.own (subst (λ (x : Route). Contains (tags_of x numbers) own.own) (sym leads) (own.tells numbers)) in
+        let there : row_at t.rows e.0 ≡ Some e.1 = sym (at e.0 own.own own.names stays) ∙ right.at in
+        leads ∙ sym (leads_to_owner t path e.0 e.1 to valid' there gives)
+
+    by_cell : (path : List ℕ) (numbers : List Tag) → AllStay (tags_of (cell_route s.rows (cell_with s.rows path)) numbers) → cell_route s.rows (cell_with s.rows path) ≡ cell_route t.rows (cell_with t.rows path)
+    by_cell path numbers stay =
+        let here = led_by_owner s.rows path sorted valid.rows in
+        let there = led_by_owner t.rows path sorted' valid'.rows in
+        here
+        ∙ by_owner path numbers (comes (owns path) s.rows) (subst (λ (x : Route). AllStay (tags_of x numbers)) here stay)
+        ∙ sym there
+
+    abbrev numbers_of : Option ℕ → Option ℕ → Option ℕ → List Tag
+    numbers_of n t u = tag_of_id tag.Node n ++ tag_of_id tag.Term t ++ tag_of_id tag.User u
+
+    by_ids : (path : List ℕ) (n k u : Option ℕ) → AllStay (tags_of (found_route s.rows path n k u) (numbers_of n k u)) → found_route s.rows path n k u ≡ found_route t.rows path n k u
+    by_ids path (Some n) k u stay =
+        ap (λ o. if is_some (option_and_then as_node o) then route.Node n else route.Nothing)
+        (at (cell.Node n) (tag.Node n) (λ old new. (0, omega arith, refl)) (own_stays (tag.Node n) (route.Node n) (numbers_of (Some n) k u) (is_some (node_of s.rows n)) (0, omega arith, refl) (1, omega arith, refl) stay))
+    by_ids path None (Some k) u stay =
+        ap (λ o. if is_some (option_and_then as_term o) then route.Term k else route.Nothing)
+        (at (cell.Term k) (tag.Term k) (λ old new. (0, omega arith, refl)) (own_stays (tag.Term k) (route.Term k) (numbers_of None (Some k) u) (is_some (term_of s.rows k)) (0, omega arith, refl) (1, omega arith, refl) stay))
+    by_ids path None None (Some u) stay =
+        ap (λ o. if is_some (option_and_then as_user o) then route.User u else route.Nothing)
+        (at (cell.User u) (tag.User u) (λ old new. (0, omega arith, refl)) (own_stays (tag.User u) (route.User u) (numbers_of None None (Some u)) (is_some (user_of s.rows u)) (0, omega arith, refl) (1, omega arith, refl) stay))
+    by_ids path None None None stay = by_cell path (numbers_of None None None) stay
+
+    login_or : (b : Bool) (path : List ℕ) (n k u : Option ℕ) → AllStay (tags_of (if b then route.Login else found_route s.rows path n k u) (numbers_of n k u)) → (if b then route.Login else found_route s.rows path n k u) ≡ (if b then route.Login else found_route t.rows path n k u)
+    login_or true path n k u stay = refl
+    login_or false path n k u stay = by_ids path n k u stay
+
+    led_same : (path : List ℕ) → AllStay (route_tags (led_to s.rows path) path) → led_to s.rows path ≡ led_to t.rows path
+    led_same path stay =
+        login_or (bytes_eq path login_path) path (id_after node_front path) (id_after term_front path) (id_after user_front path)
+        (subst AllStay (by_numbers (led_to s.rows path) path) stay)
+
+    -- `/` stands for the same path
+    stands_for_same : (path : List ℕ) (b : Bool) (others : List Tag) → AllStay (others ++ (if b then tag.Site ∷ [] else [])) → (if b then front_path s.rows else path) ≡ (if b then front_path t.rows else path)
+    stands_for_same path true others stay =
+        ap (λ o. front_in (option_and_then as_site o))
+        (at cell.Site tag.Site (λ old new. (0, omega arith, refl)) (stay tag.Site (Contains-append_right others (tag.Site ∷ []) tag.Site (0, omega arith, refl))))
+    stands_for_same path false others stay = refl
+
+    path_same : (path : List ℕ) → AllStay (path_tags s.rows path) → SameRead (PathRoute path) s t
+    unfolding route_of path_tags
+    path_same path stay =
+        let here : List ℕ = meant s.rows path in
+        let own : List Tag = route_tags (led_to s.rows here) here in
+        let stands : here ≡ meant t.rows path = stands_for_same path (bytes_eq path root_path) own stay in
+        let leads : led_to s.rows here ≡ led_to t.rows (meant t.rows path) =
+        led_same here (λ g held. stay g (Contains-append_left own (front_tags path) g held)) ∙ ap (led_to t.rows) stands in
+        record {
+          answers = leads;
+          covers = ap (λ (x : Route). route_tags x here ++ front_tags path) leads ∙ ap (λ p. route_tags (led_to t.rows (meant t.rows path)) p ++ front_tags path) stands;
+        }
+
+  one : (g : Tag) → AllStay (g ∷ []) → Stays g
+  one g stay = stay g (0, omega arith, refl)
+
+  read_same : (read : Read) → AreFitFor read s t → AllStay (cover s.rows read) → SameRead read s t
+  read_same SiteRow fit stay = record { covers = refl; answers = ap (option_and_then as_site) (at cell.Site tag.Site (λ old new. (0, omega arith, refl)) (one tag.Site stay)) }
+  read_same (TypeRow n) fit stay = record { covers = refl; answers = ap (option_and_then as_type) (at (cell.NodeType n) (tag.NodeType n) (λ old new. (0, omega arith, refl)) (one (tag.NodeType n) stay)) }
+  read_same (RoleRow n) fit stay = record { covers = refl; answers = ap (option_and_then as_role) (at (cell.Role n) (tag.Role n) (λ old new. (0, omega arith, refl)) (one (tag.Role n) stay)) }
+  read_same (UserRow n) fit stay = record { covers = refl; answers = ap (option_and_then as_user) (at (cell.User n) (tag.User n) (λ old new. (0, omega arith, refl)) (one (tag.User n) stay)) }
+  read_same (TermRow n) fit stay = record { covers = refl; answers = ap (option_and_then as_term) (at (cell.Term n) (tag.Term n) (λ old new. (0, omega arith, refl)) (one (tag.Term n) stay)) }
+  read_same (NodeRow n) fit stay = record { covers = refl; answers = ap (option_and_then as_node) (at (cell.Node n) (tag.Node n) (λ old new. (0, omega arith, refl)) (one (tag.Node n) stay)) }
+  read_same (MenuRow n) fit stay = record { covers = refl; answers = ap (option_and_then as_menu) (at (cell.Menu n) (tag.Menu n) (λ old new. (0, omega arith, refl)) (one (tag.Menu n) stay)) }
+  read_same (ListingRow n) fit stay = record { covers = refl; answers = ap (option_and_then as_listing) (at (cell.Listing n) (tag.Listing n) (λ old new. (0, omega arith, refl)) (one (tag.Listing n) stay)) }
+  read_same (BlockRow n) fit stay = record { covers = refl; answers = ap (option_and_then as_block) (at (cell.Block n) (tag.Block n) (λ old new. (0, omega arith, refl)) (one (tag.Block n) stay)) }
+  read_same AllNodes fit stay = record { covers = refl; answers = same_gathered node_entry same sorted sorted' tag.NodeList nodes_told (one tag.NodeList stay) }
+  read_same (NodesOfType n) fit stay = record {
+    covers = refl;
+    answers =
+        gathered_at_once (is_of_type n) node_entry s.rows
+        ∙ same_gathered (node_of_type n) same sorted sorted' (tag.NodeListOf n) (typed_told n) (one (tag.NodeListOf n) stay)
+        ∙ sym (gathered_at_once (is_of_type n) node_entry t.rows);
+  }
+  read_same AllBlocks fit stay = record { covers = refl; answers = same_gathered block_entry same sorted sorted' tag.BlockList blocks_told (one tag.BlockList stay) }
+  read_same (PathRoute path) fit stay = path_same fit.0 fit.1 path stay
+
+pub covered_reads_stay : CoveredReadsStay
+covered_reads_stay base log sorted j k read fit stay =
+    read_same _ _ (kin base log j k) (ordered_on (leads_from base log j) sorted) (ordered_on (leads_from base log k) sorted) read fit stay

@@ -1,0 +1,6 @@
+pub mod Entries
+pub mod Counted
+pub mod Steps
+pub mod Logs
+pub mod Owners
+pub mod Covered

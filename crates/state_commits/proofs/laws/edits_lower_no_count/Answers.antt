@@ -1,0 +1,8 @@
+use Rattle.state_commits.proofs.Logs as laws
+use Rattle.state_commits.proofs.laws.edits_lower_no_count.Goals as goal
+
+pub returns-clause-step : goal.returns-clause-step
+returns-clause-step c = laws.steps_lower_no_count
+
+pub returns-clause-log : goal.returns-clause-log
+returns-clause-log c = laws.logs_lower_no_count

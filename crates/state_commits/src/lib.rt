@@ -1,0 +1,9 @@
+//! Accepted edits: what one makes of a state, and what every edit leaves as it was, which is what caches rest on.
+#![tactic(auto)]
+
+mod applying;
+mod laws;
+mod tags;
+
+pub use applying::{ApplyFault, apply};
+pub use laws::{covered_reads_stay, edits_keep_order, edits_lower_no_count, sums_tell_counts};
