@@ -1,0 +1,4 @@
+pub mod Batch
+pub mod Keeper
+pub mod Memory
+pub mod Steps
