@@ -1,0 +1,4 @@
+pub mod LineLaws
+pub mod PieceLaws
+pub mod RowLaws
+pub mod TakenPieces

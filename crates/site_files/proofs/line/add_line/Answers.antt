@@ -1,0 +1,13 @@
+use Rattle.std.proofs.Common.{subst, sym}
+use Rattle.std.specs.Arc.{arc_value}
+use Rattle.content_rows.specs.ValidRow.{IsValidRow}
+use Rattle.content_rows.specs.declared.row.Row.{Row}
+use Rattle.content_state.specs.SiteRules.{AreValidRows}
+use Rattle.site_files.proofs.RowLaws.{stays_valid}
+use Rattle.site_files.proofs.line.add_line.Goals as goal
+
+pub returns-clause-valid : goal.returns-clause-valid
+returns-clause-valid c =
+    λ valid.
+    subst AreValidRows (sym c.in-Ok-set.ensures.ok)
+    (stays_valid c.args.rows.now c.in_ok-cell.cell (arc_value c.in-Ok.shared) (subst (λ (r : Row). IsValidRow c.in_ok-cell.cell r) (sym c.in-Ok.ensures.ok) c.in_ok-cell.ensures.right) valid)
