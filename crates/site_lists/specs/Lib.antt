@@ -1,0 +1,6 @@
+pub mod Listed
+pub mod Paging
+pub mod MenuPlaces
+pub mod Blocks
+pub mod Visible
+pub mod ListingPlan

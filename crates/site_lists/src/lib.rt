@@ -1,0 +1,25 @@
+//! What a page lists: the nodes of a listing and the pages that they fill, the links of a menu and the active trail
+//! among them, and the blocks of a region with where and for whom each shows.
+#![tactic(auto)]
+
+mod blocks;
+mod front;
+mod laws;
+mod listed;
+mod names;
+mod paging;
+mod query;
+mod rank;
+mod trail;
+mod tree;
+mod visible;
+
+pub use blocks::blocks_of;
+pub use laws::plans_answer;
+pub use listed::{candidates, list_tags, term_listing};
+pub use paging::{Page, page_asked, page_at, page_of};
+pub use query::query_value;
+pub use rank::{BlockRank, NodeRank};
+pub use trail::active_trail;
+pub use tree::{MenuPlace, menu_tree};
+pub use visible::block_visible;

@@ -1,0 +1,176 @@
+//! The nodes of a listing.
+ghost use Rattle.std.specs.Prelude.{◌≡◌, ◌==◌, All, IfOk, IsSome, map};
+ghost use Rattle.std.specs.List.{list_any, filter};
+ghost use Rattle.std.specs.List.Sorted.{IsStrictlySortedBy};
+ghost use Rattle.std.specs.Map.{keys_of};
+ghost use Rattle.content_rows.specs.CellOrder.{cell_cmp};
+ghost use Rattle.content_state.specs.Rows.{node_of, nodes_of};
+ghost use Rattle.site_lists.specs.Listed.{
+  candidates as listed_ids,
+  term_listing as listing_of_term,
+  list_tags as tags_of_types,
+  in_order,
+  is_listed,
+  is_of_types,
+  has_term,
+  is_recent,
+  rank_of,
+  rank_cmp,
+};
+
+use crate::names::is_among;
+use crate::rank::NodeRank;
+use cacheability::{Name, Tag};
+use content_rows::{Cell, Items, Listing, Node, Row, Text};
+use content_state::{Rows, State};
+use std::alloc::{AllocError, Global};
+use std::cmp::Reverse;
+use std::collections::BTreeSet;
+
+/// The ids of the nodes that a listing has at a moment, in seconds since 1970, where access to them
+/// allows: published, promoted if the listing asks for it, of its types, with its term, and made
+/// within its span; sticky ones first, then those made later, then those of greater ids. Each node is
+/// there. `Err` only where memory is wanting.
+/// <https://www.drupal.org/docs/user_guide/en/views-concept.html>
+pub fn candidates(
+    alloc: Global,
+    state: &State,
+    listing: &Listing,
+    moment: u64,
+) -> Result<Vec<u32>, AllocError>
+    ensures ids { IfOk result (λ ids. ids.items ≡ listed_ids state.now.rows listing.now moment) }
+    ensures there { IfOk result (λ ids. All (λ n. IsSome (node_of state.now.rows n)) ids.items) }
+{
+    let ranks = ranks_of(alloc, state.rows(), listing, moment)?;
+    ids_of(alloc, &ranks)
+}
+
+/// The ids of nodes by what places them.
+fn ids_of(alloc: Global, ranks: &BTreeSet<NodeRank>) -> Result<Vec<u32>, AllocError>
+    ensures { IfOk result (λ ids. ids.items ≡ map (λ r. r.id.0) ranks.now.keys) }
+{
+    let mut ids = Vec::new(alloc);
+    'ranks: for rank in ranks {
+        ids.push(rank.id.0)?;
+    }
+    Ok(ids)
+}
+
+/// What places the nodes that a listing has, in their order; the rows are in the order of their cells.
+fn ranks_of(
+    alloc: Global,
+    rows: &Rows,
+    listing: &Listing,
+    moment: u64,
+) -> Result<BTreeSet<NodeRank>, AllocError>
+    ensures ordered { IsStrictlySortedBy cell_cmp (keys_of rows.now) }
+    ensures ranks { IfOk result (λ ranks. ranks.keys ≡ in_order rank_cmp (map rank_of (filter (λ e. is_listed listing.now moment e.1) (nodes_of rows.now)))) }
+{
+    let mut ranks = BTreeSet::new(alloc);
+    'rows: for (cell, row) in rows.iter() {
+        if let (Cell::Node(id), Row::Node(node)) = (cell, row) {
+            if is_listed(listing, moment, node) {
+                ranks.insert(rank(*id, node))?;
+            }
+        }
+    }
+    Ok(ranks)
+}
+
+/// What places a node.
+fn rank(id: u32, node: &Node) -> NodeRank
+    ensures { result ≡ rank_of (id, node.now) }
+{
+    NodeRank {
+        sticky: Reverse(node.sticky),
+        created: Reverse(node.created),
+        id: Reverse(id),
+    }
+}
+
+/// Whether a listing has a node at a moment, where access to the node allows.
+fn is_listed(listing: &Listing, moment: u64, node: &Node) -> bool
+    ensures { result ≡ is_listed listing.now moment node.now }
+{
+    node.status
+        && (!listing.promoted || node.promote)
+        && is_of_types(listing.types.as_slice(), &node.node_type)
+        && has_term(listing.term, node.terms.as_slice())
+        && is_recent(listing.recent, moment, node.created)
+}
+
+/// Whether a type is one of a listing's, which has nodes of every type where it names none.
+fn is_of_types(types: &[Name], node_type: &Name) -> bool
+    ensures { result ≡ is_of_types types.now node_type.now }
+{
+    match types {
+        [] => true,
+        [_, ..] => is_among(types, node_type),
+    }
+}
+
+/// Whether the terms of a node have a listing's, if it has one.
+fn has_term(term: Option<u32>, terms: &[u32]) -> bool
+    ensures { result ≡ has_term term terms.now }
+{
+    match term {
+        Some(term) => is_term_among(terms, term),
+        None => true,
+    }
+}
+
+fn is_term_among(terms: &[u32], term: u32) -> bool
+    ensures { result ≡ list_any (λ t. t == term) terms.now }
+{
+    terms.iter().any(|t| *t == term)
+}
+
+/// Whether a node was made within a span of seconds before a moment, if there is a span, and not
+/// after it.
+fn is_recent(span: Option<u32>, moment: u64, created: u64) -> bool
+    ensures { result ≡ is_recent span moment created }
+{
+    match span {
+        Some(span) => moment.saturating_sub(u64::from(span)) <= created && created <= moment,
+        None => true,
+    }
+}
+
+/// The listing of a term: its published nodes of every type, whether promoted or not. It has no
+/// title and no path.
+/// <https://www.drupal.org/docs/user_guide/en/structure-taxonomy.html>
+pub fn term_listing(alloc: Global, term: u32) -> Listing
+    ensures { result ≡ listing_of_term term }
+{
+    Listing {
+        age: None,
+        path: None,
+        promoted: false,
+        recent: None,
+        term: Some(term),
+        title: Text::from_vec(Vec::new(alloc)),
+        types: Items::none(alloc),
+    }
+}
+
+/// The tags that cover what a listing chooses among: those of the lists of its types' nodes, or
+/// that of all nodes where it names no type. `Err` only where memory is wanting.
+/// <https://www.drupal.org/docs/drupal-apis/cache-api/cache-tags>
+pub fn list_tags(alloc: Global, listing: &Listing) -> Result<Vec<Tag>, AllocError>
+    ensures { IfOk result (λ tags. tags.items ≡ tags_of_types listing.now.types) }
+{
+    match listing.types.as_slice() {
+        [] => Vec::from_slice(alloc, &[Tag::NodeList]),
+        [_, ..] => tags_of(alloc, listing.types.as_slice()),
+    }
+}
+
+/// The tags of the lists of these types' nodes.
+fn tags_of(alloc: Global, types: &[Name]) -> Result<Vec<Tag>, AllocError>
+    ensures { IfOk result (λ tags. tags.items ≡ map Tag.NodeListOf types.now) }
+{
+    types
+        .iter()
+        .map(|name| Tag::NodeListOf(*name))
+        .collect(alloc)
+}

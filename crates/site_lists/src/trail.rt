@@ -1,0 +1,124 @@
+//! The active trail of a menu.
+ghost use Rattle.std.specs.Prelude.{◌≡◌, IfOk, if◌then◌else◌};
+ghost use Rattle.std.specs.List.{find};
+ghost use Rattle.std.specs.Option.{option_copied};
+ghost use Rattle.std.specs.Str.{bytes_eq};
+ghost use Rattle.content_state.specs.Route.{root_path};
+ghost use Rattle.content_state.specs.Context.{parent_of as parent_in, trail_in, upward as upward_from};
+ghost use Rattle.content_state.specs.Route.{front_path as front_in_rows};
+ghost use Rattle.site_lists.specs.MenuPlaces.{first_to, id_at, leads_to, trail_to};
+
+use crate::front::{front_path, is_root};
+use crate::tree::{MenuPlace, tree_of};
+use cacheability::Name;
+use content_rows::{Link, Menu};
+use content_state::{Ask, State};
+use std::alloc::{AllocError, Global};
+
+/// The ids of a menu's active trail: the first link in preorder that leads to the path that is
+/// asked for, `/` standing for the front page's, and the links above it, the lowest first. `Err`
+/// only where memory is wanting.
+/// <https://api.drupal.org/api/drupal/core!lib!Drupal!Core!Menu!MenuActiveTrail.php/class/MenuActiveTrail/10>
+pub fn active_trail(
+    alloc: Global,
+    state: &State,
+    menu: &Menu,
+    ask: &Ask,
+) -> Result<Vec<Name>, AllocError>
+    ensures { IfOk result (λ ids. ids.items ≡ trail_in state.now.rows ask.now.path (Some menu.now)) }
+{
+    trail_to(alloc, menu.links.as_slice(), target(state, ask))
+}
+
+/// The ids of the first of these links in preorder that leads to a path, and of those above it.
+fn trail_to(alloc: Global, links: &[Link], path: &[u8]) -> Result<Vec<Name>, AllocError>
+    ensures { IfOk result (λ ids. ids.items ≡ trail_to links.now path.now) }
+{
+    let places = tree_of(alloc, links)?;
+    upward(alloc, links, first_to(links, &places, path))
+}
+
+/// The path that a link of the trail leads to.
+fn target<'a>(state: &'a State, ask: &'a Ask) -> &'a [u8]
+    ensures { result.now ≡ (if bytes_eq ask.now.path root_path then front_in_rows state.now.rows else ask.now.path) }
+{
+    if is_root(ask.path.as_slice()) {
+        front_path(state)
+    } else {
+        ask.path.as_slice()
+    }
+}
+
+/// The id of the first of these places whose link leads to a path.
+fn first_to(links: &[Link], places: &[MenuPlace], path: &[u8]) -> Option<Name>
+    ensures { result ≡ first_to links.now path.now places.now }
+{
+    match place_to(links, places, path) {
+        Some(place) => id_at(links, place.link),
+        None => None,
+    }
+}
+
+/// The first of these places whose link leads to a path.
+fn place_to<'a>(links: &[Link], places: &'a [MenuPlace], path: &[u8]) -> Option<&'a MenuPlace>
+    ensures { option_copied result ≡ find (λ p. leads_to links.now path.now p.link) places.now }
+{
+    places
+        .iter()
+        .find(|place| leads_to(links, path, place.link))
+}
+
+/// Whether there is a link at a place and it leads to a path.
+fn leads_to(links: &[Link], path: &[u8], at: usize) -> bool
+    ensures { result ≡ leads_to links.now path.now at }
+{
+    match links.get(at) {
+        Some(link) => link.path.as_slice() == path,
+        None => false,
+    }
+}
+
+/// The id of the link at a place, if there is one.
+fn id_at(links: &[Link], at: usize) -> Option<Name>
+    ensures { result ≡ id_at links.now at }
+{
+    match links.get(at) {
+        Some(link) => Some(link.id),
+        None => None,
+    }
+}
+
+/// A link and those above it, at most nine.
+fn upward(alloc: Global, links: &[Link], from: Option<Name>) -> Result<Vec<Name>, AllocError>
+    ensures { IfOk result (λ ids. ids.items ≡ upward_from 9 links.now from) }
+{
+    let mut ids = Vec::new(alloc);
+    let mut next = from;
+    'heights: for _ in 0..9_u8 {
+        let Some(id) = next else {
+            break;
+        };
+        ids.push(id)?;
+        next = parent_of(links, id);
+    }
+    Ok(ids)
+}
+
+/// The parent of the link of an id.
+fn parent_of(links: &[Link], id: Name) -> Option<Name>
+    ensures { result ≡ parent_in (find (λ l. bytes_eq l.id id) links.now) }
+{
+    match link_of(links, &id) {
+        Some(link) => link.parent,
+        None => None,
+    }
+}
+
+/// The link of an id.
+fn link_of<'a>(links: &'a [Link], id: &Name) -> Option<&'a Link>
+    ensures { option_copied result ≡ find (λ l. bytes_eq l.id id.now) links.now }
+{
+    links
+        .iter()
+        .find(|link| link.id.as_bytes() == id.as_bytes())
+}
