@@ -1,6 +1,4 @@
-pub mod Runs
-pub mod NodePlan
-pub mod OtherPlans
-pub mod Results
-pub mod Returns
-pub mod Exact
+pub mod SilentPlans
+pub mod PlansDecide
+pub mod WholeResults
+pub mod RoutePlans

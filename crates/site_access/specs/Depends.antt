@@ -31,21 +31,23 @@ answer_of verdict.Forbidden why = Denied (unwrap_or why (reason.Permission []))
 abbrev pub access_of : AccessResult → Access
 access_of result = answer_of result.verdict result.reason
 
+-- The verdict that goes with a reason: want of a grant is neutral, since another vote may still allow; all else that
+-- denies forbids.
+abbrev pub verdict_for : Reason → Verdict
+verdict_for (reason.Grant op n) = verdict.Neutral
+verdict_for (reason.Permission permission) = verdict.Forbidden
+verdict_for (reason.OwnerOnly field) = verdict.Forbidden
+verdict_for reason.Unrecognized = verdict.Forbidden
+verdict_for reason.NoSession = verdict.Forbidden
+
+-- the result that tells an answer and depends on this
+abbrev pub told : Access → Cacheability → AccessResult
+told Allowed depends = record { verdict = verdict.Allowed; reason = None; cacheability = depends }
+told (Denied why) depends = record { verdict = verdict_for why; reason = Some why; cacheability = depends }
+
 -- what depends on these for ever
 abbrev pub lasting : List Tag → List Context → Cacheability
 lasting tags contexts = record { tags = tags; contexts = contexts; max_age = Permanent }
-
-abbrev pub allowed : Cacheability → AccessResult
-allowed depends = record { verdict = verdict.Allowed; reason = None; cacheability = depends }
-
--- forbidden, since a permission is missing
-abbrev pub lacking : List ℕ → Cacheability → AccessResult
-lacking permission depends =
-    record {
-      verdict = verdict.Forbidden;
-      reason = Some (reason.Permission permission);
-      cacheability = depends;
-    }
 
 -- a vote: allowed, or else neutral for a reason
 abbrev pub vote : Bool → Option Reason → Cacheability → AccessResult
@@ -80,9 +82,9 @@ votes_depend n asks =
     if asks then lasting (tag.Node n ∷ []) (context.User ∷ context.NodeGrantsView ∷ context.UserPermissions ∷ [])
     else lasting (tag.Node n ∷ []) (context.NodeGrantsView ∷ context.UserPermissions ∷ [])
 
--- a node that isn't there has no vote
+-- of a node that isn't there the row alone is looked for
 abbrev pub votes_in_depend : Op → ℕ → Option Node → Cacheability
-votes_in_depend op n None = by_permissions
+votes_in_depend op n None = lasting (tag.Node n ∷ []) (context.UserPermissions ∷ [])
 votes_in_depend op n (Some node) = votes_depend n (asks_owner op node)
 
 -- Exactly what access to a node depends on: permissions alone, where bypassing access or the want of `access content`

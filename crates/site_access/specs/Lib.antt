@@ -4,3 +4,7 @@ pub mod Decided
 pub mod Depends
 pub mod Account
 pub mod Laws
+pub mod Exact
+pub mod Terms
+pub mod Users
+pub mod Routes

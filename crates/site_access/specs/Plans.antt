@@ -12,7 +12,7 @@ use Rattle.content_rows.specs.Permission.{has, records_of, granted}
 use Rattle.content_state.specs.Viewer.{bypass_node_access, access_content, view_own_unpublished, administer_nodes}
 use Rattle.content_state.specs.Read.{NodeRow, TypeRow}
 use Rattle.content_state.specs.Plan.{Plan, Done, reading, asking, ◌>>=◌}
-use Rattle.site_access.specs.Access.{Access, Allowed, Denied, owns, any_content, own_content, create_content, field_permission, missing, field_of_type}
+use Rattle.site_access.specs.Access.{Access, Allowed, Denied, owns, any_content, own_content, create_content, field_permission, missing, field_of_type, owner_in}
 
 -- whether the viewer holds a permission
 unfoldable pub holds : List ℕ → Plan Bool
@@ -80,24 +80,28 @@ abbrev pub permitted : Option (List ℕ) → Plan Bool
 permitted None = Done true
 permitted (Some permission) = holds permission
 
--- whether a field of owners is the viewer's to see
-abbrev pub owned_row : Option Node → Plan Bool
-owned_row None = Done false
-owned_row (Some node) = is_owner node.uid
-
+-- whether a field is the viewer's to use, as far as owners go: one that is for owners is the logged-in owner's, and theirs
+-- who may administer nodes
 abbrev pub owner_rule : ℕ → FieldRow → Plan Bool
 owner_rule n field = if field.owner then (do
-  owner ← reading (NodeRow n) >>= owned_row
+  node ← reading (NodeRow n)
+  owner ← is_owner (owner_in node)
   administers ← holds administer_nodes
   Done (owner || administers)) else Done true
 
+-- what the owner's rule and the permission decide: where both deny, the permission is the reason
+abbrev pub field_decision : Op → FieldRow → Bool → Bool → Access
+field_decision op field owned permission =
+    if not permission then Denied (missing (field_permission op field))
+    else (if owned then Allowed else Denied (reason.OwnerOnly field.name))
+
+-- The owner's rule is asked in any case, so that what is read doesn't hang on who views.
 abbrev pub by_field : Op → ℕ → List ℕ → Option FieldRow → Plan Access
 by_field op n name None = Done (Denied (reason.OwnerOnly name))
 by_field op n name (Some field) = do
+  owned ← owner_rule n field
   permission ← permitted (field_permission op field)
-  if not permission then Done (Denied (missing (field_permission op field))) else (do
-    owned ← owner_rule n field
-    Done (if owned then Allowed else Denied (reason.OwnerOnly field.name)))
+  Done (field_decision op field owned permission)
 
 -- access to a field of a node of that type
 unfoldable pub field_access : Op → ℕ → List ℕ → List ℕ → Plan Access

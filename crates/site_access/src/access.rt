@@ -4,7 +4,7 @@ ghost use Rattle.content_state.specs.Rows.{node_of};
 ghost use Rattle.site_access.specs.Access.{access_to_node, access_to_create, access_to_field_of, field_of, node_type_of};
 ghost use Rattle.site_access.specs.Plans.{node_access as node_plan, create_access as create_plan, field_access as field_plan};
 ghost use Rattle.site_access.specs.Decided.{IsDecided};
-ghost use Rattle.site_access.specs.Depends.{access_of, by_permissions, node_depends, field_of_depends};
+ghost use Rattle.site_access.specs.Depends.{access_of, told, by_permissions, node_depends, field_of_depends};
 
 use crate::account::Account;
 use access_result::AccessResult;
@@ -22,7 +22,7 @@ pub fn node_access(
     n: u32,
 ) -> Result<AccessResult, AllocError>
     requires { IsSome (node_of state.now.rows n) }
-    ensures answer { IfOk result (λ r. access_of r ≡ access_to_node state.now.rows viewer.now op n) }
+    ensures answer { IfOk result (λ r. r ≡ told (access_to_node state.now.rows viewer.now op n) r.cacheability) }
     ensures covered { IfOk result (λ r. IsDecided (node_plan op n) state.now.rows viewer.now (access_of r) r.cacheability.tags r.cacheability.contexts) }
     ensures depends { IfOk result (λ r. r.cacheability ≡ node_depends state.now.rows viewer.now op n) }
 {
@@ -38,7 +38,7 @@ pub fn create_access(
     viewer: &Viewer,
     node_type: &Name,
 ) -> Result<AccessResult, AllocError>
-    ensures answer { IfOk result (λ r. access_of r ≡ access_to_create state.now.rows viewer.now node_type.now) }
+    ensures answer { IfOk result (λ r. r ≡ told (access_to_create state.now.rows viewer.now node_type.now) r.cacheability) }
     ensures covered { IfOk result (λ r. IsDecided (create_plan node_type.now) state.now.rows viewer.now (access_of r) r.cacheability.tags r.cacheability.contexts) }
     ensures depends { IfOk result (λ r. r.cacheability ≡ by_permissions) }
 {
@@ -58,7 +58,7 @@ pub fn field_access(
 ) -> Result<AccessResult, AllocError>
     requires there { IsSome (node_of state.now.rows n) }
     requires has_field { IsSome (field_of state.now.rows (node_type_of state.now.rows n) name.now) }
-    ensures answer { IfOk result (λ r. access_of r ≡ access_to_field_of state.now.rows viewer.now op n name.now) }
+    ensures answer { IfOk result (λ r. r ≡ told (access_to_field_of state.now.rows viewer.now op n name.now) r.cacheability) }
     ensures covered { IfOk result (λ r. IsDecided (field_plan op n (node_type_of state.now.rows n) name.now) state.now.rows viewer.now (access_of r) r.cacheability.tags r.cacheability.contexts) }
     ensures depends { IfOk result (λ r. r.cacheability ≡ field_of_depends state.now.rows op n name.now) }
 {

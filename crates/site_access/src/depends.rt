@@ -1,6 +1,8 @@
 //! Results of deciding, and what they depend on.
 ghost use Rattle.std.specs.Prelude.{◌≡◌, IfOk};
-ghost use Rattle.site_access.specs.Depends.{vote as vote_of, allowed, lacking as forbidden_for_want, by_permissions as permissions_depend, rules_depend as depend_of_rules, grants_depend as depend_of_grants, field_depends as depend_of_field};
+ghost use Rattle.access_result.specs.declared.reason.Reason.TheVariants as reason_is;
+ghost use Rattle.site_access.specs.Access.{Allowed as access_given, Denied as access_denied};
+ghost use Rattle.site_access.specs.Depends.{told, vote as vote_of, by_permissions as permissions_depend, rules_depend as depend_of_rules, grants_depend as depend_of_grants, field_depends as depend_of_field};
 
 use access_result::{AccessResult, PermissionText, Reason, Verdict};
 use cacheability::{Cacheability, Context, Name, Tag};
@@ -79,7 +81,7 @@ pub fn vote(is_for: bool, reason: Option<Reason>, depends: Cacheability) -> Acce
 
 /// Allowed.
 pub fn allowed_by(depends: Cacheability) -> AccessResult
-    ensures { result ≡ allowed depends }
+    ensures { result ≡ told access_given depends }
 {
     AccessResult {
         verdict: Verdict::Allowed,
@@ -94,7 +96,7 @@ pub fn lacking(
     permission: &[u8],
     depends: Cacheability,
 ) -> Result<AccessResult, AllocError>
-    ensures { IfOk result (λ r. r ≡ forbidden_for_want permission.now depends) }
+    ensures { IfOk result (λ r. r ≡ told (access_denied (reason_is.Permission permission.now)) depends) }
 {
     Ok(AccessResult {
         verdict: Verdict::Forbidden,

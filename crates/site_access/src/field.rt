@@ -4,7 +4,7 @@ ghost use Rattle.content_state.specs.Rows.{node_of};
 ghost use Rattle.site_access.specs.Access.{access_to_field, access_to_field_of, field_permission as permission_of, field_in as field_named, field_of, node_type_of};
 ghost use Rattle.site_access.specs.Plans.{field_access};
 ghost use Rattle.site_access.specs.Decided.{IsDecided};
-ghost use Rattle.site_access.specs.Depends.{access_of, field_of_depends, field_depends as depends_of_field};
+ghost use Rattle.site_access.specs.Depends.{access_of, told, field_of_depends, field_depends as depends_of_field};
 ghost use Rattle.site_access.specs.Account.{IsAccountOf, OnRows};
 
 use crate::account::Account;
@@ -32,9 +32,26 @@ impl Account {
         requires account { IsAccountOf state.now.rows self.now.viewer self.now }
         requires there { IsSome (node_of state.now.rows n) }
         requires has_field { IsSome (field_of state.now.rows (node_type_of state.now.rows n) name.now) }
-        ensures answer { IfOk result (λ r. access_of r ≡ access_to_field_of state.now.rows self.now.viewer op n name.now) }
+        ensures answer { IfOk result (λ r. r ≡ told (access_to_field_of state.now.rows self.now.viewer op n name.now) r.cacheability) }
         ensures covered { IfOk result (λ r. IsDecided (field_access op n (node_type_of state.now.rows n) name.now) state.now.rows self.now.viewer (access_of r) r.cacheability.tags r.cacheability.contexts) }
         ensures depends { IfOk result (λ r. r.cacheability ≡ field_of_depends state.now.rows op n name.now) }
+    {
+        self.decide_field(alloc, state, op, n, name)
+    }
+
+    /// Access to a field that is there of a node that is there. `Err` only where memory is wanting.
+    fn decide_field(
+        &self,
+        alloc: Global,
+        state: &State,
+        op: Op,
+        n: u32,
+        name: &Name,
+    ) -> Result<AccessResult, AllocError>
+        requires account { IsAccountOf state.now.rows self.now.viewer self.now }
+        requires there { IsSome (node_of state.now.rows n) }
+        requires has_field { IsSome (field_of state.now.rows (node_type_of state.now.rows n) name.now) }
+        ensures { IfOk result (λ r. r ≡ told (access_to_field_of state.now.rows self.now.viewer op n name.now) (field_of_depends state.now.rows op n name.now)) }
     {
         let (node, _) = state.node(n);
         let Some(node) = node else { unreachable!() };
@@ -48,7 +65,8 @@ impl Account {
         self.access_to_field(alloc, op, n, node, field)
     }
 
-    /// Access to a field of this node. `Err` only where memory is wanting.
+    /// Access to a field of this node. Where its owner's rule and its permission both deny, the
+    /// permission is the reason. `Err` only where memory is wanting.
     fn access_to_field(
         &self,
         alloc: Global,
@@ -57,17 +75,17 @@ impl Account {
         node: &Node,
         field: &FieldRow,
     ) -> Result<AccessResult, AllocError>
-        ensures answer { IfOk result (λ r. OnRows self.now (λ rows. access_of r ≡ access_to_field rows self.now.viewer op node.now.uid field.now)) }
-        ensures depends { IfOk result (λ r. r.cacheability ≡ depends_of_field node.now.node_type n (is_some (permission_of op field.now)) field.now.owner) }
+        ensures { IfOk result (λ r. OnRows self.now (λ rows. r ≡ told (access_to_field rows self.now.viewer op node.now.uid field.now) (depends_of_field node.now.node_type n (is_some (permission_of op field.now)) field.now.owner))) }
     {
         let permission = field_permission(op, field);
         let depends = field_depends(alloc, node.node_type, n, permission.is_some(), field.owner)?;
+        let owned = !field.owner || self.owns(node.uid) || self.may(permission::administer_nodes());
         if let Some(permission) = permission {
             if !self.may(permission.as_slice()) {
                 return lacking(alloc, permission.as_slice(), depends);
             }
         }
-        if !field.owner || self.owns(node.uid) || self.may(permission::administer_nodes()) {
+        if owned {
             return Ok(allowed_by(depends));
         }
         Ok(AccessResult {

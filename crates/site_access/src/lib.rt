@@ -8,12 +8,16 @@ mod field;
 mod laws;
 mod node;
 mod permission;
+mod route;
+mod term;
+mod user;
 mod viewer;
 
 pub use access::{create_access, field_access, node_access};
 pub use account::{Account, permissions, view_grants};
-pub use laws::plans_answer;
+pub use field::field_in;
+pub use laws::{decisions_are_exact, plans_answer};
+pub use route::{route_access, route_plan_decides};
+pub use term::{term_access, term_plan_decides};
+pub use user::{user_access, user_plan_decides};
 pub use viewer::viewer_of;
-
-#[cfg(test)]
-mod tests;

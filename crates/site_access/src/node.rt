@@ -7,7 +7,7 @@ ghost use Rattle.content_state.specs.Viewer.{may, view_own_unpublished};
 ghost use Rattle.site_access.specs.Access.{owns as owns_by, any_content, own_content, by_rules, access_to_node, access_to_create};
 ghost use Rattle.site_access.specs.Plans.{node_access, create_access, grants_allow};
 ghost use Rattle.site_access.specs.Decided.{IsDecided};
-ghost use Rattle.site_access.specs.Depends.{access_of, node_depends, by_permissions as permissions_depend, vote as vote_of, rules_depend as depend_of_rules, grants_depend as depend_of_grants, asks_owner as is_owner_asked};
+ghost use Rattle.site_access.specs.Depends.{access_of, told, node_depends, by_permissions as permissions_depend, vote as vote_of, rules_depend as depend_of_rules, grants_depend as depend_of_grants, asks_owner as is_owner_asked};
 ghost use Rattle.site_access.specs.Account.{IsAccountOf, OnRows};
 
 use crate::account::Account;
@@ -34,9 +34,24 @@ impl Account {
     ) -> Result<AccessResult, AllocError>
         requires account { IsAccountOf state.now.rows self.now.viewer self.now }
         requires there { IsSome (node_of state.now.rows n) }
-        ensures answer { IfOk result (λ r. access_of r ≡ access_to_node state.now.rows self.now.viewer op n) }
+        ensures answer { IfOk result (λ r. r ≡ told (access_to_node state.now.rows self.now.viewer op n) r.cacheability) }
         ensures covered { IfOk result (λ r. IsDecided (node_access op n) state.now.rows self.now.viewer (access_of r) r.cacheability.tags r.cacheability.contexts) }
         ensures depends { IfOk result (λ r. r.cacheability ≡ node_depends state.now.rows self.now.viewer op n) }
+    {
+        self.decide_node(alloc, state, op, n)
+    }
+
+    /// Access to a node that is there. `Err` only where memory is wanting.
+    pub(crate) fn decide_node(
+        &self,
+        alloc: Global,
+        state: &State,
+        op: Op,
+        n: u32,
+    ) -> Result<AccessResult, AllocError>
+        requires account { IsAccountOf state.now.rows self.now.viewer self.now }
+        requires there { IsSome (node_of state.now.rows n) }
+        ensures { IfOk result (λ r. r ≡ told (access_to_node state.now.rows self.now.viewer op n) (node_depends state.now.rows self.now.viewer op n)) }
     {
         if self.may(permission::bypass_node_access()) {
             return Ok(allowed_by(by_permissions(alloc)?));
@@ -55,16 +70,16 @@ impl Account {
     /// memory is wanting.
     /// <https://www.drupal.org/docs/8/api/entity-api/access-on-entities>
     pub fn create_access(&self, alloc: Global, node_type: &Name) -> Result<AccessResult, AllocError>
-        ensures answer { IfOk result (λ r. OnRows self.now (λ rows. access_of r ≡ access_to_create rows self.now.viewer node_type.now)) }
+        ensures answer { IfOk result (λ r. OnRows self.now (λ rows. r ≡ told (access_to_create rows self.now.viewer node_type.now) r.cacheability)) }
         ensures covered { IfOk result (λ r. OnRows self.now (λ rows. IsDecided (create_access node_type.now) rows self.now.viewer (access_of r) r.cacheability.tags r.cacheability.contexts)) }
         ensures depends { IfOk result (λ r. r.cacheability ≡ permissions_depend) }
     {
-        self.may_create(alloc, node_type)
+        self.decide_creation(alloc, node_type)
     }
 
     /// Access to creating a node of a type. `Err` only where memory is wanting.
-    fn may_create(&self, alloc: Global, node_type: &Name) -> Result<AccessResult, AllocError>
-        ensures answer { IfOk result (λ r. OnRows self.now (λ rows. access_of r ≡ access_to_create rows self.now.viewer node_type.now)) }
+    fn decide_creation(&self, alloc: Global, node_type: &Name) -> Result<AccessResult, AllocError>
+        ensures answer { IfOk result (λ r. OnRows self.now (λ rows. r ≡ told (access_to_create rows self.now.viewer node_type.now) r.cacheability)) }
         ensures depends { IfOk result (λ r. r.cacheability ≡ permissions_depend) }
     {
         let depends = by_permissions(alloc)?;

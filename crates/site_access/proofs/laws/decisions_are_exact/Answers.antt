@@ -1,0 +1,10 @@
+use Rattle.site_access.proofs.SilentPlans.{reads_exactly}
+use Rattle.site_access.proofs.PlansDecide.{node_read, create_read, field_read}
+use Rattle.site_access.proofs.laws.decisions_are_exact.Goals as goal
+
+pub returns : goal.returns
+returns c = record {
+  node = λ o n v. reads_exactly _ v _ _ (node_read o n v);
+  create = λ type v. reads_exactly _ v _ _ (create_read type v);
+  field = λ o n type name v. reads_exactly _ v _ _ (field_read o n type name v);
+}
