@@ -1,7 +1,6 @@
-pub mod BoardLaws
-pub mod Fields
-pub mod Filling
-pub mod OfPage
+pub mod Leaves
+pub mod Lists
+pub mod MenuLaws
+pub mod Moving
 pub mod OnBlank
-pub mod Run
 pub mod Statuses

@@ -1,23 +1,34 @@
 -- The statuses that pages have.
-use Rattle.std.proofs.Common.{ℕ, List, ◌≡◌, ◌∙◌, ap, refl, sym, subst, Bool, true}
-use Rattle.std.specs.Prelude.{Option, Some, None, IsTrue, unwrap_or}
+use Rattle.std.proofs.Common.{ℕ, List, refl, sym, subst}
+use Rattle.std.specs.Prelude.{Option, Some, None, IsTrue}
 use Rattle.access_result.specs.declared.reason.Reason.{Reason}
 use Rattle.content_rows.specs.declared.row.Node.{Node}
+use Rattle.content_rows.specs.declared.row.Term.{Term}
+use Rattle.content_rows.specs.declared.row.User.{User}
+use Rattle.content_rows.specs.declared.row.Listing.{Listing}
 use Rattle.content_state.specs.declared.element.Library.{Library}
 use Rattle.content_state.specs.declared.route.Route.{Route}
 use Rattle.content_state.specs.declared.route.Route.TheVariants as route
-use Rattle.content_state.specs.Read.{Answer, answer, NodeRow, PathRoute}
+use Rattle.content_state.specs.Read.{Answer, answer, NodeRow, TermRow, UserRow, ListingRow, PathRoute}
 use Rattle.content_state.specs.Context.{Visit, Value, value}
-use Rattle.content_state.specs.Plan.{Piece, Plan, Done, Write, Attach, Reading, Asking, Clock, Part, ◌>>=◌, ◌>>◌, Needs, Made, reading, write}
+use Rattle.content_state.specs.Plan.{Piece, Plan, Done, Write, Attach, Reading, Asking, Clock, Part, ◌>>=◌, Needs, Made, reading, write, part}
 use Rattle.cacheability.specs.declared.op.Op.TheVariants as op
 use Rattle.site_access.specs.Access.{Access, Allowed, Denied}
 use Rattle.site_access.specs.Plans.{node_access}
-use Rattle.render_array.specs.Pieces.{denied_title, not_found_title, not_found_content}
-use Rattle.render_array.specs.Page.{page_top, page_bottom, denied_content, node_full, framed, denied, not_found, node_answer, node_found, node_page, page_at, page}
-use Rattle.render_array.specs.declared.built.Built.{Built}
-use Rattle.render_array.specs.Board.{pieces_of}
-use Rattle.render_array.specs.Built.{needs_of}
-use Rattle.render_array.specs.PageText.{BuildsPage, is_page_status}
+use Rattle.site_access.specs.Terms.{term_access}
+use Rattle.site_access.specs.Users.{user_access}
+use Rattle.site_access.specs.Routes.{listing_access}
+use Rattle.render_array.specs.Pieces.{denied_title, not_found_title, not_found_content, login_title}
+use Rattle.content_state.specs.declared.element.Hole.{Hole}
+use Rattle.content_state.specs.declared.element.Hole.TheVariants as hole
+use Rattle.content_state.specs.declared.element.Fragment.TheVariants as fragment
+use Rattle.content_state.specs.declared.element.Mode.TheVariants as mode
+use Rattle.content_state.specs.declared.element.Placing.TheVariants as placing
+use Rattle.content_state.specs.Places.{Filling, at_place, filled_in}
+use Rattle.render_array.specs.Page.{page_top, page_bottom, denied_content, framed, denied, not_found, node_answer, node_found, node_page, term_content, term_answer, term_found, term_page, member_since, user_answer, user_found, user_page, listing_answer, listing_found, listing_page, login_content, login_page, page_at, page}
+use Rattle.render_array.specs.declared.element.Element.TheVariants as element
+use Rattle.render_array.specs.Whole.{shown_below, whole}
+use Rattle.render_array.specs.Shown.{is_page_status, IsPageStatus}
 
 -- whatever is read, what the plan gives has the property
 abbrev Gives : {A : Type 0} → (A → Type 0) → Plan A → Type 0
@@ -65,36 +76,95 @@ not_found_gives : Gives IsStatus not_found
 unfolding not_found
 not_found_gives = framed_gives 404 not_found_title (write not_found_content) refl
 
-answer_gives : (n : ℕ) (node : Node) (access : Access) → Gives IsStatus (node_answer n node access)
-answer_gives n node Allowed = framed_gives 200 node.title (node_full n node) refl
-answer_gives n node (Denied reason) = denied_gives reason
+node_answer_gives : (n : ℕ) (node : Node) (access : Access) → Gives IsStatus (node_answer n node access)
+node_answer_gives n node Allowed = framed_gives 200 node.title (part (hole.Fragment (fragment.Node n mode.Full))) refl
+node_answer_gives n node (Denied reason) = denied_gives reason
 
-found_gives : (n : ℕ) (node : Option Node) → Gives IsStatus (node_found n node)
-found_gives n None = not_found_gives
-found_gives n (Some node) = gives_bind {A = Access} IsStatus (node_access op.View n) (node_answer n node) (answer_gives n node)
+node_found_gives : (n : ℕ) (node : Option Node) → Gives IsStatus (node_found n node)
+node_found_gives n None = not_found_gives
+node_found_gives n (Some node) = gives_bind {A = Access} IsStatus (node_access op.View n) (node_answer n node) (node_answer_gives n node)
 
 node_gives : (n : ℕ) → Gives IsStatus (node_page n)
 unfolding node_page
-node_gives n = gives_bind {A = Option Node} IsStatus (reading (NodeRow n)) (node_found n) (found_gives n)
+node_gives n = gives_bind {A = Option Node} IsStatus (reading (NodeRow n)) (node_found n) (node_found_gives n)
+
+term_answer_gives : (t : ℕ) (term : Term) (access : Access) → Gives IsStatus (term_answer t term access)
+term_answer_gives t term Allowed = framed_gives 200 term.name (term_content t term) refl
+term_answer_gives t term (Denied reason) = denied_gives reason
+
+term_found_gives : (t : ℕ) (term : Option Term) → Gives IsStatus (term_found t term)
+term_found_gives t None = not_found_gives
+term_found_gives t (Some term) = gives_bind {A = Access} IsStatus (term_access t) (term_answer t term) (term_answer_gives t term)
+
+term_gives : (t : ℕ) → Gives IsStatus (term_page t)
+unfolding term_page
+term_gives t = gives_bind {A = Option Term} IsStatus (reading (TermRow t)) (term_found t) (term_found_gives t)
+
+user_answer_gives : (user : User) (access : Access) → Gives IsStatus (user_answer user access)
+user_answer_gives user Allowed = framed_gives 200 user.name (member_since user.created) refl
+user_answer_gives user (Denied reason) = denied_gives reason
+
+user_found_gives : (u : ℕ) (user : Option User) → Gives IsStatus (user_found u user)
+user_found_gives u None = not_found_gives
+user_found_gives u (Some user) = gives_bind {A = Access} IsStatus (user_access u) (user_answer user) (user_answer_gives user)
+
+user_gives : (u : ℕ) → Gives IsStatus (user_page u)
+unfolding user_page
+user_gives u = gives_bind {A = Option User} IsStatus (reading (UserRow u)) (user_found u) (user_found_gives u)
+
+listing_answer_gives : (name : List ℕ) (listing : Listing) (access : Access) → Gives IsStatus (listing_answer name listing access)
+listing_answer_gives name listing Allowed = framed_gives 200 listing.title (part (hole.Fragment (fragment.Listing name placing.OnPage))) refl
+listing_answer_gives name listing (Denied reason) = denied_gives reason
+
+listing_found_gives : (name : List ℕ) (listing : Option Listing) → Gives IsStatus (listing_found name listing)
+listing_found_gives name None = not_found_gives
+listing_found_gives name (Some listing) = gives_bind {A = Access} IsStatus listing_access (listing_answer name listing) (listing_answer_gives name listing)
+
+listing_gives : (name : List ℕ) → Gives IsStatus (listing_page name)
+unfolding listing_page
+listing_gives name = gives_bind {A = Option Listing} IsStatus (reading (ListingRow name)) (listing_found name) (listing_found_gives name)
+
+login_gives : Gives IsStatus login_page
+unfolding login_page
+login_gives = framed_gives 200 login_title login_content refl
 
 at_gives : (r : Route) → Gives IsStatus (page_at r)
 at_gives (route.Node n) = node_gives n
-at_gives (route.Term t) = not_found_gives
-at_gives (route.User u) = not_found_gives
-at_gives (route.Listing l) = not_found_gives
-at_gives route.Login = not_found_gives
+at_gives (route.Term t) = term_gives t
+at_gives (route.User u) = user_gives u
+at_gives (route.Listing name) = listing_gives name
+at_gives route.Login = login_gives
 at_gives route.Nothing = not_found_gives
 
 page_gives : (path : List ℕ) → Gives IsStatus (page path)
 unfolding page
 page_gives path = gives_bind {A = Route} IsStatus (reading (PathRoute path)) page_at at_gives
 
--- a page is there, may not be viewed, or is not found
-pub page_status : (path : List ℕ) (v : Visit) (status : ℕ) (shown : List Piece) (libraries : List Library) (needs : Needs) → Made (page path) v status shown libraries needs → IsTrue (is_page_status status)
-page_status path v status shown libraries needs made = gives_made IsStatus (page path) v status shown libraries needs (page_gives path) made
+gives_at : {A : Type 0} (P : A → Type 0) (o : Option (Plan (Option ℕ))) (h : Hole) (k : Plan A) → Gives P k → Gives P (at_place o h k)
+gives_at P None h k gives = gives
+gives_at P (Some child) h k gives = gives_bind P child (λ _. k) (λ _. gives)
 
--- the same of what was built
-pub built_status : (path : List ℕ) (v : Visit) (b : Built) (status : ℕ) → BuildsPage (page path) v b → b.status ≡ Some status → IsTrue (is_page_status status)
-built_status path v b status made is =
-    let same : made.status ≡ status = ap (λ (o : Option ℕ). unwrap_or o 0) (sym made.status_is ∙ is) in
-    subst IsStatus same (page_status path v made.status (pieces_of b.segments) b.libraries (needs_of b) made.made)
+-- what a plan gives it gives where its places are filled in
+gives_filled : {A : Type 0} (P : A → Type 0) (fill : Filling) (p : Plan A) → Gives P p → Gives P (filled_in fill p)
+gives_filled P fill (Done a) gives = gives
+gives_filled P fill (Write bs k) gives = gives_filled P fill k gives
+gives_filled P fill (Attach l k) gives = gives_filled P fill k gives
+gives_filled P fill (Reading r k) gives = λ x. gives_filled P fill (k x) (gives x)
+gives_filled P fill (Asking c k) gives = λ x. gives_filled P fill (k x) (gives x)
+gives_filled P fill (Clock age k) gives = λ t. gives_filled P fill (k t) (gives t)
+gives_filled P fill (Part h k) gives = gives_at P (fill h) h (filled_in fill k) (gives_filled P fill k gives)
+
+gives_some : (p : Plan ℕ) → Gives IsStatus p → Gives IsPageStatus (p >>= λ s. Done (Some s))
+gives_some (Done a) gives = gives
+gives_some (Write bs k) gives = gives_some k gives
+gives_some (Attach l k) gives = gives_some k gives
+gives_some (Reading r k) gives = λ x. gives_some (k x) (gives x)
+gives_some (Asking c k) gives = λ x. gives_some (k x) (gives x)
+gives_some (Clock age k) gives = λ t. gives_some (k t) (gives t)
+gives_some (Part h k) gives = gives_some k gives
+
+-- a page is there, may not be viewed, or is not found
+pub page_status : (path : List ℕ) (v : Visit) (status : Option ℕ) (shown : List Piece) (libraries : List Library) (needs : Needs) → Made (whole path element.Page) v status shown libraries needs → IsPageStatus status
+page_status path v status shown libraries needs made =
+    gives_made IsPageStatus (whole path element.Page) v status shown libraries needs
+    (gives_filled IsPageStatus (shown_below 5) (page path >>= λ s. Done (Some s)) (gives_some (page path) (page_gives path))) made

@@ -1,48 +1,46 @@
 -- What building an element gives.
-use Rattle.std.specs.Prelude.{ℕ, Option, Some, None, true, ◌≡◌, ◌≤◌, if◌then◌else◌}
-use Rattle.content_rows.specs.declared.row.Node.{Node}
-use Rattle.content_state.specs.Read.{NodeRow}
+use Rattle.std.specs.Prelude.{ℕ, List, Option, Some, None, ◌≡◌, ◌≤◌}
+use Rattle.cacheability.specs.declared.cacheability.Cacheability.{Cacheability}
+use Rattle.content_state.specs.declared.element.Fragment.{Fragment}
+use Rattle.content_state.specs.declared.element.Fragment.TheVariants as fragment
 use Rattle.content_state.specs.Context.{Visit}
-use Rattle.content_state.specs.Plan.{Plan, Done, Needs, Made, reading, ◌>>=◌, ◌>>◌}
-use Rattle.render_array.specs.declared.built.Built.{Built}
-use Rattle.render_array.specs.declared.built.Element.{Element}
-use Rattle.render_array.specs.declared.built.Element.TheVariants as element
-use Rattle.render_array.specs.Board.{pieces_of, NoBlocks}
-use Rattle.render_array.specs.Canvas.{Sheet}
-use Rattle.render_array.specs.Page.{may_view_node, node_full, page}
+use Rattle.content_state.specs.Plan.{Plan, Done, Made, ◌>>=◌, ◌>>◌}
+use Rattle.content_state.specs.Met.{met}
+use Rattle.content_state.specs.Places.{SameMembers, open_places}
+use Rattle.render_canvas.specs.declared.built.Built.{Built}
+use Rattle.render_array.specs.declared.element.Element.{Element}
+use Rattle.render_array.specs.declared.element.Element.TheVariants as element
+use Rattle.render_canvas.specs.Board.{pieces_of}
+use Rattle.render_canvas.specs.Finished.{needs_of}
+use Rattle.render_array.specs.Nodes.{node_shown}
+use Rattle.render_array.specs.Listings.{listing_shown, term_listing_shown}
+use Rattle.render_array.specs.Menus.{menu_shown}
+use Rattle.render_array.specs.Blocks.{block_shown}
+use Rattle.render_array.specs.Page.{page}
 
-abbrev pub full_found : ℕ → Option Node → Plan (Unit {0})
-full_found n None = Done tt
-full_found n (Some node) = do
-  allowed ← may_view_node n
-  if allowed then node_full n node else Done tt
+-- what a fragment shows, its own fragments left open
+abbrev pub fragment_shown : Fragment → Plan (Unit {0})
+fragment_shown (fragment.Block name) = block_shown name
+fragment_shown (fragment.Menu name) = menu_shown name
+fragment_shown (fragment.Listing name where_placed) = listing_shown name where_placed
+fragment_shown (fragment.TermListing t) = term_listing_shown t
+fragment_shown (fragment.Node n mode) = node_shown n mode
 
--- a node inside another element, where it is there and may be viewed
-unfoldable pub node_element : ℕ → Plan (Unit {0})
-node_element n = reading (NodeRow n) >>= full_found n
+-- what an element shows where this path is asked for, its own fragments left open; a page gives its status
+abbrev pub plan_of : List ℕ → Element → Plan (Option ℕ)
+plan_of path element.Page = page path >>= λ status. Done (Some status)
+plan_of path (element.Fragment f) = fragment_shown f >> Done None
 
--- what an element shows; a page gives its status
-abbrev pub plan_of : Element → Plan (Option ℕ)
-plan_of (element.Page path) = page path >>= λ status. Done (Some status)
-plan_of (element.Node n) = node_element n >> Done None
+-- the tags, the contexts and the age that are told are exactly those that the plan meets on the visit
+pub record TellsExactly (p : Plan (Option ℕ)) (v : Visit) (told : Cacheability) : Type 0 where
+  pub tags : SameMembers told.tags (met p v).tags
+  pub contexts : SameMembers told.contexts (met p v).contexts
+  pub age : told.max_age ≡ (met p v).age
 
--- what a built element depends on
-abbrev pub needs_of : Built → Needs
-needs_of built = record { tags = built.cacheability.tags; contexts = built.cacheability.contexts; last = built.last }
-
--- The plan of the element makes what was built, which may be shown at the moment of the visit, and no place is left open
--- but that of the libraries.
+-- The plan of the element makes what was built, which may be shown at the moment of the visit; what it depends on is told
+-- exactly, and its open places are those that the plan leaves open.
 pub record Builds (p : Plan (Option ℕ)) (v : Visit) (built : Built) : Type 0 where
   pub made : Made p v built.status (pieces_of built.segments) built.libraries (needs_of built)
   pub not_over : v.moment ≤ built.last
-  pub no_blocks : NoBlocks (pieces_of built.segments)
-
--- a finished sheet
-pub record Finishes (sheet : Sheet) (status : Option ℕ) (built : Built) : Type 0 where
-  pub whole : sheet.whole ≡ true
-  pub shown : pieces_of built.segments ≡ sheet.shown
-  pub no_blocks : NoBlocks (pieces_of built.segments)
-  pub libraries : built.libraries ≡ sheet.libraries
-  pub needs : needs_of built ≡ sheet.needs
-  pub not_over : sheet.visit.moment ≤ built.last
-  pub status_is : built.status ≡ status
+  pub exact : TellsExactly p v built.cacheability
+  pub places : open_places (pieces_of built.segments) ≡ (met p v).places

@@ -1,9 +1,10 @@
-pub mod Board
-pub mod Built
-pub mod Canvas
-pub mod Decision
-pub mod House
-pub mod Page
 pub mod Pieces
+pub mod Nodes
+pub mod Listings
+pub mod Menus
+pub mod Blocks
+pub mod Page
+pub mod Built
+pub mod Whole
 pub mod Shown
-pub mod PageText
+pub mod House

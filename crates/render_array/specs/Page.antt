@@ -1,70 +1,33 @@
--- What a page shows, element by element, as plans of reads.
+-- What a page shows, as plans of reads.
 -- https://www.drupal.org/docs/drupal-apis/render-api/render-arrays
-use Rattle.std.specs.Prelude.{ℕ, Bool, List, [], length, ◌==◌, Option, Some, None, unwrap_or, option_map, if◌then◌else◌}
-use Rattle.std.specs.List.{find}
-use Rattle.std.specs.Str.{bytes_eq}
+use Rattle.std.specs.Prelude.{ℕ, List, [], length, ◌==◌, Option, Some, None, if◌then◌else◌}
 use Rattle.cacheability.specs.declared.op.Op.TheVariants as op
 use Rattle.access_result.specs.declared.reason.Reason.{Reason}
 use Rattle.access_result.specs.Reason.{reason_text}
 use Rattle.content_rows.specs.declared.row.Site.{Site}
 use Rattle.content_rows.specs.declared.row.Node.{Node}
-use Rattle.content_rows.specs.declared.row.NodeType.{NodeType}
-use Rattle.content_rows.specs.declared.row.FieldRow.{FieldRow}
+use Rattle.content_rows.specs.declared.row.Term.{Term}
+use Rattle.content_rows.specs.declared.row.User.{User}
+use Rattle.content_rows.specs.declared.row.Listing.{Listing}
+use Rattle.content_rows.specs.declared.row.Region.TheVariants as at
 use Rattle.content_state.specs.declared.route.Route.{Route}
 use Rattle.content_state.specs.declared.route.Route.TheVariants as route
 use Rattle.content_state.specs.declared.element.Hole.TheVariants as hole
+use Rattle.content_state.specs.declared.element.Fragment.TheVariants as fragment
+use Rattle.content_state.specs.declared.element.Mode.TheVariants as mode
+use Rattle.content_state.specs.declared.element.Placing.TheVariants as placing
 use Rattle.content_state.specs.declared.element.Library.TheVariants as library
-use Rattle.content_state.specs.Read.{SiteRow, TypeRow, NodeRow, PathRoute}
-use Rattle.content_state.specs.Plan.{Plan, Done, write, escaped, attach, part, reading, each, ◌>>=◌, ◌>>◌}
+use Rattle.content_state.specs.Read.{SiteRow, NodeRow, TermRow, UserRow, ListingRow, PathRoute}
+use Rattle.content_state.specs.Viewer.{access_content}
+use Rattle.content_state.specs.Plan.{Plan, Done, write, escaped, attach, part, reading, ◌>>=◌, ◌>>◌}
 use Rattle.site_access.specs.Access.{Access, Allowed, Denied}
-use Rattle.site_access.specs.Plans.{node_access, field_access}
-use Rattle.render_array.specs.Decision.{is_allowed}
+use Rattle.site_access.specs.Plans.{holds, node_access}
+use Rattle.site_access.specs.Terms.{term_access}
+use Rattle.site_access.specs.Users.{user_access}
+use Rattle.site_access.specs.Routes.{listing_access}
+use Rattle.site_dates.specs.Dates.{date_text_of}
+use Rattle.render_array.specs.Blocks.{region}
 use Rattle.render_array.specs.Pieces as pieces
-
--- the value of a field in a node, empty where it has none
-abbrev pub field_value : Node → List ℕ → List ℕ
-field_value node name = unwrap_or (option_map (λ f. f.value) (find (λ f. bytes_eq f.name name) node.fields)) []
-
--- a field: a label and a value
-unfoldable pub field_shown : List ℕ → List ℕ → Plan (Unit {0})
-field_shown label value = do
-  write pieces.field_start
-  escaped label
-  write pieces.field_between
-  escaped value
-  write pieces.field_end
-
--- whether the viewer may view a node, and a field of a node of that type
-unfoldable pub may_view_node : ℕ → Plan Bool
-may_view_node n = node_access op.View n >>= λ access. Done (is_allowed access)
-
-unfoldable pub may_view_field : ℕ → List ℕ → List ℕ → Plan Bool
-may_view_field n type name = field_access op.View n type name >>= λ access. Done (is_allowed access)
-
--- a field with a value that isn't empty, where it may be viewed
-abbrev pub field_with : ℕ → List ℕ → FieldRow → List ℕ → Plan (Unit {0})
-field_with n type field value = if length value == 0 then Done tt else (do
-  allowed ← may_view_field n type field.name
-  if allowed then field_shown field.label value else Done tt)
-
-unfoldable pub field : ℕ → Node → FieldRow → Plan (Unit {0})
-field n node row = field_with n node.node_type row (field_value node row.name)
-
-abbrev pub fields_of_type : ℕ → Node → Option NodeType → Plan (Unit {0})
-fields_of_type n node None = Done tt
-fields_of_type n node (Some type) = each (field n node) type.fields
-
--- the fields, in the order of the node's type
-unfoldable pub fields : ℕ → Node → Plan (Unit {0})
-fields n node = reading (TypeRow node.node_type) >>= fields_of_type n node
-
--- a node in full
-unfoldable pub node_full : ℕ → Node → Plan (Unit {0})
-node_full n node = do
-  attach library.Node
-  write pieces.article_start
-  fields n node
-  write pieces.article_end
 
 abbrev pub site_name : Option Site → List ℕ
 site_name None = []
@@ -81,6 +44,7 @@ page_top title = do
   write pieces.title_end
   part hole.Meta
   write pieces.header_start
+  region at.Header
   write pieces.header_end
   escaped title
   write pieces.heading_end
@@ -89,7 +53,9 @@ page_top title = do
 unfoldable pub page_bottom : Plan (Unit {0})
 page_bottom = do
   write pieces.main_end
+  region at.Aside
   write pieces.aside_end
+  region at.Footer
   write pieces.page_end
 
 -- a page of a status, with a title and what stands below it
@@ -113,24 +79,87 @@ denied reason = framed 403 pieces.denied_title (denied_content reason)
 unfoldable pub not_found : Plan ℕ
 not_found = framed 404 pieces.not_found_title (write pieces.not_found_content)
 
+-- ---- the page of what a path leads to, where it is there and may be viewed
+
 abbrev pub node_answer : ℕ → Node → Access → Plan ℕ
-node_answer n node Allowed = framed 200 node.title (node_full n node)
+node_answer n node Allowed = framed 200 node.title (part (hole.Fragment (fragment.Node n mode.Full)))
 node_answer n node (Denied reason) = denied reason
 
 abbrev pub node_found : ℕ → Option Node → Plan ℕ
 node_found n None = not_found
 node_found n (Some node) = node_access op.View n >>= node_answer n node
 
--- the page of a node
+-- a node stands on its page in full
 unfoldable pub node_page : ℕ → Plan ℕ
 node_page n = reading (NodeRow n) >>= node_found n
 
+unfoldable pub described : List ℕ → Plan (Unit {0})
+described text = if length text == 0 then Done tt else (do
+  write pieces.paragraph_start
+  escaped text
+  write pieces.paragraph_end)
+
+unfoldable pub term_content : ℕ → Term → Plan (Unit {0})
+term_content t term = do
+  described term.description
+  allowed ← holds access_content
+  if allowed then part (hole.Fragment (fragment.TermListing t)) else Done tt
+
+abbrev pub term_answer : ℕ → Term → Access → Plan ℕ
+term_answer t term Allowed = framed 200 term.name (term_content t term)
+term_answer t term (Denied reason) = denied reason
+
+abbrev pub term_found : ℕ → Option Term → Plan ℕ
+term_found t None = not_found
+term_found t (Some term) = term_access t >>= term_answer t term
+
+-- on a term's page stand what it means, and its nodes for a viewer who may access content
+unfoldable pub term_page : ℕ → Plan ℕ
+term_page t = reading (TermRow t) >>= term_found t
+
+unfoldable pub member_since : ℕ → Plan (Unit {0})
+member_since moment = do
+  write pieces.member_start
+  write (date_text_of moment)
+  write pieces.paragraph_end
+
+abbrev pub user_answer : User → Access → Plan ℕ
+user_answer user Allowed = framed 200 user.name (member_since user.created)
+user_answer user (Denied reason) = denied reason
+
+abbrev pub user_found : ℕ → Option User → Plan ℕ
+user_found u None = not_found
+user_found u (Some user) = user_access u >>= user_answer user
+
+-- on a user's profile stands since when there is such a user
+unfoldable pub user_page : ℕ → Plan ℕ
+user_page u = reading (UserRow u) >>= user_found u
+
+abbrev pub listing_answer : List ℕ → Listing → Access → Plan ℕ
+listing_answer name listing Allowed = framed 200 listing.title (part (hole.Fragment (fragment.Listing name placing.OnPage)))
+listing_answer name listing (Denied reason) = denied reason
+
+abbrev pub listing_found : List ℕ → Option Listing → Plan ℕ
+listing_found name None = not_found
+listing_found name (Some listing) = listing_access >>= listing_answer name listing
+
+unfoldable pub listing_page : List ℕ → Plan ℕ
+listing_page name = reading (ListingRow name) >>= listing_found name
+
+unfoldable pub login_content : Plan (Unit {0})
+login_content = do
+  attach library.Login
+  write pieces.login_form
+
+unfoldable pub login_page : Plan ℕ
+login_page = framed 200 pieces.login_title login_content
+
 abbrev pub page_at : Route → Plan ℕ
 page_at (route.Node n) = node_page n
-page_at (route.Term t) = not_found
-page_at (route.User u) = not_found
-page_at (route.Listing l) = not_found
-page_at route.Login = not_found
+page_at (route.Term t) = term_page t
+page_at (route.User u) = user_page u
+page_at (route.Listing name) = listing_page name
+page_at route.Login = login_page
 page_at route.Nothing = not_found
 
 -- the page of a path, which gives its status

@@ -1,18 +1,23 @@
 //! Building an element.
-ghost use Rattle.std.specs.Prelude.{◌≡◌, IfOk};
-ghost use Rattle.render_array.specs.Canvas.{Renders};
-ghost use Rattle.render_array.specs.Built.{node_element, plan_of, Builds};
+ghost use Rattle.std.specs.Prelude.{IfOk};
+ghost use Rattle.render_canvas.specs.Canvas.{Renders};
+ghost use Rattle.render_array.specs.Built.{fragment_shown, plan_of, Builds};
 
-use crate::built::{Built, Element};
-use crate::canvas::Canvas;
-use crate::pages::{may_view_node, node_full, page};
-use content_state::{Ask, State, Viewer};
+use crate::blocks::block_shown;
+use crate::element::Element;
+use crate::listings::{listing_shown, term_listing_shown};
+use crate::menus::menu_shown;
+use crate::nodes::node_shown;
+use crate::pages::page;
+use content_state::{Ask, Fragment, State, Viewer};
+use render_canvas::{Built, Canvas};
 use site_access::Account;
 use std::alloc::{AllocError, Global};
 
-/// Builds an element for a viewer who asks for something at a moment, in seconds since 1970. What is built shows what the
-/// element's plan shows, attaches its libraries, and depends on the tags and contexts of all that was read, where access
-/// was denied too. `Err` only where memory is wanting.
+/// Builds an element for a viewer who asks for something at a moment, in seconds since 1970, and leaves the places of its
+/// own elements open. What is built shows what the element's plan shows, attaches its libraries, and depends on just the
+/// tags and contexts of all that was read, where access was denied too. `Err` only where memory is wanting.
+/// <https://www.drupal.org/docs/drupal-apis/render-api/cacheability-of-render-arrays>
 pub fn build(
     alloc: Global,
     state: &State,
@@ -21,34 +26,36 @@ pub fn build(
     now: u64,
     element: &Element,
 ) -> Result<Built, AllocError>
-    ensures { IfOk result (λ b. Builds (plan_of element.now) (record { rows = state.now.rows; viewer = viewer.now; ask = ask.now; moment = now }) b) }
+    ensures { IfOk result (λ b. Builds (plan_of ask.now.path element.now) (record { rows = state.now.rows; viewer = viewer.now; ask = ask.now; moment = now }) b) }
 {
     let account = Account::new(alloc, state, viewer)?;
     let mut canvas = Canvas::new(alloc, state, &account, ask, now);
-    let status = write_element(&mut canvas, element);
+    let status = write_element(&mut canvas, ask, element);
     canvas.finish(status)
 }
 
 /// Writes an element, and gives the status of its page where it is one.
-fn write_element(canvas: &mut Canvas, element: &Element) -> Option<u16>
-    ensures { Renders (plan_of element.now) canvas.old result canvas.new }
+fn write_element(canvas: &mut Canvas, ask: &Ask, element: &Element) -> Option<u16>
+    ensures { Renders (plan_of ask.now.path element.now) canvas.old result canvas.new }
 {
     match element {
-        Element::Page(path) => Some(page(canvas, path.as_slice())),
-        Element::Node(n) => {
-            node_element(canvas, *n);
+        Element::Page => Some(page(canvas, ask.path.as_slice())),
+        Element::Fragment(fragment) => {
+            fragment_shown(canvas, *fragment);
             None
         }
     }
 }
 
-/// A node inside another element, where it is there and may be viewed.
-fn node_element(canvas: &mut Canvas, n: u32)
-    ensures { Renders (node_element n) canvas.old tt canvas.new }
+/// A fragment; nothing where what it shows isn't there or may not be viewed.
+fn fragment_shown(canvas: &mut Canvas, fragment: Fragment)
+    ensures { Renders (fragment_shown fragment) canvas.old tt canvas.new }
 {
-    if let Some(node) = canvas.node(n) {
-        if may_view_node(canvas, n) {
-            node_full(canvas, n, node);
-        }
+    match fragment {
+        Fragment::Block(name) => block_shown(canvas, name),
+        Fragment::Menu(name) => menu_shown(canvas, name),
+        Fragment::Listing(name, placing) => listing_shown(canvas, name, placing),
+        Fragment::TermListing(t) => term_listing_shown(canvas, t),
+        Fragment::Node(n, mode) => node_shown(canvas, n, mode),
     }
 }

@@ -2,21 +2,17 @@
 //! which keeps the tags, the contexts and the last moment of all that was read.
 #![tactic(auto)]
 
-mod board;
+mod blocks;
 mod building;
-mod built;
-mod canvas;
-mod filled;
+mod element;
 mod house;
+mod listings;
+mod menus;
+mod nodes;
 mod pages;
-mod whole_page;
+mod submitted;
+mod terms;
 
 pub use building::build;
-pub use built::{Built, Element};
-pub use canvas::Canvas;
-pub use filled::assembled;
-pub use house::House;
-pub use whole_page::{PageText, page_text};
-
-#[cfg(test)]
-mod tests;
+pub use element::Element;
+pub use house::{House, moves_follow_one_another};

@@ -1,19 +1,40 @@
-//! Pages and what stands in them: each builder writes what the plan of its element shows.
-ghost use Rattle.std.specs.Prelude.{◌≡◌, unwrap_or, Some, IsSome};
-ghost use Rattle.std.specs.List.{find};
+//! Pages: each builder writes what the plan of the same name shows.
+ghost use Rattle.std.specs.Prelude.{◌≡◌};
 ghost use Rattle.std.specs.Option.{option_copied};
-ghost use Rattle.std.specs.Str.{bytes_eq};
-ghost use Rattle.content_state.specs.Plan.{each};
-ghost use Rattle.content_state.specs.Rows.{type_of, node_of};
-ghost use Rattle.render_array.specs.Decision.{HasField};
-ghost use Rattle.render_array.specs.Canvas.{Renders};
-ghost use Rattle.render_array.specs.Page.{may_view_node, may_view_field, field_value, field_shown, field, fields, node_full, site_name, page_top, page_bottom, framed, denied_content, denied, not_found, node_page, page};
+ghost use Rattle.content_state.specs.declared.element.Hole.TheVariants as hole;
+ghost use Rattle.content_state.specs.declared.element.Fragment.TheVariants as fragment;
+ghost use Rattle.content_state.specs.declared.element.Mode.TheVariants as mode;
+ghost use Rattle.content_state.specs.declared.element.Placing.TheVariants as placing;
+ghost use Rattle.content_state.specs.Plan.{part};
+ghost use Rattle.site_access.specs.Routes.{listing_access};
+ghost use Rattle.render_canvas.specs.Decision.{decision_of};
+ghost use Rattle.render_canvas.specs.Canvas.{Renders};
+ghost use Rattle.render_array.specs.Page.{
+  site_name,
+  page_top,
+  page_bottom,
+  framed,
+  denied_content,
+  denied,
+  not_found,
+  node_page,
+  described,
+  term_content,
+  term_page,
+  member_since,
+  user_page,
+  listing_page,
+  login_content,
+  login_page,
+  page,
+};
 
-use crate::canvas::Canvas;
-use access_result::Reason;
+use crate::blocks::region;
+use access_result::{PermissionText, Reason};
 use cacheability::{Name, Op};
-use content_rows::{FieldRow, FieldValue, Node, NodeType, Site};
-use content_state::{Library, Route};
+use content_rows::{Listing, Node, Region, Site, Term, User};
+use content_state::{Fragment, Hole, Library, Mode, Placing, Route};
+use render_canvas::Canvas;
 
 /// The name of the site; empty where there are no settings.
 fn name_of(site: Option<&Site>) -> &[u8]
@@ -35,8 +56,9 @@ pub fn page_top(canvas: &mut Canvas, title: &[u8])
     canvas.write(b" | ");
     canvas.escaped(name_of(site));
     canvas.write(b"</title>");
-    canvas.meta();
+    canvas.open(Hole::Meta);
     canvas.write(b"</head><body><header>");
+    region(canvas, Region::Header);
     canvas.write(b"</header><main><h1>");
     canvas.escaped(title);
     canvas.write(b"</h1>");
@@ -47,7 +69,9 @@ pub fn page_bottom(canvas: &mut Canvas)
     ensures { Renders page_bottom canvas.old tt canvas.new }
 {
     canvas.write(b"</main><aside>");
+    region(canvas, Region::Aside);
     canvas.write(b"</aside><footer>");
+    region(canvas, Region::Footer);
     canvas.write(b"</footer></body></html>");
 }
 
@@ -80,110 +104,12 @@ pub fn denied(canvas: &mut Canvas, reason: &Reason) -> u16
     403
 }
 
-/// The first value of that name.
-fn value_named<'a>(values: &'a [FieldValue], name: &Name) -> Option<&'a FieldValue>
-    ensures { option_copied result ≡ find (λ value. bytes_eq value.name name.now) values.now }
-{
-    for value in values {
-        if value.name.as_bytes() == name.as_bytes() {
-            return Some(value);
-        }
-    }
-    None
-}
-
-/// The value of a field in a node; empty where it has none.
-fn value_in<'a>(node: &'a Node, name: &Name) -> &'a [u8]
-    ensures { result.now ≡ field_value node.now name.now }
-{
-    match value_named(node.fields.as_slice(), name) {
-        Some(value) => value.value.as_slice(),
-        None => b"",
-    }
-}
-
-/// A field: a label and a value.
-fn field_shown(canvas: &mut Canvas, label: &[u8], value: &[u8])
-    ensures { Renders (field_shown label.now value.now) canvas.old tt canvas.new }
-{
-    canvas.write(b"<div class=\"field\">");
-    canvas.escaped(label);
-    canvas.write(b": ");
-    canvas.escaped(value);
-    canvas.write(b"</div>");
-}
-
-/// Whether the viewer may view a node.
-pub fn may_view_node(canvas: &mut Canvas, n: u32) -> bool
-    requires { IsSome (node_of canvas.old.visit.rows n) }
-    ensures { Renders (may_view_node n) canvas.old result canvas.new }
-{
-    canvas.node_access(Op::View, n).is_ok()
-}
-
-/// Whether the viewer may view a field of a node.
-fn may_view_field(canvas: &mut Canvas, n: u32, node: &Node, field: &Name) -> bool
-    requires node_is { node_of canvas.old.visit.rows n ≡ Some node.now }
-    requires has_field { HasField (type_of canvas.old.visit.rows node.now.node_type) field.now }
-    ensures { Renders (may_view_field n node.now.node_type field.now) canvas.old result canvas.new }
-{
-    canvas.field_access(Op::View, n, node, field).is_ok()
-}
-
-/// A field with a value that isn't empty, where it may be viewed.
-fn field(canvas: &mut Canvas, n: u32, node: &Node, row: &FieldRow)
-    requires node_is { node_of canvas.old.visit.rows n ≡ Some node.now }
-    requires has_field { HasField (type_of canvas.old.visit.rows node.now.node_type) row.now.name }
-    ensures { Renders (field n node.now row.now) canvas.old tt canvas.new }
-{
-    let value = value_in(node, &row.name);
-    if value.is_empty() {
-        return;
-    }
-    if may_view_field(canvas, n, node, &row.name) {
-        field_shown(canvas, row.label.as_slice(), value);
-    }
-}
-
-/// The fields of a node, in the order of its type.
-fn fields_of_type(canvas: &mut Canvas, n: u32, node: &Node, node_type: &NodeType)
-    requires node_is { node_of canvas.old.visit.rows n ≡ Some node.now }
-    requires type_is { type_of canvas.old.visit.rows node.now.node_type ≡ Some node_type.now }
-    ensures { Renders (each (field n node.now) node_type.now.fields) canvas.old tt canvas.new }
-{
-    for row in node_type.fields.as_slice() {
-        field(canvas, n, node, row);
-    }
-}
-
-/// The fields of a node, in the order of its type, where that is there.
-fn fields(canvas: &mut Canvas, n: u32, node: &Node)
-    requires node_is { node_of canvas.old.visit.rows n ≡ Some node.now }
-    ensures { Renders (fields n node.now) canvas.old tt canvas.new }
-{
-    if let Some(node_type) = canvas.node_type(node.node_type) {
-        fields_of_type(canvas, n, node, node_type);
-    }
-}
-
-/// A node in full.
-pub fn node_full(canvas: &mut Canvas, n: u32, node: &Node)
-    requires node_is { node_of canvas.old.visit.rows n ≡ Some node.now }
-    ensures { Renders (node_full n node.now) canvas.old tt canvas.new }
-{
-    canvas.attach(Library::Node);
-    canvas.write(b"<article>");
-    fields(canvas, n, node);
-    canvas.write(b"</article>");
-}
-
-/// The page of a node that may be viewed, and its status.
-fn node_shown(canvas: &mut Canvas, n: u32, node: &Node) -> u16
-    requires node_is { node_of canvas.old.visit.rows n ≡ Some node.now }
-    ensures { Renders (framed 200 node.now.title (node_full n node.now)) canvas.old result canvas.new }
+/// The page of a node that may be viewed, where it stands in full, and its status.
+fn node_framed(canvas: &mut Canvas, n: u32, node: &Node) -> u16
+    ensures { Renders (framed 200 node.now.title (part (hole.Fragment (fragment.Node n mode.Full)))) canvas.old result canvas.new }
 {
     page_top(canvas, node.title.as_slice());
-    node_full(canvas, n, node);
+    canvas.open(Hole::Fragment(Fragment::Node(n, Mode::Full)));
     page_bottom(canvas);
     200
 }
@@ -196,9 +122,145 @@ fn node_page(canvas: &mut Canvas, n: u32) -> u16
         return not_found(canvas);
     };
     match canvas.node_access(Op::View, n) {
-        Ok(()) => node_shown(canvas, n, node),
+        Ok(()) => node_framed(canvas, n, node),
         Err(reason) => denied(canvas, &reason),
     }
+}
+
+/// What a text says, in a paragraph; nothing where it is empty.
+fn described(canvas: &mut Canvas, text: &[u8])
+    ensures { Renders (described text.now) canvas.old tt canvas.new }
+{
+    if text.is_empty() {
+        return;
+    }
+    canvas.write(b"<p>");
+    canvas.escaped(text);
+    canvas.write(b"</p>");
+}
+
+/// What a term means, and the place of its nodes for a viewer who may access content.
+fn term_content(canvas: &mut Canvas, t: u32, term: &Term)
+    ensures { Renders (term_content t term.now) canvas.old tt canvas.new }
+{
+    described(canvas, term.description.as_slice());
+    if canvas.holds(b"access content") {
+        canvas.open(Hole::Fragment(Fragment::TermListing(t)));
+    }
+}
+
+/// The page of a term that may be viewed, and its status.
+fn term_framed(canvas: &mut Canvas, t: u32, term: &Term) -> u16
+    ensures { Renders (framed 200 term.now.name (term_content t term.now)) canvas.old result canvas.new }
+{
+    page_top(canvas, term.name.as_slice());
+    term_content(canvas, t, term);
+    page_bottom(canvas);
+    200
+}
+
+/// The page of a term, and its status.
+fn term_page(canvas: &mut Canvas, t: u32) -> u16
+    ensures { Renders (term_page t) canvas.old result canvas.new }
+{
+    let Some(term) = canvas.term(t) else {
+        return not_found(canvas);
+    };
+    match canvas.term_access(t) {
+        Ok(()) => term_framed(canvas, t, term),
+        Err(reason) => denied(canvas, &reason),
+    }
+}
+
+/// Since when there is a user: the day of a moment.
+fn member_since(canvas: &mut Canvas, moment: u64)
+    ensures { Renders (member_since moment) canvas.old tt canvas.new }
+{
+    canvas.write(b"<p>Member since ");
+    canvas.date(moment);
+    canvas.write(b"</p>");
+}
+
+/// The page of a user who may be viewed, and its status.
+fn user_framed(canvas: &mut Canvas, user: &User) -> u16
+    ensures { Renders (framed 200 user.now.name (member_since user.now.created)) canvas.old result canvas.new }
+{
+    page_top(canvas, user.name.as_slice());
+    member_since(canvas, user.created);
+    page_bottom(canvas);
+    200
+}
+
+/// The page of a user, and its status.
+fn user_page(canvas: &mut Canvas, u: u32) -> u16
+    ensures { Renders (user_page u) canvas.old result canvas.new }
+{
+    let Some(user) = canvas.user(u) else {
+        return not_found(canvas);
+    };
+    match canvas.user_access(u) {
+        Ok(()) => user_framed(canvas, user),
+        Err(reason) => denied(canvas, &reason),
+    }
+}
+
+/// Whether the viewer may view listings, or else why not. Where memory is wanting it is denied in vain.
+fn listing_access(canvas: &mut Canvas) -> Result<(), Reason>
+    ensures { Renders listing_access canvas.old (decision_of result) canvas.new }
+{
+    if canvas.holds(b"access content") {
+        return Ok(());
+    }
+    match PermissionText::copied(canvas.allocator(), b"access content") {
+        Ok(text) => Err(Reason::Permission(text)),
+        Err(_) => {
+            canvas.fail();
+            Err(Reason::NoSession)
+        }
+    }
+}
+
+/// The page of a listing that may be viewed, and its status.
+fn listing_framed(canvas: &mut Canvas, name: Name, listing: &Listing) -> u16
+    ensures { Renders (framed 200 listing.now.title (part (hole.Fragment (fragment.Listing name placing.OnPage)))) canvas.old result canvas.new }
+{
+    page_top(canvas, listing.title.as_slice());
+    canvas.open(Hole::Fragment(Fragment::Listing(name, Placing::OnPage)));
+    page_bottom(canvas);
+    200
+}
+
+/// The page of a listing, and its status.
+fn listing_page(canvas: &mut Canvas, name: Name) -> u16
+    ensures { Renders (listing_page name) canvas.old result canvas.new }
+{
+    let Some(listing) = canvas.listing(name) else {
+        return not_found(canvas);
+    };
+    match listing_access(canvas) {
+        Ok(()) => listing_framed(canvas, name, listing),
+        Err(reason) => denied(canvas, &reason),
+    }
+}
+
+/// The login form.
+fn login_content(canvas: &mut Canvas)
+    ensures { Renders login_content canvas.old tt canvas.new }
+{
+    canvas.attach(Library::Login);
+    canvas.write(
+        b"<form method=\"post\" action=\"/user/login\"><input name=\"name\"><input name=\"pass\" type=\"password\"><button>Log in</button></form>",
+    );
+}
+
+/// The page of the login form, and its status.
+fn login_page(canvas: &mut Canvas) -> u16
+    ensures { Renders login_page canvas.old result canvas.new }
+{
+    page_top(canvas, b"Log in");
+    login_content(canvas);
+    page_bottom(canvas);
+    200
 }
 
 /// The page of a path, and its status: 200, or 403 where it may not be viewed, or 404 where it leads nowhere.
@@ -207,10 +269,10 @@ pub fn page(canvas: &mut Canvas, path: &[u8]) -> u16
 {
     match canvas.route(path) {
         Route::Node(n) => node_page(canvas, n),
-        Route::Term(_) => not_found(canvas),
-        Route::User(_) => not_found(canvas),
-        Route::Listing(_) => not_found(canvas),
-        Route::Login => not_found(canvas),
+        Route::Term(t) => term_page(canvas, t),
+        Route::User(u) => user_page(canvas, u),
+        Route::Listing(name) => listing_page(canvas, name),
+        Route::Login => login_page(canvas),
         Route::Nothing => not_found(canvas),
     }
 }

@@ -7,6 +7,6 @@ use Rattle.render_array.proofs.building.build.Goals as goal
 pub returns : goal.returns
 returns c =
     IfOk-weaker c.finish.result _ _
-    (λ b done. built_of (plan_of c.args.element.now) _ _ _ _ _ _ b (ap (λ viewer. record { rows = c.args.state.now.rows; viewer = viewer; ask = c.args.ask.now; moment = c.args.now }) c.in_ok-account.ensures.viewer_is)
+    (λ b done. built_of (plan_of c.args.ask.now.path c.args.element.now) _ _ _ _ _ _ b (ap (λ viewer. record { rows = c.args.state.now.rows; viewer = viewer; ask = c.args.ask.now; moment = c.args.now }) c.in_ok-account.ensures.viewer_is)
     c.new-canvas.ensures c.write_element-status.ensures done)
     c.finish.ensures

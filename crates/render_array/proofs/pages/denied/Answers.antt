@@ -1,6 +1,6 @@
 use Rattle.render_array.specs.Page.{denied, framed}
 use Rattle.render_array.specs.Pieces as pieces
-use Rattle.render_array.proofs.Run.{next, done}
+use Rattle.render_canvas.proofs.Run.{next, done}
 use Rattle.render_array.proofs.pages.denied.Goals as goal
 
 pub returns : goal.returns

@@ -1,6 +1,6 @@
 use Rattle.render_array.specs.Page.{denied_content}
 use Rattle.render_array.specs.Pieces as pieces
-use Rattle.render_array.proofs.Run.{next}
+use Rattle.render_canvas.proofs.Run.{next}
 use Rattle.render_array.proofs.pages.denied_content.Goals as goal
 
 pub returns : goal.returns

@@ -1,5 +1,5 @@
 use Rattle.render_array.specs.Page.{node_page}
-use Rattle.render_array.proofs.Run.{next}
+use Rattle.render_canvas.proofs.Run.{next}
 use Rattle.render_array.proofs.pages.node_page.Goals as goal
 
 pub returns-in_default : goal.returns-in_default
@@ -8,7 +8,7 @@ returns-in_default c = next _ c.in_default.ensures.shows c.not_found.ensures
 
 pub returns-in-Ok : goal.returns-in-Ok
 unfolding node_page
-returns-in-Ok c = next _ c.in-Some.ensures.shows (next _ c.in-Ok.ensures c.node_shown.ensures)
+returns-in-Ok c = next _ c.in-Some.ensures.shows (next _ c.in-Ok.ensures c.node_framed.ensures)
 
 pub returns-in-Err : goal.returns-in-Err
 unfolding node_page

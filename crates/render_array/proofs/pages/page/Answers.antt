@@ -1,27 +1,27 @@
 use Rattle.render_array.specs.Page.{page}
-use Rattle.render_array.proofs.Run.{next}
+use Rattle.render_canvas.proofs.Run.{next}
 use Rattle.render_array.proofs.pages.page.Goals as goal
 
 pub returns-in-Node : goal.returns-in-Node
 unfolding page
-returns-in-Node c = next _ c.in-Node.ensures c.node_page.ensures
+returns-in-Node c = next _ c.in-Node.ensures.shows c.node_page.ensures
 
 pub returns-in-Term : goal.returns-in-Term
 unfolding page
-returns-in-Term c = next _ c.in-Term.ensures c.not_found.ensures
+returns-in-Term c = next _ c.in-Term.ensures.shows c.term_page.ensures
 
 pub returns-in-User : goal.returns-in-User
 unfolding page
-returns-in-User c = next _ c.in-User.ensures c.not_found-in-User.ensures
+returns-in-User c = next _ c.in-User.ensures.shows c.user_page.ensures
 
 pub returns-in-Listing : goal.returns-in-Listing
 unfolding page
-returns-in-Listing c = next _ c.in-Listing.ensures c.not_found-in-Listing.ensures
+returns-in-Listing c = next _ c.in-Listing.ensures.shows c.listing_page.ensures
 
 pub returns-in-Login : goal.returns-in-Login
 unfolding page
-returns-in-Login c = next _ c.in-Login.ensures c.not_found-in-Login.ensures
+returns-in-Login c = next _ c.in-Login.ensures.shows c.login_page.ensures
 
 pub returns-in-Nothing : goal.returns-in-Nothing
 unfolding page
-returns-in-Nothing c = next _ c.in-Nothing.ensures c.not_found-in-Nothing.ensures
+returns-in-Nothing c = next _ c.in-Nothing.ensures.shows c.not_found.ensures

@@ -1,0 +1,8 @@
+use Rattle.render_canvas.proofs.Run.{done}
+use Rattle.render_array.proofs.nodes.teaser_fields.Goals as goal
+
+pub returns-in-Some : goal.returns-in-Some
+returns-in-Some c = rw c.in-Some.is c.teaser_fields_of_type.ensures
+
+pub returns-in_default : goal.returns-in_default
+returns-in_default c = rw c.in_default.is done

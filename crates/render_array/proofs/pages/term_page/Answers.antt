@@ -1,0 +1,15 @@
+use Rattle.render_array.specs.Page.{term_page}
+use Rattle.render_canvas.proofs.Run.{next}
+use Rattle.render_array.proofs.pages.term_page.Goals as goal
+
+pub returns-in_default : goal.returns-in_default
+unfolding term_page
+returns-in_default c = next _ c.in_default.ensures.shows c.not_found.ensures
+
+pub returns-in-Ok : goal.returns-in-Ok
+unfolding term_page
+returns-in-Ok c = next _ c.in-Some.ensures.shows (next _ c.in-Ok.ensures c.term_framed.ensures)
+
+pub returns-in-Err : goal.returns-in-Err
+unfolding term_page
+returns-in-Err c = next _ c.in-Some.ensures.shows (next _ c.in-Err.ensures c.denied.ensures)

@@ -1,0 +1,10 @@
+use Rattle.std.proofs.Common.{sym, ◌∙◌}
+use Rattle.render_array.proofs.Lists.{pushed}
+use Rattle.render_canvas.proofs.Run.{failed, given_by}
+use Rattle.render_array.proofs.terms.gather.Goals as goal
+
+pub returns-then-is_err : goal.returns-then-is_err
+returns-then-is_err c = failed _ _ c.fail.ensures
+
+pub returns-else-is_err : goal.returns-else-is_err
+returns-else-is_err c = given_by (pushed c.push.result _ (sym c.is_err.ensures.value ∙ c.if-is_err.false) c.push.ensures.items)

@@ -1,0 +1,9 @@
+use Rattle.render_array.specs.Pieces as pieces
+use Rattle.render_canvas.proofs.Run.{next, next_escaped}
+use Rattle.render_array.proofs.terms.term_named.Goals as goal
+
+pub returns : goal.returns
+unfolding pieces.term_start pieces.link_between pieces.term_end
+returns c =
+    next _ c.write.ensures (next _ c.number.ensures (next _ c.write-2.ensures
+    (next_escaped _ _ _ c.escaped.ensures c.as_slice.ensures c.write-3.ensures)))
