@@ -1,0 +1,4 @@
+pub mod Joining
+pub mod Standing
+pub mod Texts
+pub mod OfPage

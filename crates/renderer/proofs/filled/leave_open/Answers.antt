@@ -1,0 +1,13 @@
+use Rattle.std.proofs.Common.{refl}
+use Rattle.renderer.proofs.Joining.{more_place}
+use Rattle.renderer.proofs.filled.leave_open.Goals as goal
+
+pub returns : goal.returns
+returns c = record {
+  appended = more_place _ _ _ c.in_ok-push_hole.ensures;
+  libraries = refl;
+  cacheability = refl;
+  last = refl;
+  status = refl;
+  built = refl;
+}

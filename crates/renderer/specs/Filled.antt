@@ -1,0 +1,75 @@
+-- Elements whose places are filled in, under way and done.
+use Rattle.std.specs.Prelude.{ℕ, suc, List, [], ◌++◌, ◌≡◌, ◌≤◌, ◌+◌, Option, Some, None, min, nat_le, sum_by, if◌then◌else◌}
+use Rattle.cacheability.specs.InOrder.{HasBoth}
+use Rattle.html_out.specs.Part.{Part, Text, Hole as Open}
+use Rattle.content_state.specs.declared.element.Hole.{Hole}
+use Rattle.content_state.specs.declared.element.Hole.TheVariants as hole
+use Rattle.content_state.specs.declared.element.Library.{Library}
+use Rattle.content_state.specs.Context.{Visit}
+use Rattle.content_state.specs.Plan.{Piece, Plan, Needs}
+use Rattle.content_state.specs.Places.{open_places, Fills, SameMembers, MakesWhole}
+use Rattle.render_array.specs.declared.element.Element.{Element}
+use Rattle.render_array.specs.declared.element.Element.TheVariants as element
+use Rattle.render_canvas.specs.Board.{pieces_of}
+use Rattle.render_canvas.specs.Canvas.{Keeps}
+use Rattle.render_array.specs.Whole.{level, shown_below, count_below}
+use Rattle.renderer.specs.declared.filled.Filled.{Filled}
+
+-- the element that stands in a place; the libraries are none
+abbrev pub element_at : Hole → Option Element
+element_at hole.Meta = None
+element_at (hole.Fragment f) = Some (element.Fragment f)
+
+-- the element that stands in a place of an element of a level, where that of the place is lower
+abbrev pub child_below : ℕ → Hole → Option Element
+child_below below h = if nat_le (suc (level h)) below then element_at h else None
+
+-- what it depends on
+abbrev pub needs_of : Filled → Needs
+needs_of f = record { tags = f.cacheability.tags; contexts = f.cacheability.contexts; last = f.last }
+
+-- The plan makes what is shown and attached, libraries by membership; it may be shown at the visit's moment, and so many
+-- elements were built.
+pub record IsWhole (p : Plan (Option ℕ)) (v : Visit) (count : ℕ) (f : Filled) : Type 0 where
+  pub makes : MakesWhole p v f.status (pieces_of f.segments) f.libraries.items (needs_of f)
+  pub not_over : v.moment ≤ f.last
+  pub counted : f.built ≡ min count 18446744073709551615
+
+-- the pieces are appended, and all else is as it was
+pub record Appends (pieces : List Piece) (old new : Filled) : Type 0 where
+  pub appended : pieces_of new.segments ≡ pieces_of old.segments ++ pieces
+  pub libraries : new.libraries ≡ old.libraries
+  pub cacheability : new.cacheability ≡ old.cacheability
+  pub last : new.last ≡ old.last
+  pub status : new.status ≡ old.status
+  pub built : new.built ≡ old.built
+
+-- a child is appended, and all that it depends on and was built for it is taken in
+pub record Takes (child old new : Filled) : Type 0 where
+  pub appended : new.segments ≡ old.segments ++ child.segments
+  pub libraries : new.libraries.items ≡ old.libraries.items ++ child.libraries.items
+  pub tags : HasBoth old.cacheability.tags child.cacheability.tags new.cacheability.tags
+  pub contexts : HasBoth old.cacheability.contexts child.cacheability.contexts new.cacheability.contexts
+  pub last : new.last ≡ min old.last child.last
+  pub status : new.status ≡ old.status
+  pub built : new.built ≡ min (old.built + child.built) 18446744073709551615
+
+-- The outer pieces of an element of a level are appended, their places filled in: what was needed stays needed, and the
+-- elements that were built for the places are counted.
+pub record Joins (below : ℕ) (v : Visit) (outer : List Piece) (old new : Filled) : Type 0 where
+  pub shown : List Piece
+  pub attached : List Library
+  pub appended : pieces_of new.segments ≡ pieces_of old.segments ++ shown
+  pub libraries : SameMembers new.libraries.items (old.libraries.items ++ attached)
+  pub kept : Keeps (needs_of old) (needs_of new)
+  pub not_over : v.moment ≤ old.last → v.moment ≤ new.last
+  pub status : new.status ≡ old.status
+  pub fills : Fills (shown_below below) v (needs_of new) outer shown attached
+  pub counted : (count : ℕ) → old.built ≡ min count 18446744073709551615 → new.built ≡ min (count + sum_by (count_below below v) (open_places outer)) 18446744073709551615
+
+-- what stands in the place of a part of a page: its bytes, or the lines of the libraries; a place in which nothing
+-- stands shows nothing
+abbrev pub text_in : List ℕ → Part Hole → List ℕ
+text_in meta (Text bytes) = bytes
+text_in meta (Open hole.Meta) = meta
+text_in meta (Open (hole.Fragment f)) = []

@@ -1,0 +1,10 @@
+//! Pages put together: an element is built, each of its places is filled in with the element that stands there, and the
+//! lines of the libraries are written last.
+#![tactic(auto)]
+
+mod assembled;
+mod filled;
+mod levels;
+mod page;
+
+pub use page::{Page, page_on, render_page};
