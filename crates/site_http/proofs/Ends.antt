@@ -1,13 +1,12 @@
-use Rattle.std.proofs.Common.{◌≡◌, ◌++◌, ◌<◌, List, [], ◌∷◌, ℕ, Option, Some, length, ap, sym, refl, subst, arith, inl, inr}
-use Rattle.content_state.specs.declared.state.State.{State}
-use Rattle.content_state.specs.declared.commit.Commit.{Commit}
-use Rattle.content_state.specs.Replay.{Begins}
+use Rattle.std.proofs.Common.{◌≡◌, ◌++◌, ◌<◌, ◌+◌, List, [], ◌∷◌, ℕ, Some, None, length, ap, sym, refl, subst, arith, inl, inr}
 use Rattle.site_io.specs.declared.ended.Ended.{Ended}
 use Rattle.site_io.specs.declared.ended.Ended.TheVariants as ended
 use Rattle.http_heads.specs.Requests.{End, Empty, Cut, ending}
-use Rattle.site_http.specs.Connection.{Answered, Connection}
+use Rattle.render_array.specs.House.{HouseView, Moves}
+use Rattle.site_http.specs.History.{History, history_of, newest}
+use Rattle.site_http.specs.Connection.{Around, Answered, Connection}
 use Rattle.site_http.specs.Turn.{Turned}
-use Rattle.site_http.proofs.Progress.{Progress, ends_at, interrupted_at, refused_at, asked_at, starved_at, half_answered_at, half_refused_at}
+use Rattle.site_http.proofs.Progress.{Progress, carried, goes_on, ends_at, interrupted_at, refused_at, asked_at, starved_at, half_answered_at, half_refused_at}
 
 ending_empty : (xs : List ℕ) → 0 ≡ length xs → ending xs ≡ Empty
 ending_empty [] h = refl
@@ -18,14 +17,21 @@ ending_cut [] n h some = absurd (some h)
 ending_cut (x ∷ xs) n h some = ap Cut (sym h)
 
 -- a turn that ends the connection
-pub ended_at : (left'' given'' written'' : Option (List ℕ)) (buffer' : List ℕ) {left left' given given' written written' : Option (List ℕ)} {base : State} (log' : List Commit) {log : List Commit} {limit low count : ℕ} {buffer : List ℕ} (e : Ended) → count < limit → Begins log log' → Progress left left' given given' written written' base log limit low count buffer → Turned (Some e) left' left'' given' given'' written' written'' base log' limit count buffer buffer' → Connection e left left'' given given'' written written'' base log' limit low
-ended_at left'' given'' written'' buffer' {left} {left'} {given} {given'} {written} {written'} {base} log' {log} {limit} {low} {count} {buffer} ended.Closed few grown p t =
-    (subst (λ (d : End). Answered left left'' given given'' written written'' base log' limit low d []) (ending_empty (buffer ++ t.more) t.size_is) (ends_at few grown p t), t.nothing)
-ended_at left'' given'' written'' buffer' {left} {left'} {given} {given'} {written} {written'} {base} log' {log} {limit} {low} {count} {buffer} (ended.Truncated n) few grown p t =
-    (subst (λ (d : End). Answered left left'' given given'' written written'' base log' limit low d []) (ending_cut (buffer ++ t.0.more) n t.0.size_is t.1) (ends_at few grown p t.0), t.0.nothing)
-ended_at left'' given'' written'' buffer' log' ended.Asked few grown p t = asked_at few grown p t
-ended_at left'' given'' written'' buffer' log' ended.Spent few grown p t = absurd t
-ended_at left'' given'' written'' buffer' log' (ended.Refused code) few grown p t = refused_at code few grown p t.0 t.1
-ended_at left'' given'' written'' buffer' log' ended.ReadFault few grown p t = interrupted_at few grown p t
-ended_at left'' given'' written'' buffer' log' ended.OutOfMemory few grown p t = starved_at grown p t
-ended_at left'' given'' written'' buffer' log' ended.WriteFault few grown p t = elim t [ inl a ↦ half_answered_at grown p a | inr r ↦ half_refused_at grown p r ]
+ended_at : (new : Around) (buffer' : List ℕ) {old now : Around} {history : History} {limit low count seen : ℕ} {buffer : List ℕ} (e : Ended) → count < limit → Progress old now history limit low count seen buffer → Turned (Some e) now new history limit count seen buffer buffer' → Connection e old new history limit low
+ended_at new buffer' {old} {now} {history} {limit} {low} {count} {seen} {buffer} ended.Closed few p t =
+    (subst (λ (d : End). Answered old new history limit low d []) (ending_empty (buffer ++ t.more) t.size_is) (ends_at few p t), t.nothing)
+ended_at new buffer' {old} {now} {history} {limit} {low} {count} {seen} {buffer} (ended.Truncated n) few p t =
+    (subst (λ (d : End). Answered old new history limit low d []) (ending_cut (buffer ++ t.0.more) n t.0.size_is t.1) (ends_at few p t.0), t.0.nothing)
+ended_at new buffer' ended.Asked few p t = asked_at few p t
+ended_at new buffer' ended.Spent few p t = absurd t
+ended_at new buffer' (ended.Refused code) few p t = refused_at code few p t
+ended_at new buffer' ended.ReadFault few p t = interrupted_at few p t
+ended_at new buffer' ended.OutOfMemory few p t = starved_at p t
+ended_at new buffer' ended.WriteFault few p t = elim t [ inl a ↦ half_answered_at p a | inr r ↦ half_refused_at p r ]
+
+-- the same over a house that moved meanwhile
+pub ended_in : {old now : Around} (new : Around) {house house' : HouseView} {limit low count : ℕ} {buffer : List ℕ} (buffer' : List ℕ) (e : Ended) → count < limit → Moves house house' → Progress old now (history_of house) limit low count (newest (history_of house)) buffer → Turned (Some e) now new (history_of house') limit count (newest (history_of house)) buffer buffer' → Connection e old new (history_of house') limit low
+ended_in new buffer' e few m p t = ended_at new buffer' e few (carried m p) t
+
+pub goes_in : {old now new : Around} {house house' : HouseView} {limit low count : ℕ} {buffer : List ℕ} (buffer' : List ℕ) → count < limit → Moves house house' → Progress old now (history_of house) limit low count (newest (history_of house)) buffer → Turned None now new (history_of house') limit count (newest (history_of house)) buffer buffer' → Progress old new (history_of house') limit low (count + 1) (newest (history_of house')) buffer'
+goes_in buffer' few m p t = goes_on few (carried m p) t

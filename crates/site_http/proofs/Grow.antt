@@ -1,76 +1,99 @@
-use Rattle.std.proofs.Common.{◌≡◌, ◌∙◌, ◌++◌, ◌+◌, ◌-◌, ◌≤◌, List, [], ◌∷◌, ℕ, Bool, length, ap, sym, refl, subst, arith, length-append, append_assoc, inl, inr}
-use Rattle.std.proofs.lemmas.List.{take-append-le, append-nil}
-use Rattle.content_state.specs.declared.state.State.{State}
+-- Replies stay replies over a longer history, and where less was seen before; and one more comes at the end.
+use Rattle.std.proofs.Common.{◌≡◌, ◌∙◌, ◌++◌, ◌+◌, ◌≤◌, List, [], ◌∷◌, ℕ, Bool, length, ap, sym, refl, subst, arith, inl, inr}
+use Rattle.content_state.specs.declared.ask.Ask.{Ask}
+use Rattle.content_state.specs.State.{State}
 use Rattle.content_state.specs.declared.commit.Commit.{Commit}
-use Rattle.content_state.specs.Replay.{replay, state_at}
-use Rattle.content_state.specs.SiteRules.{IsValidState}
 use Rattle.http_heads.specs.declared.request.Request.{Request}
-use Rattle.site_http.specs.Reply.{Answers, IsReply, ask_of, is_get}
-use Rattle.site_http.specs.Connection.{IsText, Texts, closes_after}
+use Rattle.site_http.specs.declared.call.Call.{Call}
+use Rattle.site_http.specs.declared.call.Call.TheVariants as call
+use Rattle.site_http.specs.History.{History, OnLog, longer}
+use Rattle.site_http.specs.Reply.{Story, Says, IsWanting, IsAnswer, IsText, asked}
+use Rattle.site_http.specs.Connection.{Texts, closes_after, joined, nothing}
+use Rattle.site_http.proofs.Histories.{on_grows, on_lower, state_grows}
+use Rattle.site_http.proofs.Stories.{joined_assoc, joined_nothing, nothing_joined}
 
--- a reply stays one when the log grows
-pub reply_grows : (base : State) (log more : List Commit) (number : ℕ) (request : Request) (moment : ℕ) (closing : Bool) (text : List ℕ) → IsReply base log number request moment closing text → IsReply base (log ++ more) number request moment closing text
-unfolding state_at
-reply_grows base log more number request moment closing text r =
-    let from = r.from in
-    let to = r.to in
-    let within : number - base.number ≤ length log = omega arith in
-    let same : state_at base (log ++ more) number ≡ state_at base log number = ap (replay base) (take-append-le (number - base.number) log more within) in
-    record {
-      from = from;
-      to = omega (arith, length-append log more);
-      number_is = ap (λ (t : State). t.number) same ∙ r.number_is;
-      valid = subst IsValidState (sym same) r.valid;
-      answers = subst (λ (t : State). Answers (is_get request) t (ask_of request) moment closing text) (sym same) r.answers;
-    }
+wanting_on : {history history' : History} {low low' : ℕ} {closing : Bool} {story : Story} → ((number : ℕ) → OnLog history low number → OnLog history' low' number) → IsWanting history low closing story → IsWanting history' low' closing story
+wanting_on on w = record {
+  moment = w.moment;
+  number = w.number;
+  points = w.points;
+  within = w.within;
+  on = on w.number w.on;
+  before_or_after = w.before_or_after;
+  story_is = w.story_is;
+}
 
-text_grows : (base : State) (log more : List Commit) (low high : ℕ) (request : Request) (moment : ℕ) (closing : Bool) (text : List ℕ) → IsText base log low high request moment closing text → IsText base (log ++ more) low high request moment closing text
-text_grows base log more low high request moment closing text t = elim t [
-  | inl numbered ↦ inl (numbered.0, reply_grows base log more high request moment closing text numbered.1)
-  | inr wanting ↦ inr wanting
+-- a reply stays one when the history grows
+pub answer_grows : (history : History) (more : List Commit) (low : ℕ) (c : Call) (ask : Ask) (closing : Bool) (story : Story) → IsAnswer history low c ask closing story → IsAnswer (longer history more) low c ask closing story
+answer_grows history more low (call.Reading reading) ask closing story a = elim a [
+  | inl r ↦ inl (record {
+    moment = r.moment;
+    number = r.number;
+    text = r.text;
+    built = r.built;
+    within = r.within;
+    on = on_grows history more low r.number r.on;
+    holds = subst (λ (s : State). Says reading s ask r.moment closing r.text r.built) (sym (state_grows history more r.number r.on.to)) r.holds;
+    story_is = r.story_is;
+  })
+  | inr w ↦ inr (wanting_on (on_grows history more low) w)
 ]
 
-pub texts_grow : (base : State) (log more : List Commit) (limit index low : ℕ) (requests : List Request) (moments text : List ℕ) (high : ℕ) → Texts base log limit index low requests moments text high → Texts base (log ++ more) limit index low requests moments text high
-texts_grow base log more limit index low [] moments text high h = h
-texts_grow base log more limit index low (r ∷ rs) moments text high h = record {
-  high = h.high;
-  moment = h.moment;
-  later = h.later;
+-- and where less was seen before
+pub answer_lower : (history : History) (low lower : ℕ) (c : Call) (ask : Ask) (closing : Bool) (story : Story) → lower ≤ low → IsAnswer history low c ask closing story → IsAnswer history lower c ask closing story
+answer_lower history low lower (call.Reading reading) ask closing story less a = elim a [
+  | inl r ↦ inl (record {
+    moment = r.moment;
+    number = r.number;
+    text = r.text;
+    built = r.built;
+    within = r.within;
+    on = on_lower history low lower r.number less r.on;
+    holds = r.holds;
+    story_is = r.story_is;
+  })
+  | inr w ↦ inr (wanting_on (λ number. on_lower history low lower number less) w)
+]
+
+pub text_grows : (history : History) (more : List Commit) (low : ℕ) (request : Request) (closing : Bool) (story : Story) → IsText history low request closing story → IsText (longer history more) low request closing story
+text_grows history more low request closing story =
+    answer_grows history more low (asked request).call (asked request).ask closing story
+
+pub text_lower : (history : History) (low lower : ℕ) (request : Request) (closing : Bool) (story : Story) → lower ≤ low → IsText history low request closing story → IsText history lower request closing story
+text_lower history low lower request closing story =
+    answer_lower history low lower (asked request).call (asked request).ask closing story
+
+pub texts_grow : (history : History) (more : List Commit) (limit index low : ℕ) (requests : List Request) (story : Story) → Texts history limit index low requests story → Texts (longer history more) limit index low requests story
+texts_grow history more limit index low [] story h = h
+texts_grow history more limit index low (r ∷ rs) story h = record {
   mine = h.mine;
   rest = h.rest;
-  moments_are = h.moments_are;
-  text_is = h.text_is;
-  reply = text_grows base log more low h.high r h.moment (closes_after limit index r) h.mine h.reply;
-  others = texts_grow base log more limit (index + 1) h.high rs h.later h.rest high h.others;
+  story_is = h.story_is;
+  reply = text_grows history more low r (closes_after limit index r) h.mine h.reply;
+  others = texts_grow history more limit (index + 1) h.mine.high rs h.rest h.others;
 }
 
 -- one text more, at the end
-pub texts_more : (base : State) (log : List Commit) (limit index low : ℕ) (requests : List Request) (moments text : List ℕ) (high : ℕ) (r : Request) (n moment : ℕ) (mine : List ℕ) → Texts base log limit index low requests moments text high → IsText base log high n r moment (closes_after limit (index + length requests) r) mine → Texts base log limit index low (requests ++ r ∷ []) (moments ++ moment ∷ []) (text ++ mine) n
-texts_more base log limit index low [] moments text high r n moment mine h one =
+pub texts_more : (history : History) (limit index low : ℕ) (requests : List Request) (story : Story) (r : Request) (mine : Story) → Texts history limit index low requests story → IsText history story.high r (closes_after limit (index + length requests) r) mine → Texts history limit index low (requests ++ r ∷ []) (joined story mine)
+texts_more history limit index low [] story r mine h one =
     let here : index + 0 ≡ index = omega arith in
-    let there = subst (λ (i : ℕ). IsText base log high n r moment (closes_after limit i r) mine) here one in
+    let there = subst (λ (i : ℕ). IsText history story.high r (closes_after limit i r) mine) here one in
     record {
-      high = n;
-      moment = moment;
-      later = [];
       mine = mine;
-      rest = [];
-      moments_are = ap (λ (xs : List ℕ). xs ++ moment ∷ []) h.0;
-      text_is = ap (λ (xs : List ℕ). xs ++ mine) h.1 ∙ sym (append-nil mine);
-      reply = subst (λ (l : ℕ). IsText base log l n r moment (closes_after limit index r) mine) h.2 there;
-      others = (refl, refl, refl);
+      rest = nothing mine.high;
+      story_is = ap (λ (s : Story). joined s mine) h ∙ nothing_joined low mine ∙ sym (joined_nothing mine);
+      reply = subst (λ (s : Story). IsText history s.high r (closes_after limit index r) mine) h there;
+      others = refl;
     }
-texts_more base log limit index low (s ∷ ss) moments text high r n moment mine h one =
+texts_more history limit index low (s ∷ ss) story r mine h one =
     let here : index + length (s ∷ ss) ≡ index + 1 + length ss = omega arith in
+    let high : story.high ≡ h.rest.high = ap (λ (t : Story). t.high) h.story_is in
     record {
-      high = h.high;
-      moment = h.moment;
-      later = h.later ++ moment ∷ [];
       mine = h.mine;
-      rest = h.rest ++ mine;
-      moments_are = ap (λ (xs : List ℕ). xs ++ moment ∷ []) h.moments_are;
-      text_is = ap (λ (xs : List ℕ). xs ++ mine) h.text_is ∙ append_assoc h.mine h.rest mine;
+      rest = joined h.rest mine;
+      story_is = ap (λ (t : Story). joined t mine) h.story_is ∙ joined_assoc h.mine h.rest mine;
       reply = h.reply;
-      others = texts_more base log limit (index + 1) h.high ss h.later h.rest high r n moment mine h.others
-          (subst (λ (i : ℕ). IsText base log high n r moment (closes_after limit i r) mine) here one);
+      others = texts_more history limit (index + 1) h.mine.high ss h.rest r mine h.others
+          (subst (λ (n : ℕ). IsText history n r (closes_after limit (index + 1 + length ss) r) mine) high
+          (subst (λ (i : ℕ). IsText history story.high r (closes_after limit i r) mine) here one));
     }

@@ -1,7 +1,11 @@
+pub mod Asks
 pub mod Fixed
 mod Told
-mod Newest
+mod Histories
+mod Stories
+mod Made
 mod Grow
 mod Progress
 mod Ends
+mod Longer
 mod Failing

@@ -1,40 +1,33 @@
-use Rattle.std.proofs.Common.{◌≡◌, ◌∙◌, ◌++◌, ◌+◌, ◌-◌, ◌<◌, ◌≤◌, ◌⊎◌, List, [], ◌∷◌, ℕ, suc, true, false, Option, take, length, ap, sym, refl, subst, arith, length-append, append_assoc, inl, inr}
+use Rattle.std.proofs.Common.{◌≡◌, ◌∙◌, ◌++◌, ◌+◌, ◌-◌, ◌<◌, ◌≤◌, ◌⊎◌, List, [], ◌∷◌, ℕ, suc, true, false, take, length, ap, sym, refl, subst, arith, length-append, append_assoc, inl, inr}
 use Rattle.std.proofs.lemmas.List.{append-nil}
-use Rattle.content_state.specs.declared.state.State.{State}
-use Rattle.content_state.specs.declared.commit.Commit.{Commit}
-use Rattle.content_state.specs.Replay.{Begins}
-use Rattle.site_io.specs.Told.{before, after}
+use Rattle.site_io.specs.Told.{before}
 use Rattle.http_heads.specs.declared.request.Request.{Request}
-use Rattle.http_heads.specs.declared.parsed.Parsed.TheVariants.{Whole, Refused}
+use Rattle.http_heads.specs.declared.parsed.Parsed.TheVariants.{Refused}
 use Rattle.http_heads.specs.Parses.{Parses}
 use Rattle.http_heads.specs.Requests.{End, Empty, Asks, Limit, Code, Cut, ending, Reads}
 use Rattle.http_heads.proofs.Laws.{reads_next, reads_closing, reads_refused, reads_part}
-use Rattle.site_http.specs.Reply.{refusal_text}
-use Rattle.site_http.specs.Connection.{newest, closes_after, IsText, Texts, Went, Answered, Interrupted, Starved, NextReply, Broken}
-use Rattle.site_http.specs.Turn.{IsMade, TookOne, Ends, Refuses, FailsToRead, Starves, HalfAnswered, HalfRefused}
-use Rattle.site_http.proofs.Told.{before_before, after_after, before_nothing, after_nothing}
-use Rattle.site_http.proofs.Grow.{texts_grow, texts_more}
+use Rattle.render_array.specs.House.{HouseView, Moves}
+use Rattle.site_http.specs.History.{History, history_of, newest}
+use Rattle.site_http.specs.Reply.{Story, IsText, refusal_text}
+use Rattle.site_http.specs.Connection.{Out, Around, Gave, Went, Texts, Answered, Interrupted, Starved, Broken, closes_after, joined, nothing, saying, cut_at}
+use Rattle.site_http.specs.Turn.{TookOne, Ends, RefusesWith, FailsToRead, Starves, HalfAnswered, HalfRefused}
+use Rattle.site_http.proofs.Told.{before_nothing}
+use Rattle.site_http.proofs.Histories.{history_moves, newest_grows}
+use Rattle.site_http.proofs.Stories.{gave_nothing, went_on, joined_nothing}
+use Rattle.site_http.proofs.Grow.{text_lower, texts_grow, texts_more}
 
--- so many requests are answered, and these bytes stand in the buffer
-pub record Progress (left left' given given' written written' : Option (List ℕ)) (base : State) (log : List Commit) (limit low count : ℕ) (buffer : List ℕ) : Type 0 where
+-- so many requests are answered, on states whose numbers aren't above what was seen, and these bytes stand in the buffer
+pub record Progress (old now : Around) (history : History) (limit low count seen : ℕ) (buffer : List ℕ) : Type 0 where
   pub taken : List ℕ
-  pub moments : List ℕ
-  pub text : List ℕ
   pub done : List Request
-  pub high : ℕ
-  pub went : Went left left' given given' written written' taken moments text
+  pub story : Story
+  pub went : Went old now taken story
   pub count_is : length done ≡ count
   -- whatever comes, the requests are those that were answered and those of the rest
   pub reads : (more : List ℕ) (others : List Request) (end : End) → Reads (limit - count) (buffer ++ more) others end → Reads limit (taken ++ more) (done ++ others) end
-  pub texts : Texts base log limit 0 low done moments text high
-  pub not_above : high ≤ newest base log
-
-went_on : {left left' left'' given given' given'' written written' written'' : Option (List ℕ)} {taken moments text : List ℕ} (more later bytes : List ℕ) → Went left left' given given' written written' taken moments text → left' ≡ before more left'' → given'' ≡ after given' later → written'' ≡ after written' bytes → Went left left'' given given'' written written'' (taken ++ more) (moments ++ later) (text ++ bytes)
-went_on {left} {left'} {left''} {given} {given'} {given''} {written} {written'} {written''} {taken} {moments} {text} more later bytes w a b c = record {
-  source = w.source ∙ ap (before taken) a ∙ before_before left'' taken more;
-  clock = b ∙ ap (λ (o : Option (List ℕ)). after o later) w.clock ∙ after_after given moments later;
-  sink = c ∙ ap (λ (o : Option (List ℕ)). after o bytes) w.sink ∙ after_after written text bytes;
-}
+  pub texts : Texts history limit 0 low done story
+  pub not_above : story.high ≤ seen
+  pub within : seen ≤ newest history
 
 -- the requests of what was taken and of one piece more
 reads_on : (limit count : ℕ) (taken buffer more : List ℕ) (done : List Request) → count < limit → ((m : List ℕ) (others : List Request) (end : End) → Reads (limit - count) (buffer ++ m) others end → Reads limit (taken ++ m) (done ++ others) end) → (m : List ℕ) (others : List Request) (end : End) → Reads (suc (limit - (count + 1))) ((buffer ++ more) ++ m) others end → Reads limit ((taken ++ more) ++ m) (done ++ others) end
@@ -51,154 +44,145 @@ reads_end limit count taken buffer more done few reads others end r =
     let left : suc (limit - (count + 1)) ≡ limit - count = omega arith in
     reads more others end (subst (λ (k : ℕ). Reads k (buffer ++ more) others end) left r)
 
-pub begun : (left given written : Option (List ℕ)) (base : State) (log : List Commit) (limit : ℕ) → Progress left left given given written written base log limit (newest base log) 0 []
-begun left given written base log limit = record {
+pub begun : (old : Around) (history : History) (limit : ℕ) → Progress old old history limit (newest history) 0 (newest history) []
+begun old history limit = record {
   taken = [];
-  moments = [];
-  text = [];
   done = [];
-  high = newest base log;
-  went = record { source = before_nothing left; clock = after_nothing given; sink = after_nothing written };
+  story = nothing (newest history);
+  went = record { source = before_nothing old.left; gave = gave_nothing old.out (newest history) };
   count_is = refl;
   reads = λ more others end r. let whole : limit - 0 ≡ limit = omega arith in subst (λ (k : ℕ). Reads k more others end) whole r;
-  texts = (refl, refl, refl);
+  texts = refl;
   not_above = omega arith;
+  within = omega arith;
 }
 
--- the texts so far, over what the log has gained
-same_texts : {left left' given given' written written' : Option (List ℕ)} {base : State} {log log' : List Commit} {limit low count : ℕ} {buffer : List ℕ} → Begins log log' → (p : Progress left left' given given' written written' base log limit low count buffer) → Texts base log' limit 0 low p.done p.moments p.text p.high
-same_texts {left} {left'} {given} {given'} {written} {written'} {base} {log} {log'} {limit} {low} {count} {buffer} grown p =
-    subst (λ (l : List Commit). Texts base l limit 0 low p.done p.moments p.text p.high) (sym grown.1)
-    (texts_grow base log grown.0 limit 0 low p.done p.moments p.text p.high p.texts)
+-- the same in what a house that moved has seen
+pub carried : {old now : Around} {house house' : HouseView} {limit low count seen : ℕ} {buffer : List ℕ} → Moves house house' → Progress old now (history_of house) limit low count seen buffer → Progress old now (history_of house') limit low count seen buffer
+carried {old} {now} {house} {house'} {limit} {low} {count} {seen} {buffer} m p =
+    subst (λ (h : History). Progress old now h limit low count seen buffer) (sym (history_moves m))
+    (record {
+      taken = p.taken;
+      done = p.done;
+      story = p.story;
+      went = p.went;
+      count_is = p.count_is;
+      reads = p.reads;
+      texts = texts_grow (history_of house) m.grows.0 limit 0 low p.done p.story p.texts;
+      not_above = p.not_above;
+      within = newest_grows (history_of house) m.grows.0 seen p.within;
+    })
 
-pub begins_same : (log : List Commit) → Begins log log
-begins_same log = ([], sym (append-nil log))
-
-longer : (base : State) (log log' : List Commit) → Begins log log' → newest base log ≤ newest base log'
-longer base log log' grown = omega (arith, ap length grown.1, length-append log grown.0)
-
--- the number after a reply that was made: the newest, or as before where memory was wanting
-pub record Made (base : State) (log : List Commit) (limit low count : ℕ) (done : List Request) (moments text : List ℕ) (request : Request) (moment : ℕ) (mine : List ℕ) : Type 0 where
-  pub high : ℕ
-  pub texts : Texts base log limit 0 low (done ++ request ∷ []) (moments ++ moment ∷ []) (text ++ mine) high
-  pub not_above : high ≤ newest base log
-
--- one text more, and what the log has gained
-one_more : {left left' given given' written written' : Option (List ℕ)} {base : State} {log log' : List Commit} {limit low count : ℕ} {buffer : List ℕ} (request : Request) (moment : ℕ) (mine : List ℕ) → Begins log log' → (p : Progress left left' given given' written written' base log limit low count buffer) → IsMade base log' request moment (closes_after limit count request) mine → Made base log' limit low count p.done p.moments p.text request moment mine
-one_more {left} {left'} {given} {given'} {written} {written'} {base} {log} {log'} {limit} {low} {count} {buffer} request moment mine grown p made =
-    let up = longer base log log' grown in
-    let not_above = p.not_above in
+-- one text more
+one_more : {old now : Around} {history : History} {limit low count seen : ℕ} {buffer : List ℕ} (request : Request) (mine : Story) → (p : Progress old now history limit low count seen buffer) → IsText history seen request (closes_after limit count request) mine → Texts history limit 0 low (p.done ++ request ∷ []) (joined p.story mine)
+one_more {old} {now} {history} {limit} {low} {count} {seen} {buffer} request mine p one =
     let count_is = p.count_is in
     let here : count ≡ 0 + length p.done = omega arith in
-    let add : (n : ℕ) → IsText base log' p.high n request moment (closes_after limit count request) mine → Texts base log' limit 0 low (p.done ++ request ∷ []) (p.moments ++ moment ∷ []) (p.text ++ mine) n =
-    λ n one. texts_more base log' limit 0 low p.done p.moments p.text p.high request n moment mine (same_texts grown p)
-    (subst (λ (i : ℕ). IsText base log' p.high n request moment (closes_after limit i request) mine) here one) in
-    elim made [
-      | inl reply ↦ record { high = newest base log'; texts = add (newest base log') (inl (omega arith, reply)); not_above = omega arith }
-      | inr wanting ↦ record { high = p.high; texts = add p.high (inr (refl, wanting)); not_above = omega arith }
-    ]
+    texts_more history limit 0 low p.done p.story request mine p.texts
+    (subst (λ (i : ℕ). IsText history p.story.high request (closes_after limit i request) mine) here
+    (text_lower history seen p.story.high request (closes_after limit count request) mine p.not_above one))
 
-pub goes_on : {left left' left'' given given' given'' written written' written'' : Option (List ℕ)} {base : State} {log log' : List Commit} {limit low count : ℕ} {buffer buffer' : List ℕ} → count < limit → Begins log log' → Progress left left' given given' written written' base log limit low count buffer → TookOne left' left'' given' given'' written' written'' base log' limit count buffer buffer' false → Progress left left'' given given'' written written'' base log' limit low (count + 1) buffer'
-goes_on {left} {left'} {left''} {given} {given'} {given''} {written} {written'} {written''} {base} {log} {log'} {limit} {low} {count} {buffer} {buffer'} few grown p a =
+pub goes_on : {old now new : Around} {history : History} {limit low count seen : ℕ} {buffer buffer' : List ℕ} → count < limit → Progress old now history limit low count seen buffer → TookOne now new history limit count seen buffer buffer' false → Progress old new history limit low (count + 1) (newest history) buffer'
+goes_on {old} {now} {new} {history} {limit} {low} {count} {seen} {buffer} {buffer'} few p a =
     let more = a.more in
     let k = limit - (count + 1) in
-    let r = a.replies in
-    let one = one_more a.request r.moment r.text grown p r.made in
+    let r = a.replied in
     record {
       taken = p.taken ++ more;
-      moments = p.moments ++ r.moment ∷ [];
-      text = p.text ++ r.text;
       done = p.done ++ a.request ∷ [];
-      high = one.high;
-      went = went_on more (r.moment ∷ []) r.text p.went a.source r.clock r.leaves;
+      story = joined p.story r.story;
+      went = went_on more r.story p.went a.source r.gave;
       count_is = length-append p.done (a.request ∷ []) ∙ ap (λ (n : ℕ). n + 1) p.count_is;
       reads = λ m others end rest.
           subst (λ (rs : List Request). Reads limit ((p.taken ++ more) ++ m) rs end) (sym (append_assoc p.done (a.request ∷ []) others))
           (reads_on limit count p.taken buffer more p.done few p.reads m (a.request ∷ others) end
           (reads_next k (buffer ++ more) m a.request a.size others end a.parses a.closes_is
           (subst (λ (l : List ℕ). Reads k (l ++ m) others end) a.kept rest)));
-      texts = one.texts;
-      not_above = one.not_above;
+      texts = one_more a.request r.story p r.text;
+      not_above = r.not_above;
+      within = omega arith;
     }
 
+-- nothing was added
+still : (o o' : Out) (low : ℕ) → o' ≡ o → Gave o o' (nothing low)
+still o o' low same = subst (λ (x : Out). Gave o x (nothing low)) (sym same) (gave_nothing o low)
+
 -- the connection ends with the texts so far, and this one
-answered_at : {left left' left'' given given' given'' written written' written'' : Option (List ℕ)} {base : State} {log log' : List Commit} {limit low count : ℕ} {buffer : List ℕ} (more closing : List ℕ) (end : End) → count < limit → Begins log log' → Progress left left' given given' written written' base log limit low count buffer → left' ≡ before more left'' → given'' ≡ given' → written'' ≡ after written' closing → Reads (suc (limit - (count + 1))) (buffer ++ more) [] end → Answered left left'' given given'' written written'' base log' limit low end closing
-answered_at {left} {left'} {left''} {given} {given'} {given''} {written} {written'} {written''} {base} {log} {log'} {limit} {low} {count} {buffer} more closing end few grown p a b c e =
-    let up = longer base log log' grown in
+answered_at : {old now new : Around} {history : History} {limit low count seen : ℕ} {buffer : List ℕ} (more closing : List ℕ) (end : End) → count < limit → (p : Progress old now history limit low count seen buffer) → now.left ≡ before more new.left → Gave now.out new.out (saying closing p.story.high) → Reads (suc (limit - (count + 1))) (buffer ++ more) [] end → Answered old new history limit low end closing
+answered_at {old} {now} {new} {history} {limit} {low} {count} {seen} {buffer} more closing end few p source gave e =
     let not_above = p.not_above in
-    let went = went_on more [] closing p.went a (b ∙ after_nothing given') c in
+    let within = p.within in
     record {
       taken = p.taken ++ more;
-      moments = p.moments;
-      text = p.text;
-      high = p.high;
       requests = p.done;
-      went = record { source = went.source; clock = b ∙ p.went.clock; sink = went.sink };
+      story = p.story;
+      went = went_on more (saying closing p.story.high) p.went source gave;
       reads = subst (λ (rs : List Request). Reads limit (p.taken ++ more) rs end) (append-nil p.done) (reads_end limit count p.taken buffer more p.done few p.reads [] end e);
-      texts = same_texts grown p;
+      texts = p.texts;
       not_above = omega arith;
     }
 
-pub ends_at : {left left' left'' given given' given'' written written' written'' : Option (List ℕ)} {base : State} {log log' : List Commit} {limit low count : ℕ} {buffer : List ℕ} {size : ℕ} → count < limit → Begins log log' → Progress left left' given given' written written' base log limit low count buffer → (n : Ends left' left'' given' given'' written' written'' buffer size) → Answered left left'' given given'' written written'' base log' limit low (ending (buffer ++ n.more)) []
-ends_at {left} {left'} {left''} {given} {given'} {given''} {written} {written'} {written''} {base} {log} {log'} {limit} {low} {count} {buffer} {size} few grown p n =
-    answered_at n.more [] (ending (buffer ++ n.more)) few grown p n.source n.clock (n.sink ∙ after_nothing written') (reads_part (limit - (count + 1)) (buffer ++ n.more) n.parses)
+pub ends_at : {old now new : Around} {history : History} {limit low count seen : ℕ} {buffer : List ℕ} {size : ℕ} → count < limit → Progress old now history limit low count seen buffer → (n : Ends now new buffer size) → Answered old new history limit low (ending (buffer ++ n.more)) []
+ends_at {old} {now} {new} {history} {limit} {low} {count} {seen} {buffer} {size} few p n =
+    answered_at n.more [] (ending (buffer ++ n.more)) few p n.source (still now.out new.out p.story.high n.out) (reads_part (limit - (count + 1)) (buffer ++ n.more) n.parses)
 
 open_ending : (xs : List ℕ) → (ending xs ≡ Empty) ⊎ ((n : ℕ) × (ending xs ≡ Cut n))
 open_ending [] = inl refl
 open_ending (x ∷ xs) = inr (length (x ∷ xs), refl)
 
-pub interrupted_at : {left left' left'' given given' given'' written written' written'' : Option (List ℕ)} {base : State} {log log' : List Commit} {limit low count : ℕ} {buffer : List ℕ} → count < limit → Begins log log' → Progress left left' given given' written written' base log limit low count buffer → FailsToRead left' left'' given' given'' written' written'' buffer → Interrupted left left'' given given'' written written'' base log' limit low
-interrupted_at {left} {left'} {left''} {given} {given'} {given''} {written} {written'} {written''} {base} {log} {log'} {limit} {low} {count} {buffer} few grown p n = record {
+pub interrupted_at : {old now new : Around} {history : History} {limit low count seen : ℕ} {buffer : List ℕ} → count < limit → Progress old now history limit low count seen buffer → FailsToRead now new buffer → Interrupted old new history limit low
+interrupted_at {old} {now} {new} {history} {limit} {low} {count} {seen} {buffer} few p n = record {
   end = ending (buffer ++ n.more);
   unfinished = open_ending (buffer ++ n.more);
-  answered = answered_at n.more [] (ending (buffer ++ n.more)) few grown p n.source n.clock (n.sink ∙ after_nothing written') (reads_part (limit - (count + 1)) (buffer ++ n.more) n.parses);
+  answered = answered_at n.more [] (ending (buffer ++ n.more)) few p n.source (still now.out new.out p.story.high n.out) (reads_part (limit - (count + 1)) (buffer ++ n.more) n.parses);
 }
 
 refused_reads : (k : ℕ) (bytes : List ℕ) (code : ℕ) → Parses bytes (Refused code) → Reads (suc k) bytes [] (Code code)
 refused_reads k bytes code parses =
     subst (λ (l : List ℕ). Reads (suc k) l [] (Code code)) (append-nil bytes) (reads_refused k bytes [] code parses)
 
-pub refused_at : {left left' left'' given given' given'' written written' written'' : Option (List ℕ)} {base : State} {log log' : List Commit} {limit low count : ℕ} {buffer : List ℕ} (code : ℕ) → count < limit → Begins log log' → Progress left left' given given' written written' base log limit low count buffer → Refuses left' left'' given' given'' buffer code → written'' ≡ after written' (refusal_text code) → Answered left left'' given given'' written written'' base log' limit low (Code code) (refusal_text code)
-refused_at {left} {left'} {left''} {given} {given'} {given''} {written} {written'} {written''} {base} {log} {log'} {limit} {low} {count} {buffer} code few grown p n c =
-    answered_at n.more (refusal_text code) (Code code) few grown p n.source n.clock c (refused_reads (limit - (count + 1)) (buffer ++ n.more) code n.parses)
+-- bytes that are no reply to a request change no number
+say_from : {o o' : Out} (text : List ℕ) (low high : ℕ) → Gave o o' (saying text low) → Gave o o' (saying text high)
+say_from text low high g = record { clock = g.clock; chance = g.chance; gate = g.gate; sink = g.sink; house = g.house; failures = g.failures }
 
-pub asked_at : {left left' left'' given given' given'' written written' written'' : Option (List ℕ)} {base : State} {log log' : List Commit} {limit low count : ℕ} {buffer buffer' : List ℕ} → count < limit → Begins log log' → Progress left left' given given' written written' base log limit low count buffer → TookOne left' left'' given' given'' written' written'' base log' limit count buffer buffer' true → Answered left left'' given given'' written written'' base log' limit low Asks []
-asked_at {left} {left'} {left''} {given} {given'} {given''} {written} {written'} {written''} {base} {log} {log'} {limit} {low} {count} {buffer} {buffer'} few grown p a =
+pub refused_at : {old now new : Around} {history : History} {limit low count seen : ℕ} {buffer : List ℕ} (code : ℕ) → count < limit → Progress old now history limit low count seen buffer → RefusesWith now new buffer code seen → Answered old new history limit low (Code code) (refusal_text code)
+refused_at {old} {now} {new} {history} {limit} {low} {count} {seen} {buffer} code few p r =
+    let n = r.refuses in
+    answered_at n.more (refusal_text code) (Code code) few p n.source (say_from (refusal_text code) seen p.story.high r.gave) (refused_reads (limit - (count + 1)) (buffer ++ n.more) code n.parses)
+
+pub asked_at : {old now new : Around} {history : History} {limit low count seen : ℕ} {buffer buffer' : List ℕ} → count < limit → Progress old now history limit low count seen buffer → TookOne now new history limit count seen buffer buffer' true → Answered old new history limit low Asks []
+asked_at {old} {now} {new} {history} {limit} {low} {count} {seen} {buffer} {buffer'} few p a =
     let more = a.more in
-    let r = a.replies in
-    let one = one_more a.request r.moment r.text grown p r.made in
-    let went = went_on more (r.moment ∷ []) r.text p.went a.source r.clock r.leaves in
+    let r = a.replied in
     let last : Reads (suc (limit - (count + 1))) (buffer ++ more) (a.request ∷ []) Asks =
     subst (λ (l : List ℕ). Reads (suc (limit - (count + 1))) l (a.request ∷ []) Asks) (append-nil (buffer ++ more)) (reads_closing (limit - (count + 1)) (buffer ++ more) [] a.request a.size a.parses a.closes_is) in
     record {
       taken = p.taken ++ more;
-      moments = p.moments ++ r.moment ∷ [];
-      text = p.text ++ r.text;
-      high = one.high;
       requests = p.done ++ a.request ∷ [];
-      went = record { source = went.source; clock = went.clock; sink = went.sink ∙ ap (after written) (sym (append-nil (p.text ++ r.text))) };
+      story = joined p.story r.story;
+      went = subst (λ (s : Story). Went old new (p.taken ++ more) s) (sym (joined_nothing (joined p.story r.story))) (went_on more r.story p.went a.source r.gave);
       reads = reads_end limit count p.taken buffer more p.done few p.reads (a.request ∷ []) Asks last;
-      texts = one.texts;
-      not_above = one.not_above;
+      texts = one_more a.request r.story p r.text;
+      not_above = r.not_above;
     }
 
 none_read : (k : ℕ) (bytes : List ℕ) → k ≡ 0 → Reads k bytes [] Limit
 none_read k bytes none = subst (λ (n : ℕ). Reads n bytes [] Limit) (sym none) (refl, refl)
 
-pub spent_at : {left left' given given' written written' : Option (List ℕ)} {base : State} {log : List Commit} {limit low count : ℕ} {buffer : List ℕ} → limit ≤ count → Progress left left' given given' written written' base log limit low count buffer → Answered left left' given given' written written' base log limit low Limit []
-spent_at {left} {left'} {given} {given'} {written} {written'} {base} {log} {limit} {low} {count} {buffer} all p =
+pub spent_at : {old now : Around} {history : History} {limit low count seen : ℕ} {buffer : List ℕ} → limit ≤ count → Progress old now history limit low count seen buffer → Answered old now history limit low Limit []
+spent_at {old} {now} {history} {limit} {low} {count} {seen} {buffer} all p =
     let none : limit - count ≡ 0 = omega arith in
+    let not_above = p.not_above in
+    let within = p.within in
     let read = p.reads [] [] Limit (none_read (limit - count) (buffer ++ []) none) in
     record {
       taken = p.taken;
-      moments = p.moments;
-      text = p.text;
-      high = p.high;
       requests = p.done;
-      went = record { source = p.went.source; clock = p.went.clock; sink = p.went.sink ∙ ap (after written) (sym (append-nil p.text)) };
+      story = p.story;
+      went = subst (λ (s : Story). Went old now p.taken s) (sym (joined_nothing p.story)) p.went;
       reads = subst (λ (l : List ℕ). Reads limit l p.done Limit) (append-nil p.taken) (subst (λ (rs : List Request). Reads limit (p.taken ++ []) rs Limit) (append-nil p.done) read);
       texts = p.texts;
-      not_above = p.not_above;
+      not_above = omega arith;
     }
 
 -- what remains to be read after the requests that were answered
@@ -206,89 +190,67 @@ rest_reads : (limit count : ℕ) (taken buffer more : List ℕ) (done : List Req
 rest_reads limit count taken buffer more done count_is reads others end r =
     reads more others end (subst (λ (n : ℕ). Reads (limit - n) (buffer ++ more) others end) count_is r)
 
-pub starved_at : {left left' left'' given given' given'' written written' written'' : Option (List ℕ)} {base : State} {log log' : List Commit} {limit low count : ℕ} {buffer : List ℕ} → Begins log log' → Progress left left' given given' written written' base log limit low count buffer → Starves left' left'' given' given'' written' written'' → Starved left left'' given given'' written written'' base log' limit low
-starved_at {left} {left'} {left''} {given} {given'} {given''} {written} {written'} {written''} {base} {log} {log'} {limit} {low} {count} {buffer} grown p n =
-    let up = longer base log log' grown in
+pub starved_at : {old now new : Around} {history : History} {limit low count seen : ℕ} {buffer : List ℕ} → Progress old now history limit low count seen buffer → Starves now new → Starved old new history limit low
+starved_at {old} {now} {new} {history} {limit} {low} {count} {seen} {buffer} p n =
     let not_above = p.not_above in
-    let went = went_on n.more [] [] p.went n.source (n.clock ∙ after_nothing given') (n.sink ∙ after_nothing written') in
+    let within = p.within in
     record {
       taken = p.taken ++ n.more;
-      moments = p.moments;
-      text = p.text;
-      high = p.high;
       requests = p.done;
+      story = p.story;
       rest = buffer ++ n.more;
-      went = record { source = went.source; clock = n.clock ∙ p.went.clock; sink = n.sink ∙ p.went.sink };
+      went = subst (λ (s : Story). Went old new (p.taken ++ n.more) s) (joined_nothing p.story) (went_on n.more (nothing p.story.high) p.went n.source (still now.out new.out p.story.high n.out));
       reads = rest_reads limit count p.taken buffer n.more p.done p.count_is p.reads;
-      texts = same_texts grown p;
+      texts = p.texts;
       not_above = omega arith;
     }
 
 -- nothing was taken yet
-pub starved_first : (left given written : Option (List ℕ)) (base : State) (log : List Commit) (limit : ℕ) → Starved left left given given written written base log limit (newest base log)
-starved_first left given written base log limit =
-    starved_at (begins_same log) (begun left given written base log limit) (record { more = []; source = before_nothing left; clock = refl; sink = refl })
+pub starved_first : (old : Around) (history : History) (limit : ℕ) → Starved old old history limit (newest history)
+starved_first old history limit =
+    starved_at (begun old history limit) (record { more = []; source = before_nothing old.left; out = refl })
 
--- a reply that was made, as the next text
-next_reply : {left left' given given' written written' : Option (List ℕ)} {base : State} {log log' : List Commit} {limit low count : ℕ} {buffer : List ℕ} (request : Request) (size moment : ℕ) (rest mine : List ℕ) → Begins log log' → (p : Progress left left' given given' written written' base log limit low count buffer) → Parses rest (Whole request size) → IsMade base log' request moment (closes_after limit count request) mine → NextReply base log' limit (length p.done) p.high rest (moment ∷ []) mine
-next_reply {left} {left'} {given} {given'} {written} {written'} {base} {log} {log'} {limit} {low} {count} {buffer} request size moment rest mine grown p parses made =
-    let up = longer base log log' grown in
+pub half_answered_at : {old now new : Around} {history : History} {limit low count seen : ℕ} {buffer : List ℕ} → Progress old now history limit low count seen buffer → HalfAnswered now new history limit count seen buffer → Broken old new history limit low
+half_answered_at {old} {now} {new} {history} {limit} {low} {count} {seen} {buffer} p a =
     let not_above = p.not_above in
-    let there : (n : ℕ) → IsText base log' p.high n request moment (closes_after limit count request) mine → IsText base log' p.high n request moment (closes_after limit (length p.done) request) mine =
-    λ n one. subst (λ (i : ℕ). IsText base log' p.high n request moment (closes_after limit i request) mine) (sym p.count_is) one in
-    elim made [
-      | inl reply ↦ record { request = request; size = size; moment = moment; high = newest base log'; parses = parses; moments_are = refl; reply = there (newest base log') (inl (omega arith, reply)); not_above = omega arith }
-      | inr wanting ↦ record { request = request; size = size; moment = moment; high = p.high; parses = parses; moments_are = refl; reply = there p.high (inr (refl, wanting)); not_above = omega arith }
-    ]
-
-pub half_answered_at : {left left' left'' given given' given'' written written' written'' : Option (List ℕ)} {base : State} {log log' : List Commit} {limit low count : ℕ} {buffer : List ℕ} → Begins log log' → Progress left left' given given' written written' base log limit low count buffer → HalfAnswered left' left'' given' given'' written' written'' base log' limit count buffer → Broken left left'' given given'' written written'' base log' limit low
-half_answered_at {left} {left'} {left''} {given} {given'} {given''} {written} {written'} {written''} {base} {log} {log'} {limit} {low} {count} {buffer} grown p a =
-    let up = longer base log log' grown in
-    let not_above = p.not_above in
-    let r = a.replies in
-    let f = r.leaves in
+    let within = p.within in
+    let r = a.replied in
     record {
       taken = p.taken ++ a.more;
-      moments = p.moments;
-      last = r.moment ∷ [];
-      text = p.text;
-      next = r.text;
-      count = f.count;
-      high = p.high;
       requests = p.done;
+      story = p.story;
       rest = buffer ++ a.more;
-      went = went_on a.more (r.moment ∷ []) (take f.count r.text) p.went a.source r.clock f.told;
+      last = r.story;
+      count = r.count;
+      went = went_on a.more (cut_at r.count r.story) p.went a.source r.gave;
       reads = rest_reads limit count p.taken buffer a.more p.done p.count_is p.reads;
-      texts = same_texts grown p;
+      texts = p.texts;
       not_above = omega arith;
-      next_is = inl (next_reply a.request a.size r.moment (buffer ++ a.more) r.text grown p a.parses r.made);
+      next_is = inl (record {
+        request = a.request;
+        size = a.size;
+        parses = a.parses;
+        reply = subst (λ (i : ℕ). IsText history p.story.high a.request (closes_after limit i a.request) r.story) (sym p.count_is)
+            (text_lower history seen p.story.high a.request (closes_after limit count a.request) r.story p.not_above r.text);
+        not_above = r.not_above;
+      });
     }
 
-pub half_refused_at : {left left' left'' given given' given'' written written' written'' : Option (List ℕ)} {base : State} {log log' : List Commit} {limit low count : ℕ} {buffer : List ℕ} → Begins log log' → Progress left left' given given' written written' base log limit low count buffer → HalfRefused left' left'' given' given'' written' written'' buffer → Broken left left'' given given'' written written'' base log' limit low
-half_refused_at {left} {left'} {left''} {given} {given'} {given''} {written} {written'} {written''} {base} {log} {log'} {limit} {low} {count} {buffer} grown p h =
-    let up = longer base log log' grown in
+pub half_refused_at : {old now new : Around} {history : History} {limit low count seen : ℕ} {buffer : List ℕ} → Progress old now history limit low count seen buffer → HalfRefused now new buffer seen → Broken old new history limit low
+half_refused_at {old} {now} {new} {history} {limit} {low} {count} {seen} {buffer} p h =
     let not_above = p.not_above in
+    let within = p.within in
     let n = h.refuses in
     record {
       taken = p.taken ++ n.more;
-      moments = p.moments;
-      last = [];
-      text = p.text;
-      next = refusal_text h.code;
-      count = h.sink.count;
-      high = p.high;
       requests = p.done;
+      story = p.story;
       rest = buffer ++ n.more;
-      went = went_on n.more [] (take h.sink.count (refusal_text h.code)) p.went n.source (n.clock ∙ after_nothing given') h.sink.told;
+      last = saying (refusal_text h.code) p.story.high;
+      count = h.count;
+      went = went_on n.more (cut_at h.count (saying (refusal_text h.code) p.story.high)) p.went n.source (say_from (take h.count (refusal_text h.code)) seen p.story.high h.gave);
       reads = rest_reads limit count p.taken buffer n.more p.done p.count_is p.reads;
-      texts = same_texts grown p;
+      texts = p.texts;
       not_above = omega arith;
-      next_is = inr (record { code = h.code; parses = n.parses; moments_are = refl; text_is = refl });
+      next_is = inr (record { code = h.code; parses = n.parses; story_is = refl });
     }
-
-pub rebased : {left left' given given' written written' : Option (List ℕ)} {base base' : State} {log : List Commit} {limit low count : ℕ} {buffer : List ℕ} → base' ≡ base → Progress left left' given given' written written' base log limit low count buffer → Progress left left' given given' written written' base' log limit low count buffer
-rebased {left} {left'} {given} {given'} {written} {written'} {base} {base'} {log} {limit} {low} {count} {buffer} e p =
-    subst (λ (b : State). Progress left left' given given' written written' b log limit low count buffer) (sym e) p
-
-pub begins_more : (a b c : List Commit) → Begins a b → Begins b c → Begins a c
-begins_more a b c f g = (f.0 ++ g.0, g.1 ∙ ap (λ (xs : List Commit). xs ++ g.0) f.1 ∙ append_assoc a f.0 g.0)

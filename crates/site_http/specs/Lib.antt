@@ -1,3 +1,4 @@
+pub mod History
 pub mod Reply
 pub mod Fixed
 pub mod Connection

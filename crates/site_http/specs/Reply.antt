@@ -1,18 +1,25 @@
--- The reply to a request, on one state.
+-- The reply to a request: what it is by the state that it is of, and what it takes and tells besides.
 -- RFC 9110, sections 9.3.1 (GET), 15.5.6 (405) and 10.2.1 (Allow); RFC 4918, section 11.5 (507).
-use Rattle.std.specs.Prelude.{ℕ, List, ◌≡◌, ◌≤◌, ◌+◌, ◌==◌, Bool, true, false, Some, None, codes, length, if◌then◌else◌}
+use Rattle.std.specs.Prelude.{ℕ, List, [], ◌∷◌, ◌++◌, ◌≡◌, ◌≤◌, ◌==◌, ◌⊎◌, Bool, true, false, Some, None, codes, length, if◌then◌else◌, min}
 use Rattle.std.specs.Str.{bytes_eq}
 use Rattle.content_state.specs.declared.ask.Ask.{Ask}
-use Rattle.content_state.specs.declared.state.State.{State}
+use Rattle.content_state.specs.State.{State}
 use Rattle.content_state.specs.declared.commit.Commit.{Commit}
-use Rattle.content_state.specs.Replay.{state_at}
-use Rattle.content_state.specs.SiteRules.{IsValidState}
-use Rattle.render_array.specs.Shown.{IsPage}
+use Rattle.render_array.specs.Shown.{IsPage, page_count}
 use Rattle.http_heads.specs.declared.request.Request.{Request}
 use Rattle.http_heads.specs.declared.reply.ReplyHead.{ReplyHead}
 use Rattle.http_heads.specs.declared.reply.Media.TheVariants.{Html, Json}
 use Rattle.http_heads.specs.declared.reply.CookieOut.TheVariants.{Nothing}
 use Rattle.http_heads.specs.Reply.{reply_text}
+use Rattle.site_io.specs.declared.device.Point.{Point}
+use Rattle.site_io.specs.declared.device.Point.TheVariants.{AfterSnapshot, BeforeReply}
+use Rattle.site_io.specs.Series.{last_moment}
+use Rattle.site_http.specs.declared.call.Asked.{Asked}
+use Rattle.site_http.specs.declared.call.Call.{Call}
+use Rattle.site_http.specs.declared.call.Call.TheVariants as call
+use Rattle.site_http.specs.declared.call.Reading.{Reading}
+use Rattle.site_http.specs.declared.call.Reading.TheVariants as reading
+use Rattle.site_http.specs.History.{History, OnLog, state_of}
 
 -- what a request asks of the site
 abbrev pub ask_of : Request → Ask
@@ -21,9 +28,14 @@ ask_of request = record { target = request.target; path = request.path; query = 
 unfoldable pub get : List ℕ
 get = codes "GET"
 
--- whether a request is for a page
-abbrev pub is_get : Request → Bool
-is_get request = bytes_eq request.method get
+-- what is asked for by GET, and by any other method
+abbrev pub call_by_get : Bool → Call
+call_by_get true = call.Reading reading.Page
+call_by_get false = call.Reading reading.NoPairing
+
+-- what a request is for, and from where it is asked
+abbrev pub asked : Request → Asked
+asked request = record { call = call_by_get (bytes_eq request.method get); ask = ask_of request }
 
 -- the head of a page of so many bytes
 abbrev pub page_head : ℕ → ℕ → ℕ → Bool → ReplyHead
@@ -90,27 +102,75 @@ refusal_text code =
     else (if code == 501 then refusal_with 501 no_coding
     else refusal_with 400 bad_request))
 
--- the page of what was asked on a state, at a moment, under its head
-pub record IsPageReply (state : State) (ask : Ask) (moment : ℕ) (closing : Bool) (text : List ℕ) : Type 0 where
+-- What replies took, told and handed in: the moments and the words of chance that they took, the points that were told
+-- as they were made, their bytes, the edits that they handed in, how many of them say that the keeper of the rows
+-- failed, and the number that no later one is below.
+pub record Story : Type 0 where
+  pub moments : List ℕ
+  pub words : List ℕ
+  pub points : List Point
+  pub text : List ℕ
+  pub handed : List Commit
+  pub keepers : ℕ
+  pub high : ℕ
+
+-- the story of one reply that hands nothing in: `built` pieces of a page were built for it
+abbrev pub told : ℕ → List Point → ℕ → List ℕ → ℕ → Story
+told moment points built text number = record {
+  moments = moment ∷ [];
+  words = [];
+  points = points ++ BeforeReply built ∷ [];
+  text = text;
+  handed = [];
+  keepers = 0;
+  high = number;
+}
+
+-- the page of what was asked on a state, at a moment, under its head, and how many elements were built for it, up to the
+-- greatest u64: itself, and each that stands in one of its places
+pub record IsPageReply (state : State) (ask : Ask) (moment : ℕ) (closing : Bool) (text : List ℕ) (built : ℕ) : Type 0 where
   pub status : ℕ
   pub body : List ℕ
   pub page : IsPage state.rows ask moment status body
+  pub built_is : built ≡ min (page_count state.rows ask moment) 18446744073709551615
   pub text_is : text ≡ reply_text (page_head status (length body) state.number closing) body
 
--- the reply on a state: a page to GET, else that the method isn't served
-abbrev pub Answers : Bool → State → Ask → ℕ → Bool → List ℕ → Type 0
-Answers true state ask moment closing text = IsPageReply state ask moment closing text
-Answers false state ask moment closing text = text ≡ method_text state.number closing
+-- what is answered on a state without changing it, and how many elements were built for it
+abbrev pub Says : Reading → State → Ask → ℕ → Bool → List ℕ → ℕ → Type 0
+Says reading.Page state ask moment closing text built = IsPageReply state ask moment closing text built
+Says reading.NoPairing state ask moment closing text built = (text ≡ method_text state.number closing) × (built ≡ 0)
 
--- A reply carries a number of the log, the base's or that after one of its commits, and is the plain site's on the
--- state of that number, which is valid.
-pub record IsReplyTo (base : State) (log : List Commit) (number : ℕ) (is_page : Bool) (ask : Ask) (moment : ℕ) (closing : Bool) (text : List ℕ) : Type 0 where
-  pub from : base.number ≤ number
-  pub to : number ≤ base.number + length log
-  pub number_is : (state_at base log number).number ≡ number
-  pub valid : IsValidState (state_at base log number)
-  pub answers : Answers is_page (state_at base log number) ask moment closing text
+-- A reply on one state, whose number is of the history and isn't below the earlier ones: the gate was told of the
+-- snapshot, and then of the reply.
+pub record OnState (history : History) (low : ℕ) (story : Story) (Holds : State → ℕ → List ℕ → ℕ → Type 0) : Type 0 where
+  pub moment : ℕ
+  pub number : ℕ
+  pub text : List ℕ
+  pub built : ℕ
+  pub within : moment ≤ last_moment
+  pub on : OnLog history low number
+  pub holds : Holds (state_of history number) moment text built
+  pub story_is : story ≡ told moment (AfterSnapshot ∷ []) built text number
 
-abbrev pub IsReply : State → List Commit → ℕ → Request → ℕ → Bool → List ℕ → Type 0
-IsReply base log number request moment closing text =
-    IsReplyTo base log number (is_get request) (ask_of request) moment closing text
+-- Memory was wanting, for the snapshot or after it. The reply carries no number.
+pub record IsWanting (history : History) (low : ℕ) (closing : Bool) (story : Story) : Type 0 where
+  pub moment : ℕ
+  pub number : ℕ
+  pub points : List Point
+  pub within : moment ≤ last_moment
+  pub on : OnLog history low number
+  pub before_or_after : (points ≡ []) ⊎ (points ≡ AfterSnapshot ∷ [])
+  pub story_is : story ≡ told moment points 0 (memory_text closing) number
+
+-- the reply, by what is asked for
+abbrev pub IsReply : History → ℕ → Call → Ask → Bool → Story → Type 0
+IsReply history low (call.Reading reading) ask closing story =
+    OnState history low story (λ state moment text built. Says reading state ask moment closing text built)
+
+-- the reply, or that memory was wanting
+abbrev pub IsAnswer : History → ℕ → Call → Ask → Bool → Story → Type 0
+IsAnswer history low call ask closing story = IsReply history low call ask closing story ⊎ IsWanting history low closing story
+
+-- one text, to a request
+abbrev pub IsText : History → ℕ → Request → Bool → Story → Type 0
+IsText history low request closing story = IsAnswer history low (asked request).call (asked request).ask closing story

@@ -1,21 +1,28 @@
 -- What one turn of a connection does: the next request, and its reply.
-use Rattle.std.specs.Prelude.{ℕ, List, [], ◌∷◌, ◌++◌, ◌≡◌, ◌<◌, ◌⊎◌, Option, Some, None, Bool, true, false, drop, length}
-use Rattle.content_state.specs.declared.state.State.{State}
-use Rattle.content_state.specs.declared.commit.Commit.{Commit}
+use Rattle.std.specs.Prelude.{ℕ, List, [], ◌∷◌, ◌++◌, ◌≡◌, ◌≤◌, ◌<◌, ◌⊎◌, Option, Some, None, Bool, true, false, drop, length}
+use Rattle.content_state.specs.declared.ask.Ask.{Ask}
+use Rattle.content_state.specs.State.{State}
+use Rattle.site_io.specs.declared.device.Point.{Point}
+use Rattle.site_io.specs.declared.device.Point.TheVariants.{AfterSnapshot}
 use Rattle.site_io.specs.declared.ended.Ended.{Ended}
 use Rattle.site_io.specs.declared.ended.Ended.TheVariants as ended
-use Rattle.site_io.specs.Told.{before, after, IsNothingLeft, AddsFront, Rose}
+use Rattle.site_io.specs.Told.{before, IsNothingLeft, Rose}
 use Rattle.http_heads.specs.declared.request.Request.{Request}
 use Rattle.http_heads.specs.declared.parsed.Parsed.TheVariants.{Whole, More, Refused}
 use Rattle.http_heads.specs.Parses.{Parses}
+use Rattle.render_array.specs.House.{HouseView}
+use Rattle.site_http.specs.declared.answer.Made.{Made}
+use Rattle.site_http.specs.declared.answer.Made.TheVariants as made
+use Rattle.site_http.specs.declared.answer.Outcome.{Outcome}
+use Rattle.site_http.specs.declared.answer.Outcome.TheVariants.{Written, WriteFault}
+use Rattle.site_http.specs.declared.call.Call.{Call}
 use Rattle.site_http.specs.declared.next.Next.{Next}
 use Rattle.site_http.specs.declared.next.Next.TheVariants as next
 use Rattle.site_http.specs.declared.next.Trouble.{Trouble}
 use Rattle.site_http.specs.declared.next.Trouble.TheVariants.{ReadFault, OutOfMemory}
-use Rattle.site_http.specs.declared.answer.Outcome.{Outcome}
-use Rattle.site_http.specs.declared.answer.Outcome.TheVariants.{Written, WriteFault}
-use Rattle.site_http.specs.Reply.{IsReply, memory_text, refusal_text}
-use Rattle.site_http.specs.Connection.{newest, closes_after, CountsReads, CountsWrites}
+use Rattle.site_http.specs.History.{History, history_of, newest, state_of}
+use Rattle.site_http.specs.Reply.{Story, IsAnswer, IsText, refusal_text}
+use Rattle.site_http.specs.Connection.{Out, Around, Gave, and_points, raised, saying, cut_at, closes_after, CountsReads, CountsWrites}
 
 -- some bytes were taken
 pub record Takes (left left-after : Option (List ℕ)) : Type 0 where
@@ -94,102 +101,130 @@ abbrev pub TurnWrites : Option Ended → ℕ → ℕ → Type 0
 TurnWrites None old new = new ≡ old
 TurnWrites (Some end) old new = CountsWrites end old new
 
--- the reply on the newest state, or that memory was wanting
-abbrev pub IsMade : State → List Commit → Request → ℕ → Bool → List ℕ → Type 0
-IsMade base log request moment closing text =
-    IsReply base log (newest base log) request moment closing text ⊎ (text ≡ memory_text closing)
+-- what holds of the newest state of a house
+abbrev pub OnNewest : HouseView → (State → Type 0) → Type 0
+OnNewest house Holds = Holds (state_of (history_of house) (newest (history_of house)))
 
--- what was written of a reply: all of it, or a front
-abbrev pub Leaves : Outcome → Option (List ℕ) → Option (List ℕ) → List ℕ → Type 0
-Leaves Written written written-after text = written-after ≡ after written text
-Leaves WriteFault written written-after text = AddsFront written written-after text
+-- which points were told until memory was wanting: none, or that of the snapshot
+abbrev pub ToldOnTheWay : Option (List Point) → Option (List Point) → Type 0
+ToldOnTheWay points points-after =
+    (points-after ≡ and_points points []) ⊎ (points-after ≡ and_points points (AfterSnapshot ∷ []))
 
--- one request was answered, at one moment
-pub record Replies (given given-after written written-after : Option (List ℕ)) (base : State) (log : List Commit) (request : Request) (closing : Bool) (outcome : Outcome) : Type 0 where
-  pub moment : ℕ
-  pub text : List ℕ
-  pub clock : given-after ≡ after given (moment ∷ [])
-  pub made : IsMade base log request moment closing text
-  pub leaves : Leaves outcome written written-after text
+-- the bytes of a text that was made
+abbrev pub bytes_of : Made → List ℕ
+bytes_of (made.Text text) = text.items
+bytes_of (made.Fixed text) = text.now
+
+-- One reply was made, of what the house saw meanwhile, and of what the gate was told.
+pub record MadeOf (old new : HouseView) (points points-after : Option (List Point)) (moment : ℕ) (text : Made) (Is : Story → Type 0) : Type 0 where
+  pub story : Story
+  pub is : Is story
+  pub moments : story.moments ≡ moment ∷ []
+  pub words : story.words ≡ []
+  pub gate : points-after ≡ and_points points story.points
+  pub text_is : story.text ≡ bytes_of text
+  pub house : new.handed ≡ old.handed ++ story.handed
+  pub failures : new.keepers ≡ raised old.keepers story.keepers
+  pub not_above : story.high ≤ newest (history_of new)
+
+abbrev pub Makes : HouseView → HouseView → Option (List Point) → Option (List Point) → Call → Ask → ℕ → Bool → Made → Type 0
+Makes old new points points-after call ask moment closing text =
+    MadeOf old new points points-after moment text
+    (IsAnswer (history_of new) (newest (history_of old)) call ask closing)
+
+-- one request was answered, with a whole text
+pub record Replied (old new : Out) (history : History) (low : ℕ) (request : Request) (closing : Bool) : Type 0 where
+  pub story : Story
+  pub text : IsText history low request closing story
+  pub gave : Gave old new story
+  pub not_above : story.high ≤ newest history
+
+-- one request was answered, and of its text a front was written
+pub record HalfReplied (old new : Out) (history : History) (low : ℕ) (request : Request) (closing : Bool) : Type 0 where
+  pub story : Story
+  pub count : ℕ
+  pub text : IsText history low request closing story
+  pub gave : Gave old new (cut_at count story)
+  pub not_above : story.high ≤ newest history
+
+-- one request was answered, and this became of the reply
+abbrev pub Replies : Outcome → Out → Out → History → ℕ → Request → Bool → Type 0
+Replies Written old new history low request closing = Replied old new history low request closing
+Replies WriteFault old new history low request closing = HalfReplied old new history low request closing
 
 -- one request was taken and answered, and no more was read than it needed
-pub record TookOne (left left-after given given-after written written-after : Option (List ℕ)) (base : State) (log : List Commit) (limit index : ℕ) (buffer buffer-after : List ℕ) (closes : Bool) : Type 0 where
+pub record TookOne (old new : Around) (history : History) (limit index low : ℕ) (buffer buffer-after : List ℕ) (closes : Bool) : Type 0 where
   pub more : List ℕ
   pub request : Request
   pub size : ℕ
-  pub source : left ≡ before more left-after
+  pub source : old.left ≡ before more new.left
   pub needed : ReadInNeed buffer more
   pub parses : Parses (buffer ++ more) (Whole request size)
   pub kept : buffer-after ≡ drop size (buffer ++ more)
   pub closes_is : request.closes ≡ closes
-  pub replies : Replies given given-after written written-after base log request (closes_after limit index request) Written
+  pub replied : Replied old.out new.out history low request (closes_after limit index request)
 
 -- no whole request came, and the input ended
-pub record Ends (left left-after given given-after written written-after : Option (List ℕ)) (buffer : List ℕ) (size : ℕ) : Type 0 where
+pub record Ends (old new : Around) (buffer : List ℕ) (size : ℕ) : Type 0 where
   pub more : List ℕ
-  pub source : left ≡ before more left-after
+  pub source : old.left ≡ before more new.left
   pub parses : Parses (buffer ++ more) More
   pub size_is : size ≡ length (buffer ++ more)
-  pub nothing : IsNothingLeft left-after
-  pub clock : given-after ≡ given
-  pub sink : written-after ≡ written
+  pub nothing : IsNothingLeft new.left
+  pub out : new.out ≡ old.out
 
 -- what came is refused with a code
-pub record Refuses (left left-after given given-after : Option (List ℕ)) (buffer : List ℕ) (code : ℕ) : Type 0 where
+pub record Refuses (old new : Around) (buffer : List ℕ) (code : ℕ) : Type 0 where
   pub more : List ℕ
-  pub source : left ≡ before more left-after
+  pub source : old.left ≡ before more new.left
   pub needed : ReadInNeed buffer more
   pub parses : Parses (buffer ++ more) (Refused code)
-  pub clock : given-after ≡ given
+
+-- that, and its text was written
+pub record RefusesWith (old new : Around) (buffer : List ℕ) (code low : ℕ) : Type 0 where
+  pub refuses : Refuses old new buffer code
+  pub gave : Gave old.out new.out (saying (refusal_text code) low)
 
 -- the input failed where more was wanted
-pub record FailsToRead (left left-after given given-after written written-after : Option (List ℕ)) (buffer : List ℕ) : Type 0 where
+pub record FailsToRead (old new : Around) (buffer : List ℕ) : Type 0 where
   pub more : List ℕ
-  pub source : left ≡ before more left-after
+  pub source : old.left ≡ before more new.left
   pub parses : Parses (buffer ++ more) More
-  pub clock : given-after ≡ given
-  pub sink : written-after ≡ written
+  pub out : new.out ≡ old.out
 
 -- memory was wanting to read the next request
-pub record Starves (left left-after given given-after written written-after : Option (List ℕ)) : Type 0 where
+pub record Starves (old new : Around) : Type 0 where
   pub more : List ℕ
-  pub source : left ≡ before more left-after
-  pub clock : given-after ≡ given
-  pub sink : written-after ≡ written
+  pub source : old.left ≡ before more new.left
+  pub out : new.out ≡ old.out
 
 -- a reply was written in part
-pub record HalfAnswered (left left-after given given-after written written-after : Option (List ℕ)) (base : State) (log : List Commit) (limit index : ℕ) (buffer : List ℕ) : Type 0 where
+pub record HalfAnswered (old new : Around) (history : History) (limit index low : ℕ) (buffer : List ℕ) : Type 0 where
   pub more : List ℕ
   pub request : Request
   pub size : ℕ
-  pub source : left ≡ before more left-after
+  pub source : old.left ≡ before more new.left
   pub needed : ReadInNeed buffer more
   pub parses : Parses (buffer ++ more) (Whole request size)
-  pub replies : Replies given given-after written written-after base log request (closes_after limit index request) WriteFault
+  pub replied : HalfReplied old.out new.out history low request (closes_after limit index request)
 
 -- a refusal was written in part
-pub record HalfRefused (left left-after given given-after written written-after : Option (List ℕ)) (buffer : List ℕ) : Type 0 where
+pub record HalfRefused (old new : Around) (buffer : List ℕ) (low : ℕ) : Type 0 where
   pub code : ℕ
-  pub refuses : Refuses left left-after given given-after buffer code
-  pub sink : AddsFront written written-after (refusal_text code)
+  pub count : ℕ
+  pub refuses : Refuses old new buffer code
+  pub gave : Gave old.out new.out (cut_at count (saying (refusal_text code) low))
 
 -- what a turn does, by its answer: none is to go on
-abbrev pub Turned : Option Ended → Option (List ℕ) → Option (List ℕ) → Option (List ℕ) → Option (List ℕ) → Option (List ℕ) → Option (List ℕ) → State → List Commit → ℕ → ℕ → List ℕ → List ℕ → Type 0
-Turned None left left-after given given-after written written-after base log limit index buffer buffer-after =
-    TookOne left left-after given given-after written written-after base log limit index buffer buffer-after false
-Turned (Some ended.Asked) left left-after given given-after written written-after base log limit index buffer buffer-after =
-    TookOne left left-after given given-after written written-after base log limit index buffer buffer-after true
-Turned (Some ended.Spent) left left-after given given-after written written-after base log limit index buffer buffer-after = ⊥
-Turned (Some ended.Closed) left left-after given given-after written written-after base log limit index buffer buffer-after =
-    Ends left left-after given given-after written written-after buffer 0
-Turned (Some (ended.Truncated n)) left left-after given given-after written written-after base log limit index buffer buffer-after =
-    Ends left left-after given given-after written written-after buffer n × (n ≡ 0 → ⊥)
-Turned (Some (ended.Refused code)) left left-after given given-after written written-after base log limit index buffer buffer-after =
-    Refuses left left-after given given-after buffer code × (written-after ≡ after written (refusal_text code))
-Turned (Some ended.ReadFault) left left-after given given-after written written-after base log limit index buffer buffer-after =
-    FailsToRead left left-after given given-after written written-after buffer
-Turned (Some ended.OutOfMemory) left left-after given given-after written written-after base log limit index buffer buffer-after =
-    Starves left left-after given given-after written written-after
-Turned (Some ended.WriteFault) left left-after given given-after written written-after base log limit index buffer buffer-after =
-    HalfAnswered left left-after given given-after written written-after base log limit index buffer
-    ⊎ HalfRefused left left-after given given-after written written-after buffer
+abbrev pub Turned : Option Ended → Around → Around → History → ℕ → ℕ → ℕ → List ℕ → List ℕ → Type 0
+Turned None old new history limit index low buffer buffer-after = TookOne old new history limit index low buffer buffer-after false
+Turned (Some ended.Asked) old new history limit index low buffer buffer-after =
+    TookOne old new history limit index low buffer buffer-after true
+Turned (Some ended.Spent) old new history limit index low buffer buffer-after = ⊥
+Turned (Some ended.Closed) old new history limit index low buffer buffer-after = Ends old new buffer 0
+Turned (Some (ended.Truncated n)) old new history limit index low buffer buffer-after = Ends old new buffer n × (n ≡ 0 → ⊥)
+Turned (Some (ended.Refused code)) old new history limit index low buffer buffer-after = RefusesWith old new buffer code low
+Turned (Some ended.ReadFault) old new history limit index low buffer buffer-after = FailsToRead old new buffer
+Turned (Some ended.OutOfMemory) old new history limit index low buffer buffer-after = Starves old new
+Turned (Some ended.WriteFault) old new history limit index low buffer buffer-after =
+    HalfAnswered old new history limit index low buffer ⊎ HalfRefused old new buffer low

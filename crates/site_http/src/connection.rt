@@ -1,8 +1,11 @@
 //! A connection, from its first byte to its end.
-ghost use Rattle.std.specs.Prelude.{◌≡◌, ◌≤◌};
-ghost use Rattle.content_state.specs.Replay.{Begins};
+ghost use Rattle.std.specs.Prelude.{◌≡◌, ℕ, List};
+ghost use Rattle.content_state.specs.declared.commit.Commit.{Commit};
+ghost use Rattle.render_array.specs.House.{Moves};
 ghost use Rattle.site_io.specs.Series.{GivesInTurn, last_moment};
-ghost use Rattle.site_http.specs.Connection.{Connection, CountsReads, CountsWrites, newest};
+ghost use Rattle.site_io.specs.declared.ended.Ended.{Ended as End};
+ghost use Rattle.site_http.specs.History.{History, history_of, longer, newest};
+ghost use Rattle.site_http.specs.Connection.{AreAsks, Around, Connection, CountsReads, CountsWrites};
 
 use crate::next::Inbox;
 use crate::turn::{LIMIT, turn};
@@ -26,13 +29,11 @@ pub fn serve_connection<H: House, S: Source, O: Sink, C: Clock, E: Entropy, G: G
     entropy: &mut E,
     gate: &mut G,
 ) -> Ended
-    ensures base { H.base house.new ≡ H.base house.old }
-    ensures number { H.number house.new ≡ H.number house.old }
-    ensures opened { H.opened house.new ≡ H.opened house.old }
-    ensures name { H.name house.new ≡ H.name house.old }
-    ensures grows { Begins (H.seen house.old) (H.seen house.new) }
-    ensures never_falls { H.faults house.old ≤ H.faults house.new }
-    ensures connection { Connection result (S.left source.old) (S.left source.new) (C.given clock.old) (C.given clock.new) (O.written sink.old) (O.written sink.new) (H.base house.new) (H.seen house.new) 1000 (newest (H.base house.old) (H.seen house.old)) }
+    ensures moves { Moves (H.sees house.old) (H.sees house.new) }
+    ensures connection { Connection result
+        (record { left = S.left source.old; out = record { given = C.given clock.old; words = E.given entropy.old; points = G.reached gate.old; written = O.written sink.old; handed = (H.sees house.old).handed; keepers = (H.sees house.old).keepers } })
+        (record { left = S.left source.new; out = record { given = C.given clock.new; words = E.given entropy.new; points = G.reached gate.new; written = O.written sink.new; handed = (H.sees house.new).handed; keepers = (H.sees house.new).keepers } })
+        (history_of (H.sees house.new)) 1000 (newest (history_of (H.sees house.old))) }
     ensures moments { GivesInTurn last_moment (C.moments clock.old) (C.moments clock.new) (C.given clock.old) (C.given clock.new) }
     ensures words { E.given entropy.new ≡ E.given entropy.old }
     ensures reads { CountsReads result (S.faults source.old) (S.faults source.new) }
@@ -42,9 +43,23 @@ pub fn serve_connection<H: House, S: Source, O: Sink, C: Clock, E: Entropy, G: G
         return Ended::OutOfMemory;
     };
     'requests: for index in 0..LIMIT {
-        if let Some(ended) = turn(alloc, house, source, sink, clock, gate, &mut inbox, index) {
+        if let Some(ended) = turn(
+            alloc, house, source, sink, clock, entropy, gate, &mut inbox, index,
+        ) {
             return ended;
         }
     }
     Ended::Spent
 }
+
+/// The law that a connection over a history is one over each longer history: later edits change nothing that was said.
+pub fn connection_grows()
+    ensures { (end : End) → (old : Around) → (new : Around) → (history : History) → (more : List Commit) → (limit : ℕ) → (low : ℕ) → Connection end old new history limit low → Connection end old new (longer history more) limit low }
+{}
+
+/// The law that what a request asks of the site is read from its target: its path and its query are the target's.
+/// <https://www.rfc-editor.org/rfc/rfc3986#section-3>
+#[tactic(auto, using(crate::proofs::Asks::are_asks))]
+pub fn requests_are_asks()
+    ensures { AreAsks }
+{}

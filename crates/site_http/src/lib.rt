@@ -2,14 +2,15 @@
 #![tactic(auto)]
 
 mod answer;
+mod call;
 mod connection;
 mod next;
 mod refusal;
-mod renderer;
 mod reply;
+mod shown;
 mod turn;
 
-pub use connection::serve_connection;
+pub use connection::{connection_grows, requests_are_asks, serve_connection};
 pub use http_heads::{
     CookieOut, Media, Octets, Parsed, ReplyHead, Request, Version, is_reply_status, parse,
     reply_head,

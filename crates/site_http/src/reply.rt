@@ -1,46 +1,13 @@
 //! The text of a reply on a state.
-ghost use Rattle.std.specs.Prelude.{◌≡◌, ◌++◌, IfOk, IsTrue, length};
-ghost use Rattle.std.specs.Str.{bytes_eq};
-ghost use Rattle.site_http.specs.Reply.{ask_of, get, is_get, page_head, method_body, method_text, IsPageReply, Answers};
+ghost use Rattle.std.specs.Prelude.{◌≡◌, IfOk, IsTrue, length};
+ghost use Rattle.site_http.specs.Reply.{page_head, method_body, method_text, IsPageReply, Says};
 ghost use Rattle.http_heads.specs.Reply.{reply_text, is_reply_status};
 
-use crate::renderer::{Page, render_page};
-use content_rows::Text;
+use crate::call::Reading;
+use crate::shown::shown_page;
 use content_state::{Ask, State};
-use http_heads::{CookieOut, Media, ReplyHead, Request, reply_head};
+use http_heads::{CookieOut, Media, ReplyHead, reply_head};
 use std::alloc::{AllocError, Global};
-
-/// A request as the site sees it.
-#[derive(Drop)]
-pub struct Call {
-    /// Whether it is for a page.
-    pub get: bool,
-    pub ask: Ask,
-}
-
-#[tactic(auto, unfolding(crate::specs::Reply::get))]
-fn is_get_method(method: &[u8]) -> bool
-    ensures { result ≡ bytes_eq method.now get }
-{
-    method == b"GET".as_slice()
-}
-
-/// What a request asks of the site.
-pub fn call_of(request: Request) -> Call
-    ensures get { result.get ≡ is_get request }
-    ensures ask { result.ask ≡ ask_of request }
-{
-    let get = is_get_method(request.method.as_slice());
-    Call {
-        get,
-        ask: Ask {
-            target: Text::from_vec(request.target.into_vec()),
-            path: Text::from_vec(request.path.into_vec()),
-            query: Text::from_vec(request.query.into_vec()),
-            cookie: request.session,
-        },
-    }
-}
 
 /// A head and a body.
 fn text_of(alloc: Global, head: &ReplyHead, body: &[u8]) -> Result<Vec<u8>, AllocError>
@@ -53,7 +20,7 @@ fn text_of(alloc: Global, head: &ReplyHead, body: &[u8]) -> Result<Vec<u8>, Allo
     Ok(text)
 }
 
-/// A reply, and how many cached pieces were built for it and not found.
+/// A reply, and how many elements were built for it, up to the greatest u64.
 #[derive(Drop)]
 pub struct Reply {
     pub text: Vec<u8>,
@@ -68,9 +35,9 @@ fn page_reply(
     now: u64,
     closing: bool,
 ) -> Result<Reply, AllocError>
-    ensures { IfOk result (λ r. IsPageReply state.now ask.now now closing r.text.items) }
+    ensures { IfOk result (λ r. IsPageReply state.now ask.now now closing r.text.items r.built) }
 {
-    let page = render_page(alloc, state, ask, now)?;
+    let page = shown_page(alloc, state, ask, now)?;
     let head = ReplyHead {
         status: page.status,
         media: Media::Html,
@@ -78,7 +45,7 @@ fn page_reply(
         location: None,
         cookie: CookieOut::Nothing,
         allow: false,
-        state: Some(state.number),
+        state: Some(state.number()),
         close: closing,
     };
     let text = text_of(alloc, &head, &page.body)?;
@@ -91,7 +58,8 @@ fn page_reply(
 /// The reply to a method that isn't served.
 #[tactic(auto, unfolding(crate::specs::Reply::method_body))]
 fn method_reply(alloc: Global, number: u64, closing: bool) -> Result<Reply, AllocError>
-    ensures { IfOk result (λ r. r.text.items ≡ method_text number closing) }
+    ensures text { IfOk result (λ r. r.text.items ≡ method_text number closing) }
+    ensures built { IfOk result (λ r. r.built ≡ 0) }
 {
     let head = ReplyHead {
         status: 405,
@@ -107,21 +75,25 @@ fn method_reply(alloc: Global, number: u64, closing: bool) -> Result<Reply, Allo
     Ok(Reply { text, built: 0 })
 }
 
-/// The reply on a state, at a moment.
+/// What is answered on a state, at a moment, without changing it.
 pub fn reply_on(
     alloc: Global,
     state: &State,
-    call: &Call,
+    reading: Reading,
+    ask: &Ask,
     now: u64,
     closing: bool,
 ) -> Result<Reply, AllocError>
-    ensures { IfOk result (λ r. Answers call.now.get state.now call.now.ask now closing r.text.items) }
+    ensures { IfOk result (λ r. Says reading state.now ask.now now closing r.text.items r.built) }
 {
-    if call.get {
-        let reply = page_reply(alloc, state, &call.ask, now, closing)?;
-        Ok(reply)
-    } else {
-        let reply = method_reply(alloc, state.number, closing)?;
-        Ok(reply)
+    match reading {
+        Reading::Page => {
+            let reply = page_reply(alloc, state, ask, now, closing)?;
+            Ok(reply)
+        }
+        Reading::NoPairing => {
+            let reply = method_reply(alloc, state.number(), closing)?;
+            Ok(reply)
+        }
     }
 }

@@ -1,20 +1,16 @@
-use Rattle.std.proofs.Common.{◌≡◌, ◌≤◌}
-use Rattle.content_state.specs.Replay.{Begins}
+use Rattle.std.proofs.Common.{◌≡◌}
+use Rattle.render_array.specs.House.{Moves}
 use Rattle.site_io.specs.Series.{GivesInTurn, last_moment}
-use Rattle.site_http.specs.Connection.{newest}
+use Rattle.site_http.specs.History.{history_of, newest}
 use Rattle.site_http.proofs.Progress.{Progress}
 use Rattle.site_http.proofs.connection.serve_connection.Given as goal
 
 abbrev pub invariant-requests : goal.invariant-requests
 invariant-requests g l = record {
-  base : g.H.House.base l.house ≡ g.H.House.base l.fn.house;
-  number : g.H.House.number l.house ≡ g.H.House.number l.fn.house;
-  opened : g.H.House.opened l.house ≡ g.H.House.opened l.fn.house;
-  name : g.H.House.name l.house ≡ g.H.House.name l.fn.house;
-  grows : Begins (g.H.House.seen l.fn.house) (g.H.House.seen l.house);
-  progress : Progress (g.S.Source.left l.fn.source) (g.S.Source.left l.source) (g.C.Clock.given l.fn.clock) (g.C.Clock.given l.clock) (g.O.Sink.written l.fn.sink) (g.O.Sink.written l.sink) (g.H.House.base l.house) (g.H.House.seen l.house) 1000 (newest (g.H.House.base l.fn.house) (g.H.House.seen l.fn.house)) l.index l.inbox;
+  moves : Moves (g.H.House.sees l.fn.house) (g.H.House.sees l.house);
+  progress : Progress (record { left = g.S.Source.left l.fn.source; out = record { given = g.C.Clock.given l.fn.clock; words = g.E.Entropy.given l.fn.entropy; points = g.G.Gate.reached l.fn.gate; written = g.O.Sink.written l.fn.sink; handed = (g.H.House.sees l.fn.house).handed; keepers = (g.H.House.sees l.fn.house).keepers } }) (record { left = g.S.Source.left l.source; out = record { given = g.C.Clock.given l.clock; words = g.E.Entropy.given l.entropy; points = g.G.Gate.reached l.gate; written = g.O.Sink.written l.sink; handed = (g.H.House.sees l.house).handed; keepers = (g.H.House.sees l.house).keepers } }) (history_of (g.H.House.sees l.house)) 1000 (newest (history_of (g.H.House.sees l.fn.house))) l.index (newest (history_of (g.H.House.sees l.house))) l.inbox;
   moments : GivesInTurn last_moment (g.C.Clock.moments l.fn.clock) (g.C.Clock.moments l.clock) (g.C.Clock.given l.fn.clock) (g.C.Clock.given l.clock);
-  keeping : g.H.House.faults l.fn.house ≤ g.H.House.faults l.house;
+  words : g.E.Entropy.given l.entropy ≡ g.E.Entropy.given l.fn.entropy;
   reading : g.S.Source.faults l.source ≡ g.S.Source.faults l.fn.source;
   writing : g.O.Sink.faults l.sink ≡ g.O.Sink.faults l.fn.sink;
 }

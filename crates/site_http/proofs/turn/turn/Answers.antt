@@ -1,5 +1,24 @@
-use Rattle.std.proofs.Common.{rules, inl}
+use Rattle.std.proofs.Common.{rules, inl, inr, refl, sym}
+use Rattle.std.proofs.lemmas.List.{append-nil}
+use Rattle.site_http.proofs.Told.{after_nothing, points_nothing}
 use Rattle.site_http.proofs.turn.turn.Goals as goal
+
+pub returns-in-Err-clause-turned : goal.returns-in-Err-clause-turned
+returns-in-Err-clause-turned g c =
+    let f = c.in-Err.ensures.failed in
+    inr (record {
+      code = c.in-Refused.code;
+      count = f.count;
+      refuses = search rules;
+      gave = record {
+        clock = after_nothing (g.C.Clock.given c.args.clock.now);
+        chance = after_nothing (g.E.Entropy.given c.args.entropy.now);
+        gate = points_nothing (g.G.Gate.reached c.args.gate.now);
+        sink = f.told;
+        house = sym (append-nil (g.H.House.sees c.args.house.now).handed);
+        failures = refl {a = (g.H.House.sees c.args.house.now).keepers};
+      };
+    })
 
 pub returns-in-WriteFault-clause-turned : goal.returns-in-WriteFault-clause-turned
 returns-in-WriteFault-clause-turned g c =
@@ -11,5 +30,5 @@ returns-in-WriteFault-clause-turned g c =
       source = f.source;
       needed = f.needed;
       parses = f.decides.1;
-      replies = search rules;
+      replied = search rules;
     })
