@@ -1,3 +1,5 @@
 mod Replaying
 pub mod Starter
 mod Causes
+mod Loading
+mod Parsing

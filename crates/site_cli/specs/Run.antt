@@ -1,5 +1,5 @@
 -- What the program does, by its words, and the status that it ends with.
-use Rattle.std.specs.Prelude.{ℕ, List, [], ◌≡◌, ◌≢◌, ◌⊎◌, Bool, true, false, Option, fold}
+use Rattle.std.specs.Prelude.{ℕ, List, [], ◌≡◌, ◌≢◌, ◌⊎◌, Option, Some, None, Ok, fold}
 use Rattle.site_io.specs.declared.ended.Ended.{Ended}
 use Rattle.site_io.specs.declared.ended.Ended.TheVariants as ended
 use Rattle.site_io.specs.Told.{after, AddsFront, Rose}
@@ -7,11 +7,18 @@ use Rattle.content_rows.specs.declared.cell.Cell.{Cell}
 use Rattle.content_rows.specs.declared.row.Row.{Row}
 use Rattle.content_rows.specs.StarterRows.{starter_rows}
 use Rattle.content_state.specs.Rows.{with_row}
-use Rattle.content_state.specs.declared.state.State.{State}
+use Rattle.content_state.specs.State.{State}
 use Rattle.site_io.specs.Series.{AreFirstOf, last_moment}
-use Rattle.site_http.specs.Connection.{Connection}
-use Rattle.site_cli.specs.Place.{none_given}
-use Rattle.site_cli.specs.Words.{usage}
+use Rattle.site_io.specs.declared.device.Point.{Point}
+use Rattle.site_http.specs.History.{history_of, newest}
+use Rattle.site_http.specs.Connection.{Around, Connection}
+use Rattle.site_cli.specs.House.{unedited}
+use Rattle.content_state.specs.SiteRules.{IsValidState}
+use Rattle.site_files.specs.Rows.{rows_of as rows_of_file, IsToldBy, IsSiteFault}
+use Rattle.site_files.specs.declared.fault.ReadFault.{ReadFault}
+use Rattle.site_cli.specs.Place.{PlaceView, next_list, clock_given, entropy_given, none_given, IsNoneReached, OpeningFails, RowsFail}
+use Rattle.site_cli.specs.Words.{usage, Asked, replay}
+use Rattle.site_cli.specs.Texts.{fault_text}
 
 -- the map of these rows: each is set in turn
 abbrev pub rows_of : List (Cell × Row) → List (Cell × Row)
@@ -32,38 +39,118 @@ status_of ended.ReadFault = 5
 status_of ended.WriteFault = 6
 status_of ended.OutOfMemory = 9
 
--- One connection over the starter site was answered, from the input to the output: at the moments of the place's list,
--- in turn, each reply on the one state that there is.
-pub record Replays (moments left left-after written written-after : Option (List ℕ)) (status : ℕ) : Type 0 where
+-- what stands around a connection over a house without edits: what is left, given, drawn, told and written
+abbrev pub around : Option (List ℕ) → Option (List ℕ) → Option (List ℕ) → Option (List Point) → Option (List ℕ) → Around
+around left given words points written = record {
+  left = left;
+  out = record { given = given; words = words; points = points; written = written; handed = []; keepers = 0 };
+}
+
+-- the site of a file of these bytes: the rows that they give, no tag of which was ever invalidated, and the number 0
+pub record IsSiteOf (bytes : Option (List ℕ)) (base : State) : Type 0 where
+  pub told : IsToldBy bytes (λ told. rows_of_file told ≡ Ok base.rows)
+  pub counts : base.counts ≡ []
+  pub number : base.number ≡ 0
+  pub valid : IsValidState base
+
+-- What stands outside the program: the bytes that are left to read, those that were written, how often the input and the
+-- output have failed, and its place.
+pub record Outside : Type 0 where
+  pub left : Option (List ℕ)
+  pub written : Option (List ℕ)
+  pub reading : ℕ
+  pub writing : ℕ
+  pub place : PlaceView
+
+-- One connection over a site was answered, from the input to the output: at the moments of the place's next list, in
+-- turn, each reply on the one state that there is. Nothing was handed in, and no word of chance was drawn. Of the place,
+-- one clock and one entropy were taken.
+pub record Replays (base : State) (old new : Outside) (status : ℕ) : Type 0 where
   pub end : Ended
   pub given : Option (List ℕ)
-  pub in_turn : AreFirstOf last_moment moments given
-  pub connection : Connection end left left-after (none_given moments) given written written-after starter_site [] 1000 0
+  pub points : Option (List Point)
+  pub points-after : Option (List Point)
+  pub in_turn : AreFirstOf last_moment (next_list old.place.moments) given
+  pub begins : IsNoneReached points
+  pub connection :
+      Connection end
+      (around old.left (none_given (next_list old.place.moments)) (none_given (next_list old.place.words)) points old.written)
+      (around new.left given (none_given (next_list old.place.words)) points-after new.written)
+      (history_of (unedited base)) 1000 (newest (history_of (unedited base)))
+  pub place : new.place ≡ entropy_given (clock_given old.place)
   pub status_is : status ≡ status_of end
 
 -- memory was wanting before anything was taken or written
-pub record Starves (left left-after written written-after : Option (List ℕ)) (status : ℕ) : Type 0 where
-  pub source : left-after ≡ left
-  pub sink : written-after ≡ written
+pub record Starves (old new : Outside) (status : ℕ) : Type 0 where
+  pub source : new.left ≡ old.left
+  pub sink : new.written ≡ old.written
+  pub place : new.place ≡ old.place
   pub status_is : status ≡ 9
 
--- The words are no command line: nothing was taken, and the usage was printed, or a front of it where that failed.
-pub record Refuses (left left-after written written-after : Option (List ℕ)) (writing writing-after status : ℕ) : Type 0 where
-  pub source : left-after ≡ left
-  pub sink : (written-after ≡ after written usage) ⊎ (AddsFront written written-after usage × Rose writing writing-after)
+-- a text was printed, or a front of it where that failed
+abbrev pub Prints : List ℕ → Outside → Outside → Type 0
+Prints text old new = (new.written ≡ after old.written text) ⊎ (AddsFront old.written new.written text × Rose old.writing new.writing)
+
+-- the words are no command line: nothing was taken, and the usage was printed
+pub record Refuses (old new : Outside) (status : ℕ) : Type 0 where
+  pub source : new.left ≡ old.left
+  pub sink : Prints usage old new
+  pub place : new.place ≡ old.place
   pub status_is : status ≡ 2
 
--- what the program did, by whether its words ask for a replay
-abbrev pub Runs : Bool → Option (List ℕ) → Option (List ℕ) → Option (List ℕ) → Option (List ℕ) → Option (List ℕ) → ℕ → ℕ → ℕ → Type 0
-Runs true moments left left-after written written-after writing writing-after status =
-    Replays moments left left-after written written-after status ⊎ Starves left left-after written written-after status
-Runs false moments left left-after written written-after writing writing-after status =
-    Refuses left left-after written written-after writing writing-after status
+-- the rows of the file are no site: nothing of the input was taken, and the first fault of the rows was printed
+pub record RefusesRows (bytes : Option (List ℕ)) (old new : Outside) (status : ℕ) : Type 0 where
+  pub fault : ReadFault
+  pub text : List ℕ
+  pub is_fault : IsSiteFault bytes fault
+  pub says : fault_text fault ≡ Some text
+  pub source : new.left ≡ old.left
+  pub sink : Prints text old new
+  pub place : new.place ≡ old.place
+  pub status_is : status ≡ 3
+
+-- the file of rows wasn't opened, or reading it failed, as the place counted: nothing was taken or printed
+pub record FailsPlace (old new : Outside) (status : ℕ) : Type 0 where
+  pub source : new.left ≡ old.left
+  pub sink : new.written ≡ old.written
+  pub place : OpeningFails old.place new.place ⊎ RowsFail old.place new.place
+  pub status_is : status ≡ 7
+
+-- one connection over the site of a file was answered
+pub record ReplaysFile (bytes : Option (List ℕ)) (old new : Outside) (status : ℕ) : Type 0 where
+  pub base : State
+  pub site : IsSiteOf bytes base
+  pub replays : Replays base old new status
+
+-- one connection over a site was answered, or memory was wanting before
+abbrev pub ReplaysOrStarves : State → Outside → Outside → ℕ → Type 0
+ReplaysOrStarves base old new status = Replays base old new status ⊎ Starves old new status
+
+-- One connection over the site of the file of that path was answered, or its rows were refused, or the place failed to
+-- give them, or memory was wanting before.
+abbrev pub ReplaysFileOrStarves : List ℕ → Outside → Outside → ℕ → Type 0
+ReplaysFileOrStarves path old new status =
+    (ReplaysFile (old.place.file path) old new status ⊎ RefusesRows (old.place.file path) old new status)
+    ⊎ (FailsPlace old new status ⊎ Starves old new status)
+
+-- what the program does, by the job that its words name, if they name one
+abbrev pub Runs : Option Asked → Outside → Outside → ℕ → Type 0
+Runs None old new status = Refuses old new status ⊎ Starves old new status
+Runs (Some (replay None)) old new status = ReplaysOrStarves starter_site old new status
+Runs (Some (replay (Some path))) old new status = ReplaysFileOrStarves path old new status
+
+-- the counts of a place are as they were
+pub record KeepsCounts (old new : PlaceView) : Type 0 where
+  pub own : new.faults ≡ old.faults
+  pub rows : new.rows_faults ≡ old.rows_faults
 
 -- A fault of the input is told exactly where its count rose, and one of the output likewise, but that printing how the
--- program is called may fail too.
-pub record HasCause (status reading reading-after writing writing-after : ℕ) : Type 0 where
-  pub input : status ≡ 5 → Rose reading reading-after
-  pub input_steady : status ≢ 5 → reading-after ≡ reading
-  pub output : status ≡ 6 → Rose writing writing-after
-  pub output_steady : status ≢ 6 → status ≢ 2 → writing-after ≡ writing
+-- program is called, or what is wrong with the rows, may fail too. A fault of the place is told exactly where one of its
+-- counts rose.
+pub record HasCause (old new : Outside) (status : ℕ) : Type 0 where
+  pub input : status ≡ 5 → Rose old.reading new.reading
+  pub input_steady : status ≢ 5 → new.reading ≡ old.reading
+  pub output : status ≡ 6 → Rose old.writing new.writing
+  pub output_steady : status ≢ 6 → status ≢ 2 → status ≢ 3 → new.writing ≡ old.writing
+  pub place : status ≡ 7 → Rose old.place.faults new.place.faults ⊎ Rose old.place.rows_faults new.place.rows_faults
+  pub place_steady : status ≢ 7 → KeepsCounts old.place new.place

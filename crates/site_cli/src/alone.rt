@@ -1,7 +1,8 @@
 //! A house of one caller, over one state that no edit changes yet.
-ghost use Rattle.std.specs.Prelude.{◌≡◌, [], List};
+ghost use Rattle.std.specs.Prelude.{◌≡◌};
 ghost use Rattle.std.specs.Arc.{arc_value};
 ghost use Rattle.content_state.specs.SiteRules.{IsValidState};
+ghost use Rattle.site_cli.specs.House.{unedited};
 
 use content_state::State;
 use render_array::House;
@@ -18,7 +19,7 @@ pub struct Alone {
 
 impl Model for Alone {
     ghost use Rattle.std.specs.Arc.{arc_value};
-    ghost use Rattle.content_state.specs.declared.state.State.{State as StateValue};
+    ghost use Rattle.content_state.specs.State.{State as StateValue};
     ghost use Rattle.content_state.specs.SiteRules.{IsValidState};
 
     ghost Value = { StateValue };
@@ -39,17 +40,7 @@ impl Alone {
 }
 
 impl House for Alone {
-    ghost base = { λ a. a };
-
-    ghost seen = { λ a. [] };
-
-    ghost number = { λ a. 0 };
-
-    ghost opened = { λ a. 0 };
-
-    ghost name = { λ a. 0 };
-
-    ghost faults = { λ a. 0 };
+    ghost sees = { λ a. unedited a };
 
     #[tactic(auto, unfolding(content_state::specs::Replay::replay))]
     fn snapshot(&mut self, _alloc: Global) -> Result<Arc<State>, AllocError> {

@@ -1,15 +1,37 @@
-//! Where the program works: what gives it moments, words of chance, and a gate.
-ghost use Rattle.std.specs.Prelude.{◌≡◌, ℕ, List, [], Option, Some, None};
-ghost use Rattle.site_cli.specs.Place.{none_given};
+//! Where the program works: what gives it moments, words of chance, a gate, and files of rows.
+ghost use Rattle.std.specs.Prelude.{◌≡◌, ◌≤◌, IfOk, IfErr, [], map, option_map};
+ghost use Rattle.std.specs.String.{string_bytes};
+ghost use Rattle.site_io.specs.Memory.{fresh, up};
+ghost use Rattle.site_cli.specs.Place.{clock_given, entropy_given, file_at, memory_view, next_list, none_given, numbers, system_view, GivenBack, HasTold, IsNoDevice, IsNoneReached, Memory, PlaceView, System};
+ghost use Rattle.site_cli.specs.declared.place.NoDevice.TheVariants as why;
 
 use site_io::{
     Clock, Entropy, Gate, ListClock, ListEntropy, MemorySink, MemorySource, OpenGate, Reading,
     Sink, Source, SystemClock, SystemEntropy, Writing,
 };
-use std::alloc::Global;
-use std::io::{Stdin, Stdout};
+use std::alloc::{AllocError, Global};
+use std::fs::File;
+use std::io::{ErrorKind, Stdin, Stdout};
 use std::marker::Model;
-use std::mem;
+use std::vec::IntoIter;
+
+/// Why a place opened no device.
+#[derive(Clone, Copy, Debug, PartialEq, Eq)]
+pub enum NoDevice {
+    /// It can't be opened, and the place's count of faults rose.
+    Failed,
+    OutOfMemory,
+}
+
+impl From<AllocError> for NoDevice {
+    ghost use Rattle.site_cli.specs.declared.place.NoDevice.TheVariants.{OutOfMemory};
+
+    ghost from_gives = { λ _ why. why ≡ OutOfMemory };
+
+    fn from(_wanting: AllocError) -> NoDevice {
+        NoDevice::OutOfMemory
+    }
+}
 
 /// A place that the program works at. Its input and its output are handed to the program beside it.
 pub trait Place {
@@ -17,63 +39,174 @@ pub trait Place {
 
     type Out: Sink + Drop;
 
+    type Rows: Source + Drop;
+
     type Clock: Clock + Drop;
 
     type Entropy: Entropy + Drop;
 
     type Gate: Gate + Drop;
 
-    /// The moments that its next clock is to give, where it tells them.
-    ghost moments: { Self → Option (List ℕ) };
+    /// What it is to give, where it tells it, and how often it failed.
+    ghost sees: { Self → PlaceView };
 
-    /// The words that its next entropy is to give, where it tells them.
-    ghost words: { Self → Option (List ℕ) };
+    /// Opens the file of rows of that path.
+    ///
+    /// The device has no fault yet, and the bytes that the place told of the file. `Failed` comes exactly where the
+    /// place's own count of faults rose in this call.
+    fn rows(&mut self, path: &str) -> Result<Self::Rows, NoDevice>
+        ensures told { IfOk result (λ rows. HasTold ((sees self.old).file path.now) (Self.Rows.left rows)) }
+        ensures unused { IfOk result (λ rows. Self.Rows.faults rows ≡ 0) }
+        ensures steady { IfOk result (λ _. sees self.new ≡ sees self.old) }
+        ensures cause { IfErr result (IsNoDevice (sees self.old) (sees self.new)) };
 
-    /// A clock, which has given no moment yet.
+    /// Takes a device of rows back. The count of such faults rises exactly where it had failed.
+    fn rows_back(&mut self, rows: Self::Rows)
+        ensures { GivenBack (Self.Rows.faults rows) (sees self.old) (sees self.new) };
+
+    /// How often it failed to open a device, up to the greatest u64. It never falls.
+    fn faults(&self) -> u64
+        ensures { result ≡ (sees self.now).faults };
+
+    /// How often a device of rows was given back that had failed, up to the greatest u64. It never falls.
+    fn rows_faults(&self) -> u64
+        ensures { result ≡ (sees self.now).rows_faults };
+
+    /// A clock, which is to give the list that is next, and has given no moment yet.
     fn clock(&mut self) -> Self::Clock
-        ensures moments { Self.Clock.moments result ≡ moments self.old }
-        ensures begins { Self.Clock.given result ≡ none_given (moments self.old) }
-        ensures words { words self.new ≡ words self.old };
+        ensures moments { Self.Clock.moments result ≡ next_list (sees self.old).moments }
+        ensures begins { Self.Clock.given result ≡ none_given (next_list (sees self.old).moments) }
+        ensures later { sees self.new ≡ clock_given (sees self.old) };
 
-    /// Entropy, which has given no word yet.
+    /// Entropy, which is to give the list that is next, and has given no word yet.
     fn entropy(&mut self) -> Self::Entropy
-        ensures words { Self.Entropy.words result ≡ words self.old }
-        ensures begins { Self.Entropy.given result ≡ none_given (words self.old) }
-        ensures moments { moments self.new ≡ moments self.old };
+        ensures words { Self.Entropy.words result ≡ next_list (sees self.old).words }
+        ensures begins { Self.Entropy.given result ≡ none_given (next_list (sees self.old).words) }
+        ensures later { sees self.new ≡ entropy_given (sees self.old) };
 
-    /// A gate.
+    /// A gate, which no work has reached yet.
     fn gate(&mut self) -> Self::Gate
-        ensures moments { moments self.new ≡ moments self.old }
-        ensures words { words self.new ≡ words self.old };
+        ensures begins { IsNoneReached (Self.Gate.reached result) }
+        ensures steady { sees self.new ≡ sees self.old };
 }
 
-/// A place in memory: its clock gives the moments of a list, and its entropy the words of one, which it tells beforehand.
+/// A file of a place in memory.
+#[derive(Drop)]
+pub struct MemoryFile {
+    path: String,
+    bytes: Vec<u8>,
+    failing: Vec<u64>,
+}
+
+impl Model for MemoryFile {
+    ghost use Rattle.std.specs.String.{string_bytes};
+    ghost use Rattle.site_cli.specs.Place.{File};
+
+    ghost Value = { File };
+
+    ghost view = { λ f. record { path = string_bytes f.path; bytes = f.bytes.items; failing = f.failing.items } };
+}
+
+impl MemoryFile {
+    /// The file of that path and those bytes. The reads with these numbers, from 1, are to fail.
+    pub fn new(path: String, bytes: Vec<u8>, failing: Vec<u64>) -> MemoryFile
+        ensures { result ≡ record { path = string_bytes path; bytes = bytes.items; failing = failing.items } }
+    {
+        MemoryFile {
+            path,
+            bytes,
+            failing,
+        }
+    }
+
+    /// A source of its bytes, of which none is read yet.
+    fn opened(&self, alloc: Global) -> Result<MemorySource, AllocError>
+        ensures { IfOk result (λ s. (s.left ≡ self.now.bytes) × (s.calls ≡ fresh self.now.failing)) }
+    {
+        let bytes = Vec::from_slice(alloc, self.bytes.as_slice())?;
+        let failing = Vec::from_slice(alloc, self.failing.as_slice())?;
+        Ok(MemorySource::new(bytes, PIECE).failing_at(failing))
+    }
+}
+
+/// A source of a file in memory gives at most so many bytes at once.
+const PIECE: usize = 4096;
+
+/// The first file of that path.
+fn file_at<'a>(files: &'a [MemoryFile], path: &str) -> Option<&'a MemoryFile>
+    ensures { option_map (λ f. f.now) result ≡ file_at files.now path.now }
+{
+    files.iter().find(|file| file.path.as_str() == path)
+}
+
+/// A place in memory: each clock gives the moments of its list, and each entropy the words of its list, and its files
+/// hold bytes in memory, all of which the place tells beforehand.
 #[derive(Drop)]
 pub struct MemoryPlace {
-    moments: Vec<u64>,
-    words: Vec<u64>,
+    moments: IntoIter<Vec<u64>>,
+    words: IntoIter<Vec<u64>>,
+    files: Vec<MemoryFile>,
+    failing: Vec<u64>,
+    opened: u64,
+    faults: u64,
+    rows_faults: u64,
     alloc: Global,
 }
 
 impl Model for MemoryPlace {
-    ghost use Rattle.site_cli.specs.Place.{Lists};
+    ghost use Rattle.std.specs.Prelude.{map};
+    ghost use Rattle.std.specs.Vec.Iter.{into_iter_items};
+    ghost use Rattle.site_cli.specs.Place.{Memory, numbers};
 
-    ghost Value = { Lists };
+    ghost Value = { Memory };
 
-    ghost view = { λ p. record { moments = p.moments.items; words = p.words.items } };
+    ghost view = { λ p. record { moments = map numbers (into_iter_items p.moments); words = map numbers (into_iter_items p.words); files = p.files.items; failing = p.failing.items; opened = p.opened; faults = p.faults; rows_faults = p.rows_faults } };
 }
 
 impl MemoryPlace {
-    /// The place whose first clock gives these moments, and whose first entropy gives these words. Those after them have
-    /// no list.
-    pub fn new(alloc: Global, moments: Vec<u64>, words: Vec<u64>) -> MemoryPlace
-        ensures { result ≡ record { moments = moments.items; words = words.items } }
+    /// The place whose clocks give these moments, one list each, in order, and whose entropies give these words. Those
+    /// past the last list have an empty one. It has no files, and nothing has failed yet.
+    pub fn new(alloc: Global, moments: Vec<Vec<u64>>, words: Vec<Vec<u64>>) -> MemoryPlace
+        ensures { result ≡ record { moments = map numbers moments.items; words = map numbers words.items; files = []; failing = []; opened = 0; faults = 0; rows_faults = 0 } }
     {
         MemoryPlace {
-            moments,
-            words,
+            moments: moments.into_iter(),
+            words: words.into_iter(),
+            files: Vec::new(alloc),
+            failing: Vec::new(alloc),
+            opened: 0,
+            faults: 0,
+            rows_faults: 0,
             alloc,
         }
+    }
+
+    /// The place with these files, and no others. Of two of one path the first counts.
+    pub fn with_files(self, files: Vec<MemoryFile>) -> MemoryPlace
+        ensures { result ≡ record self { files = files.items } }
+    {
+        MemoryPlace { files, ..self }
+    }
+
+    /// The openings with these numbers are to fail, counted from here on and from 1. The count stays at the greatest u64.
+    pub fn failing_at(self, failing: Vec<u64>) -> MemoryPlace
+        ensures { result ≡ record self { failing = failing.items; opened = 0 } }
+    {
+        MemoryPlace {
+            failing,
+            opened: 0,
+            ..self
+        }
+    }
+
+    /// Counts a fault of the place.
+    fn fault(&mut self) -> NoDevice
+        ensures counted { self.new ≡ record self.old { faults = up self.old.faults } }
+        ensures never_falls { self.old.faults ≤ self.new.faults }
+        ensures why { result ≡ why.Failed }
+    {
+        self.faults = self.faults.saturating_add(1);
+        NoDevice::Failed
     }
 }
 
@@ -82,22 +215,53 @@ impl Place for MemoryPlace {
 
     type Out = MemorySink;
 
+    type Rows = MemorySource;
+
     type Clock = ListClock;
 
     type Entropy = ListEntropy;
 
     type Gate = OpenGate;
 
-    ghost moments = { λ p. Some p.moments };
+    ghost sees = { memory_view };
 
-    ghost words = { λ p. Some p.words };
+    fn rows(&mut self, path: &str) -> Result<MemorySource, NoDevice> {
+        self.opened = self.opened.saturating_add(1);
+        if self.failing.contains(&self.opened) {
+            return Err(self.fault());
+        }
+        match file_at(self.files.as_slice(), path) {
+            Some(file) => Ok(file.opened(self.alloc)?),
+            None => Err(self.fault()),
+        }
+    }
+
+    fn rows_back(&mut self, rows: MemorySource) {
+        if rows.faults() > 0 {
+            self.rows_faults = self.rows_faults.saturating_add(1);
+        }
+    }
+
+    fn faults(&self) -> u64 {
+        self.faults
+    }
+
+    fn rows_faults(&self) -> u64 {
+        self.rows_faults
+    }
 
     fn clock(&mut self) -> ListClock {
-        ListClock::new(mem::replace(&mut self.moments, Vec::new(self.alloc)))
+        match self.moments.next() {
+            Some(list) => ListClock::new(list),
+            None => ListClock::new(Vec::new(self.alloc)),
+        }
     }
 
     fn entropy(&mut self) -> ListEntropy {
-        ListEntropy::new(mem::replace(&mut self.words, Vec::new(self.alloc)))
+        match self.words.next() {
+            Some(list) => ListEntropy::new(list),
+            None => ListEntropy::new(Vec::new(self.alloc)),
+        }
     }
 
     fn gate(&mut self) -> OpenGate {
@@ -105,16 +269,32 @@ impl Place for MemoryPlace {
     }
 }
 
-/// The place of the real program: the system's clock and entropy, and a gate that does nothing.
+/// The place of the real program: the system's clock and entropy, its files, and a gate that does nothing.
 #[derive(Drop)]
 pub struct SystemPlace {
     rt: HostRuntime,
+    faults: u64,
+    rows_faults: u64,
+}
+
+impl Model for SystemPlace {
+    ghost use Rattle.site_cli.specs.Place.{System};
+
+    ghost Value = { System };
+
+    ghost view = { λ p. record { faults = p.faults; rows_faults = p.rows_faults } };
 }
 
 impl SystemPlace {
-    /// The place of this runtime.
-    pub fn new(rt: HostRuntime) -> SystemPlace {
-        SystemPlace { rt }
+    /// The place of this runtime. Nothing has failed yet.
+    pub fn new(rt: HostRuntime) -> SystemPlace
+        ensures { result ≡ record { faults = 0; rows_faults = 0 } }
+    {
+        SystemPlace {
+            rt,
+            faults: 0,
+            rows_faults: 0,
+        }
     }
 }
 
@@ -123,15 +303,40 @@ impl Place for SystemPlace {
 
     type Out = Writing<Stdout>;
 
+    type Rows = Reading<File>;
+
     type Clock = SystemClock<HostRuntime>;
 
     type Entropy = SystemEntropy<HostRuntime>;
 
     type Gate = OpenGate;
 
-    ghost moments = { λ _. None };
+    ghost sees = { system_view };
 
-    ghost words = { λ _. None };
+    fn rows(&mut self, path: &str) -> Result<Reading<File>, NoDevice> {
+        match File::open(&self.rt, path) {
+            Ok(file) => Ok(Reading::new(file)),
+            Err(error) if error.kind() == ErrorKind::OutOfMemory => Err(NoDevice::OutOfMemory),
+            Err(_) => {
+                self.faults = self.faults.saturating_add(1);
+                Err(NoDevice::Failed)
+            }
+        }
+    }
+
+    fn rows_back(&mut self, rows: Reading<File>) {
+        if rows.faults() > 0 {
+            self.rows_faults = self.rows_faults.saturating_add(1);
+        }
+    }
+
+    fn faults(&self) -> u64 {
+        self.faults
+    }
+
+    fn rows_faults(&self) -> u64 {
+        self.rows_faults
+    }
 
     fn clock(&mut self) -> SystemClock<HostRuntime> {
         SystemClock::new(self.rt)

@@ -1,14 +1,15 @@
 //! What the program does.
-ghost use Rattle.std.specs.Prelude.{◌≡◌, ◌≤◌, ◌⊎◌, IfOk, map, true};
+ghost use Rattle.std.specs.Prelude.{◌≡◌, ◌≤◌, ◌⊎◌, IfOk, map};
 ghost use Rattle.std.specs.String.{string_bytes};
 ghost use Rattle.site_io.specs.Told.{after, AddsFront, Rose};
 ghost use Rattle.content_state.specs.SiteRules.{IsValidState};
-ghost use Rattle.site_cli.specs.Words.{is_replay, usage};
-ghost use Rattle.site_cli.specs.Run.{rows_of, starter_site, status_of, Runs, HasCause};
+ghost use Rattle.site_cli.specs.Words.{asked, usage};
+ghost use Rattle.site_cli.specs.Run.{rows_of, starter_site, status_of, HasCause, ReplaysFileOrStarves, ReplaysOrStarves, Runs};
 
 use crate::alone::Alone;
+use crate::load::{NoSite, load};
 use crate::place::Place;
-use crate::words::{Job, read_words};
+use crate::words::{Job, WordFault, read_words};
 use content_rows::{Cell, Row, starter};
 use content_state::{Rows, State};
 use site_http::serve_connection;
@@ -50,7 +51,7 @@ pub fn rows_of(alloc: Global, entries: Vec<(Cell, Row)>) -> Result<Rows, AllocEr
 {
     let mut rows = Rows::new(alloc);
     'entries: for (cell, row) in entries {
-        rows.set(cell, row)?;
+        rows.set(cell, Arc::new(alloc, row)?)?;
     }
     Ok(rows)
 }
@@ -65,38 +66,46 @@ pub fn starter_is_valid()
 fn starter_state(alloc: Global) -> Result<State, AllocError>
     ensures { IfOk result (λ s. s ≡ starter_site) }
 {
-    Ok(State {
-        rows: rows_of(alloc, starter(alloc)?)?,
-        counts: Counts::new(alloc),
-        number: 0,
-    })
+    let rows = rows_of(alloc, starter(alloc)?)?;
+    Ok(State::new(rows, Counts::new(alloc), 0))
 }
 
-/// The house of the starter site.
-fn starter_house(alloc: Global) -> Result<Alone, AllocError>
-    ensures { IfOk result (λ house. house ≡ starter_site) }
+/// Prints why the rows of a file are refused.
+fn refuse_rows<O: Sink>(output: &mut O, text: &[u8]) -> u8
+    ensures status { result ≡ 3 }
+    ensures printed { (O.written output.new ≡ after (O.written output.old) text.now) ⊎ (AddsFront (O.written output.old) (O.written output.new) text.now × Rose (O.faults output.old) (O.faults output.new)) }
+    ensures never_falls { O.faults output.old ≤ O.faults output.new }
 {
-    let state = Arc::new(alloc, starter_state(alloc)?)?;
-    Ok(Alone::new(state))
+    let _ = write_whole(output, text);
+    3
 }
 
-/// Answers one connection over the starter site.
-fn replay<P: Place>(
+/// Answers one connection over a site.
+fn connect<P: Place>(
     rt: &HostRuntime,
     alloc: Global,
+    state: State,
     place: &mut P,
     input: &mut P::In,
     output: &mut P::Out,
 ) -> u8
-    ensures runs { Runs true (P.moments place.old) (P.In.left input.old) (P.In.left input.new) (P.Out.written output.old) (P.Out.written output.new) (P.Out.faults output.old) (P.Out.faults output.new) result }
-    ensures cause { HasCause result (P.In.faults input.old) (P.In.faults input.new) (P.Out.faults output.old) (P.Out.faults output.new) }
+    requires { IsValidState state }
+    ensures does { ReplaysOrStarves state
+        (record { left = P.In.left input.old; written = P.Out.written output.old; reading = P.In.faults input.old; writing = P.Out.faults output.old; place = P.sees place.old })
+        (record { left = P.In.left input.new; written = P.Out.written output.new; reading = P.In.faults input.new; writing = P.Out.faults output.new; place = P.sees place.new })
+        result }
+    ensures cause { HasCause
+        (record { left = P.In.left input.old; written = P.Out.written output.old; reading = P.In.faults input.old; writing = P.Out.faults output.old; place = P.sees place.old })
+        (record { left = P.In.left input.new; written = P.Out.written output.new; reading = P.In.faults input.new; writing = P.Out.faults output.new; place = P.sees place.new })
+        result }
 {
+    let Ok(shared) = Arc::new(alloc, state) else {
+        return 9;
+    };
+    let mut house = Alone::new(shared);
     let mut clock = place.clock();
     let mut entropy = place.entropy();
     let mut gate = place.gate();
-    let Ok(mut house) = starter_house(alloc) else {
-        return 9;
-    };
     let ended = serve_connection(
         rt,
         alloc,
@@ -110,11 +119,63 @@ fn replay<P: Place>(
     status_of(ended)
 }
 
+/// Answers one connection over the starter site.
+fn replay<P: Place>(
+    rt: &HostRuntime,
+    alloc: Global,
+    place: &mut P,
+    input: &mut P::In,
+    output: &mut P::Out,
+) -> u8
+    ensures does { ReplaysOrStarves starter_site
+        (record { left = P.In.left input.old; written = P.Out.written output.old; reading = P.In.faults input.old; writing = P.Out.faults output.old; place = P.sees place.old })
+        (record { left = P.In.left input.new; written = P.Out.written output.new; reading = P.In.faults input.new; writing = P.Out.faults output.new; place = P.sees place.new })
+        result }
+    ensures cause { HasCause
+        (record { left = P.In.left input.old; written = P.Out.written output.old; reading = P.In.faults input.old; writing = P.Out.faults output.old; place = P.sees place.old })
+        (record { left = P.In.left input.new; written = P.Out.written output.new; reading = P.In.faults input.new; writing = P.Out.faults output.new; place = P.sees place.new })
+        result }
+{
+    match starter_state(alloc) {
+        Ok(state) => connect(rt, alloc, state, place, input, output),
+        Err(_) => 9,
+    }
+}
+
+/// Answers one connection over the site of the file of rows of that path.
+#[tactic(auto, using(crate::proofs::Loading::over_file, crate::proofs::Loading::one_rose))]
+fn replay_file<P: Place>(
+    rt: &HostRuntime,
+    alloc: Global,
+    path: &str,
+    place: &mut P,
+    input: &mut P::In,
+    output: &mut P::Out,
+) -> u8
+    ensures does { ReplaysFileOrStarves path.now
+        (record { left = P.In.left input.old; written = P.Out.written output.old; reading = P.In.faults input.old; writing = P.Out.faults output.old; place = P.sees place.old })
+        (record { left = P.In.left input.new; written = P.Out.written output.new; reading = P.In.faults input.new; writing = P.Out.faults output.new; place = P.sees place.new })
+        result }
+    ensures cause { HasCause
+        (record { left = P.In.left input.old; written = P.Out.written output.old; reading = P.In.faults input.old; writing = P.Out.faults output.old; place = P.sees place.old })
+        (record { left = P.In.left input.new; written = P.Out.written output.new; reading = P.In.faults input.new; writing = P.Out.faults output.new; place = P.sees place.new })
+        result }
+{
+    match load(alloc, place, path) {
+        Ok(state) => connect(rt, alloc, state, place, input, output),
+        Err(NoSite::Failed) => 7,
+        Err(NoSite::Refused(text)) => refuse_rows(output, text.as_slice()),
+        Err(NoSite::OutOfMemory) => 9,
+    }
+}
+
 /// Does what the words ask for, and answers the status of the program.
 ///
 /// 0: the connection was answered to its end. 2: the words are no command line, and how the program is called was
-/// printed. 5, 6: the input or the output failed, and its count of faults rose. 8: the connection was refused, or its
-/// input ended within a request. 9: memory was wanting.
+/// printed. 3: the rows of the file are refused, and the first fault was printed. 5, 6: the input or the output failed,
+/// and its count of faults rose. 7: the file of rows wasn't opened, or reading it failed, and one of the place's counts
+/// rose. 8: the connection was refused, or its input ended within a request. 9: memory was wanting. What the place gave
+/// to read the rows is given back.
 pub fn run_site<P: Place>(
     rt: &HostRuntime,
     alloc: Global,
@@ -123,11 +184,21 @@ pub fn run_site<P: Place>(
     input: &mut P::In,
     output: &mut P::Out,
 ) -> u8
-    ensures runs { Runs (is_replay (map string_bytes words.now)) (P.moments place.old) (P.In.left input.old) (P.In.left input.new) (P.Out.written output.old) (P.Out.written output.new) (P.Out.faults output.old) (P.Out.faults output.new) result }
-    ensures cause { HasCause result (P.In.faults input.old) (P.In.faults input.new) (P.Out.faults output.old) (P.Out.faults output.new) }
+    ensures runs { Runs (asked (map string_bytes words.now))
+        (record { left = P.In.left input.old; written = P.Out.written output.old; reading = P.In.faults input.old; writing = P.Out.faults output.old; place = P.sees place.old })
+        (record { left = P.In.left input.new; written = P.Out.written output.new; reading = P.In.faults input.new; writing = P.Out.faults output.new; place = P.sees place.new })
+        result }
+    ensures cause { HasCause
+        (record { left = P.In.left input.old; written = P.Out.written output.old; reading = P.In.faults input.old; writing = P.Out.faults output.old; place = P.sees place.old })
+        (record { left = P.In.left input.new; written = P.Out.written output.new; reading = P.In.faults input.new; writing = P.Out.faults output.new; place = P.sees place.new })
+        result }
 {
     match read_words(alloc, words) {
-        Ok(Job::Replay) => replay(rt, alloc, place, input, output),
-        Err(_) => refuse_words(output),
+        Ok(Job::Replay(None)) => replay(rt, alloc, place, input, output),
+        Ok(Job::Replay(Some(path))) => {
+            replay_file(rt, alloc, path.as_str(), place, input, output)
+        }
+        Err(WordFault::BadWords) => refuse_words(output),
+        Err(WordFault::OutOfMemory) => 9,
     }
 }

@@ -1,0 +1,33 @@
+-- Loading the site of a file of rows.
+use Rattle.std.specs.Prelude.{ℕ, List, ◌≡◌, ◌≢◌, ◌⊎◌, Option, Some}
+use Rattle.site_files.specs.Rows.{IsSiteFault}
+use Rattle.site_files.specs.declared.fault.ReadFault.{ReadFault}
+use Rattle.site_files.specs.declared.fault.ReadFault.TheVariants as why
+use Rattle.site_cli.specs.Place.{PlaceView, OpeningFails, RowsFail}
+use Rattle.site_cli.specs.declared.place.NoDevice.{NoDevice}
+use Rattle.site_cli.specs.declared.place.NoDevice.TheVariants as device
+use Rattle.site_cli.specs.Texts.{fault_text}
+use Rattle.site_cli.specs.declared.load.NoSite.{NoSite}
+use Rattle.site_cli.specs.declared.load.NoSite.TheVariants as none
+
+-- the text is that of the first fault of the rows
+pub record IsFaultText (bytes : Option (List ℕ)) (text : List ℕ) : Type 0 where
+  pub fault : ReadFault
+  pub is_fault : IsSiteFault bytes fault
+  pub says : fault_text fault ≡ Some text
+
+-- why no site was loaded of a file of these bytes
+abbrev pub IsNoSiteOf : Option (List ℕ) → PlaceView → PlaceView → NoSite → Type 0
+IsNoSiteOf bytes old new none.Failed = OpeningFails old new ⊎ RowsFail old new
+IsNoSiteOf bytes old new (none.Refused text) = (new ≡ old) × IsFaultText bytes text
+IsNoSiteOf bytes old new none.OutOfMemory = new ≡ old
+
+abbrev pub as_no_site : NoDevice → NoSite
+as_no_site device.Failed = none.Failed
+as_no_site device.OutOfMemory = none.OutOfMemory
+
+-- what a fault of the rows becomes; memory may always be wanting to say it
+abbrev pub Says : ReadFault → NoSite → Type 0
+Says fault none.Failed = fault ≡ why.Source
+Says fault (none.Refused text) = fault_text fault ≡ Some text
+Says fault none.OutOfMemory = fault ≢ why.Source

@@ -1,0 +1,14 @@
+//! What the program `site` does: what it is asked by its words, and the places that it works at.
+#![tactic(auto)]
+
+mod alone;
+mod load;
+mod place;
+mod run;
+mod texts;
+mod words;
+
+pub use alone::Alone;
+pub use place::{MemoryFile, MemoryPlace, NoDevice, Place, SystemPlace};
+pub use run::{refuse_words, rows_of, run_site, starter_is_valid};
+pub use words::{Job, WordFault, WordsFault, command_words, read_words, words_fault, words_of};
