@@ -1,0 +1,51 @@
+//! Texts of tags and contexts, and what two pieces of a page say together.
+
+use cacheability::{Cacheability, Context, MaxAge, Name, Tag};
+use std::alloc::{AllocError, Global};
+
+#[test]
+fn texts(rt: HostRuntime) {
+    let page = Name::new(b"page").expect(&rt, "a name");
+    let tags: [(Tag, &[u8]); 5] = [
+        (Tag::Role(page), b"config:user.role.page"),
+        (Tag::User(4_294_967_294), b"user:4294967294"),
+        (Tag::Node(0), b"node:0"),
+        (Tag::NodeListOf(page), b"node_list:page"),
+        (Tag::NotFound, b"4xx-response"),
+    ];
+    for (tag, text) in &tags {
+        let written = tag.text(rt.alloc()).expect(&rt, "memory");
+        assert!(rt; written.as_slice() == *text);
+    }
+    let trail = Context::MenuTrail(page);
+    let written = trail.text(rt.alloc()).expect(&rt, "memory");
+    assert!(rt; written.as_slice() == b"route.menu_active_trails:page".as_slice());
+    assert!(rt; Name::new(b"Page").is_err());
+}
+
+/// What is kept for a minute at most, and was made from these.
+fn made_from(alloc: Global, tags: &[Tag], age: MaxAge) -> Result<Cacheability, AllocError> {
+    let mut made = Cacheability::new(alloc);
+    for tag in tags {
+        made.add_tag(*tag)?;
+    }
+    made.limit_age(age);
+    Ok(made)
+}
+
+#[test]
+fn merged(rt: HostRuntime) {
+    let alloc = rt.alloc();
+    let minute = MaxAge::Seconds(60);
+    let one_tags = [Tag::NodeList, Tag::Node(10)];
+    let other_tags = [Tag::Node(9), Tag::Node(10)];
+    let mut one = made_from(alloc, &one_tags, minute).expect(&rt, "memory");
+    let mut other = made_from(alloc, &other_tags, MaxAge::Permanent).expect(&rt, "memory");
+    assert!(rt; other.add_context(Context::Session).is_ok());
+    assert!(rt; one.merge(alloc, &other).is_ok());
+    assert!(rt; one.tags() == [Tag::Node(10), Tag::Node(9), Tag::NodeList].as_slice());
+    assert!(rt; one.max_age() == minute);
+    assert!(rt; one.must_placehold());
+    let copy = one.duplicate(alloc).expect(&rt, "memory");
+    assert!(rt; copy.equals(&one) && !copy.equals(&other));
+}

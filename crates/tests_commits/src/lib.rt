@@ -1,0 +1,5 @@
+//! Tests of edits, by public calls alone.
+#![tactic(auto)]
+
+#[cfg(test)]
+mod edits;

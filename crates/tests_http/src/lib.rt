@@ -1,0 +1,9 @@
+//! Tests of what comes in and goes out, by public calls alone: requests and heads of replies, devices, and pieces of pages.
+#![tactic(auto)]
+
+#[cfg(test)]
+mod devices;
+#[cfg(test)]
+mod escaping;
+#[cfg(test)]
+mod requests;

@@ -1,0 +1,421 @@
+//! Texts of requests and heads of replies, by hand from RFC 9112 and the limits of the crate.
+
+use cacheability::Name;
+use http_heads::{
+    CookieOut, HeadRoom, Media, Octets, Parsed, ReplyHead, Request, Version, is_reply_status,
+    parse, parse_in, reply_head,
+};
+use std::alloc::{AllocError, Global};
+use std::test::Fail;
+
+/// What bytes begin with, without the request itself.
+#[derive(Clone, Copy, Debug, PartialEq, Eq)]
+enum Seen {
+    Whole(usize),
+    More,
+    Refused(u16),
+}
+
+fn seen_in(alloc: Global, bytes: &[u8], room: &mut HeadRoom) -> Result<Seen, AllocError> {
+    Ok(match parse_in(alloc, bytes, room)? {
+        Parsed::Whole(_, size) => Seen::Whole(size),
+        Parsed::More => Seen::More,
+        Parsed::Refused(code) => Seen::Refused(code),
+    })
+}
+
+/// A start, a piece repeated, and an end.
+fn repeated(
+    alloc: Global,
+    start: &[u8],
+    piece: &[u8],
+    count: usize,
+    end: &[u8],
+) -> Result<Vec<u8>, AllocError> {
+    let mut bytes = Vec::from_slice(alloc, start)?;
+    for _ in 0..count {
+        bytes.extend_from_slice(piece)?;
+    }
+    bytes.extend_from_slice(end)?;
+    Ok(bytes)
+}
+
+/// Requests that are whole, and the bytes that each takes.
+#[test]
+fn whole_requests(rt: HostRuntime) -> Result<(), Fail> {
+    let table: [(&[u8], Seen); 5] = [
+        (b"GET /node/1 HTTP/1.1\r\nHost: a\r\n\r\n", Seen::Whole(33)),
+        (b"GET / HTTP/1.0\n\n", Seen::Whole(16)),
+        (b"\r\n\n\r\nGET / HTTP/1.1\r\n\r\n", Seen::Whole(23)),
+        (
+            b"GET / HTTP/1.1\r\n\r\nGET / HTTP/1.1\r\n\r\n",
+            Seen::Whole(18),
+        ),
+        (
+            b"GET / HTTP/1.1\r\nContent-Length: 0000000002\r\n\r\nab",
+            Seen::Whole(48),
+        ),
+    ];
+    let mut room = HeadRoom::new(rt.alloc())?;
+    for (bytes, want) in &table {
+        let seen = seen_in(rt.alloc(), bytes, &mut room)?;
+        assert!(rt; seen == *want);
+    }
+    Ok(())
+}
+
+/// Bytes that more may make a request of.
+#[test]
+fn parts_of_requests(rt: HostRuntime) -> Result<(), Fail> {
+    let table: [(&[u8], Seen); 5] = [
+        (b"", Seen::More),
+        (b"GET /\xff\xfe", Seen::More),
+        (
+            b"GET / HTTP/1.1\r\nContent-Length: 1048576\r\n\r\n",
+            Seen::More,
+        ),
+        (
+            b"POST /node HTTP/1.1\r\nHost: a\r\nContent-Type: application/json\r\nContent-Length: 120\r\n\r\n",
+            Seen::More,
+        ),
+        (
+            b"POST /node HTTP/1.1\r\nHost: a\r\nContent-Type: application/json\r\nContent-Length: 120\r\n\r\n{\"fields\":{\"body\":\"Hi\"},\"title\":\"Nine\",\"",
+            Seen::More,
+        ),
+    ];
+    let mut room = HeadRoom::new(rt.alloc())?;
+    for (bytes, want) in &table {
+        let seen = seen_in(rt.alloc(), bytes, &mut room)?;
+        assert!(rt; seen == *want);
+    }
+    Ok(())
+}
+
+/// Bytes that nothing makes a request of.
+#[test]
+fn bytes_of_no_request(rt: HostRuntime) -> Result<(), Fail> {
+    let table: [(&[u8], Seen); 4] = [
+        (
+            b"GET http://a/ HTTP/1.1\r\nHost: a\r\n\r\n",
+            Seen::Refused(400),
+        ),
+        (b"\0\0", Seen::Refused(400)),
+        (b"GET / HTTP/2.0\r\n", Seen::Refused(400)),
+        (b"GET /\xff\xfe HTTP/1.1\r\n\r\n", Seen::Refused(400)),
+    ];
+    let mut room = HeadRoom::new(rt.alloc())?;
+    for (bytes, want) in &table {
+        let seen = seen_in(rt.alloc(), bytes, &mut room)?;
+        assert!(rt; seen == *want);
+    }
+    Ok(())
+}
+
+/// Lengths of bodies that are ill-formed, given twice or too great.
+#[test]
+fn lengths_that_are_refused(rt: HostRuntime) -> Result<(), Fail> {
+    let table: [(&[u8], Seen); 8] = [
+        (
+            b"GET / HTTP/1.1\r\nContent-Length: 1\r\ncontent-length: 1\r\n\r\n",
+            Seen::Refused(400),
+        ),
+        (
+            b"GET / HTTP/1.1\r\nContent-Length: 1048577\r\n\r\n",
+            Seen::Refused(413),
+        ),
+        (
+            b"GET x HTTP/1.1\r\nContent-Length: 1048577\r\n\r\n",
+            Seen::Refused(413),
+        ),
+        (
+            b"GET / HTTP/1.1\r\nContent-Length: 9999999999\r\n\r\n",
+            Seen::Refused(413),
+        ),
+        (
+            b"GET / HTTP/1.1\r\nContent-Length: 00000000002\r\n\r\n",
+            Seen::Refused(400),
+        ),
+        (
+            b"GET / HTTP/1.1\r\nContent-Length: +2\r\n\r\n",
+            Seen::Refused(400),
+        ),
+        (
+            b"GET / HTTP/1.1\r\nContent-Length:\r\n\r\n",
+            Seen::Refused(400),
+        ),
+        (
+            b"POST / HTTP/1.1\r\nTransfer-Encoding: chunked\r\nContent-Length: x\r\n\r\n",
+            Seen::Refused(501),
+        ),
+    ];
+    let mut room = HeadRoom::new(rt.alloc())?;
+    for (bytes, want) in &table {
+        let seen = seen_in(rt.alloc(), bytes, &mut room)?;
+        assert!(rt; seen == *want);
+    }
+    Ok(())
+}
+
+#[test]
+fn limits(rt: HostRuntime) -> Result<(), Fail> {
+    let alloc = rt.alloc();
+    let line: &[u8] = b"GET / HTTP/1.1\r\n";
+    let field: &[u8] = b"GET / HTTP/1.1\r\nA: ";
+    // a start, a piece and how often, an end
+    let table: [(&[u8], &[u8], usize, &[u8], Seen); 8] = [
+        (line, b"A:\n", 64, b"\r\n", Seen::Whole(210)),
+        (line, b"A:\n", 65, b"\r\n", Seen::Refused(431)),
+        (
+            line,
+            b"A:\n",
+            65,
+            b"Transfer-Encoding: b\r\n\r\n",
+            Seen::Refused(431),
+        ),
+        (field, b"b", 16_361, b"\r\n\r\n", Seen::Whole(16_384)),
+        (field, b"b", 16_362, b"\r\n\r\n", Seen::Refused(431)),
+        (field, b"b", 16_364, b"", Seen::More),
+        (field, b"b", 16_365, b"", Seen::Refused(431)),
+        (b"GET /", b"\xff", 16_379, b" ", Seen::Refused(431)),
+    ];
+    let mut room = HeadRoom::new(alloc)?;
+    for (start, piece, count, end, want) in &table {
+        let bytes = repeated(alloc, start, piece, *count, end)?;
+        let seen = seen_in(alloc, &bytes, &mut room)?;
+        assert!(rt; seen == *want);
+    }
+    Ok(())
+}
+
+#[test]
+fn every_cutting_of_a_request(rt: HostRuntime) -> Result<(), Fail> {
+    let alloc = rt.alloc();
+    let bytes: &[u8] =
+        b"POST /user/logout HTTP/1.1\r\nHost: a\r\nContent-Length: 4\r\nCookie: SESS=abc\r\n\r\nwxyz";
+    let mut room = HeadRoom::new(alloc)?;
+    assert!(rt; bytes.len() == 80);
+    for (at, _) in bytes.iter().enumerate() {
+        let seen = seen_in(alloc, &bytes[..at], &mut room)?;
+        assert!(rt; seen == Seen::More);
+    }
+    let seen = seen_in(alloc, bytes, &mut room)?;
+    assert!(rt; seen == Seen::Whole(80));
+    Ok(())
+}
+
+/// The request that bytes begin with, and its length.
+fn request_in(alloc: Global, bytes: &[u8]) -> Result<Option<(Request, usize)>, AllocError> {
+    Ok(match parse(alloc, bytes)? {
+        Parsed::Whole(request, size) => Some((request, size)),
+        _ => None,
+    })
+}
+
+/// Whether a field is there and is that.
+fn is_there(field: &Option<Octets>, want: &[u8]) -> bool {
+    match field {
+        Some(text) => text.as_slice() == want,
+        None => false,
+    }
+}
+
+#[test]
+fn the_parts_of_a_request(rt: HostRuntime) -> Result<(), Fail> {
+    let bytes: &[u8] =
+        b"PATCH /a%20b?c=%41&d? HTTP/1.1\r\nContent-Type: \t text/plain \r\ncontent-type: x\r\nX-CSRF-Token: t1\r\nx-csrf-token: t2\r\nContent-Length: 2\r\n\r\nhi and more";
+    let (request, size) = request_in(rt.alloc(), bytes)?.ok_or("no request")?;
+    assert!(rt; size == bytes.len() - 9);
+    assert!(rt; request.method.as_slice() == b"PATCH".as_slice());
+    assert!(rt; request.target.as_slice() == b"/a%20b?c=%41&d?".as_slice());
+    assert!(rt; request.path.as_slice() == b"/a b".as_slice());
+    assert!(rt; request.query.as_slice() == b"c=%41&d?".as_slice());
+    assert!(rt; request.version == Version::Http11);
+    assert!(rt; !request.closes);
+    assert!(rt; is_there(&request.content_type, b"text/plain"));
+    assert!(rt; is_there(&request.csrf, b"t1"));
+    assert!(rt; request.session.is_none());
+    assert!(rt; request.body.into_vec().as_slice() == b"hi".as_slice());
+    Ok(())
+}
+
+/// Whether a request for `/` with this version and these fields closes or not, and has this session, empty for none.
+fn closes_with(
+    alloc: Global,
+    fields: &[u8],
+    closes: bool,
+    session: &[u8],
+) -> Result<bool, AllocError> {
+    let mut bytes = Vec::from_slice(alloc, b"GET / HTTP/")?;
+    bytes.extend_from_slice(fields)?;
+    bytes.extend_from_slice(b"\r\n")?;
+    Ok(match request_in(alloc, &bytes)? {
+        Some((request, _)) => request.closes == closes && is_session(&request.session, session),
+        None => false,
+    })
+}
+
+/// Whether a session is that one, empty for none.
+fn is_session(found: &Option<Name>, session: &[u8]) -> bool {
+    match found {
+        Some(name) => name.as_bytes() == session,
+        None => session.is_empty(),
+    }
+}
+
+#[test]
+fn closing(rt: HostRuntime) -> Result<(), Fail> {
+    // the version and the fields; whether the request closes
+    let table: [(&[u8], bool); 5] = [
+        (b"1.1\r\n", false),
+        (b"1.0\r\n", true),
+        (b"1.1\r\nConnection: keep-alive, Close\r\n", true),
+        (
+            b"1.1\r\nconnection: keep-alive\r\nCONNECTION:close\r\n",
+            true,
+        ),
+        (b"1.1\r\nConnection: closed, un close\r\n", false),
+    ];
+    for (fields, closes) in &table {
+        assert!(rt; closes_with(rt.alloc(), fields, *closes, b"")?);
+    }
+    Ok(())
+}
+
+#[test]
+fn sessions(rt: HostRuntime) -> Result<(), Fail> {
+    // the version and the fields; the session, empty for none
+    let table: [(&[u8], &[u8]); 10] = [
+        (b"1.1\r\nCookie: SESS=abc\r\n", b"abc"),
+        (b"1.1\r\ncookie: a=b; SESS=abc\r\n", b"abc"),
+        (b"1.1\r\nCookie: a=b;\tSESS=abc \t;SESS=x\r\n", b"abc"),
+        (b"1.1\r\nCookie: SESS=ABC; SESS=abc\r\n", b""),
+        (b"1.1\r\nCookie: SESS=-\r\nCookie: SESS=abc\r\n", b""),
+        (b"1.1\r\nCookie: a=b\r\nCookie: SESS=abc\r\n", b"abc"),
+        (b"1.1\r\nCookie: sess=abc; SESSION=abc\r\n", b""),
+        (b"1.1\r\nCookie: SESS =abc\r\n", b""),
+        (b"1.1\r\nCookie: SESS=\r\n", b""),
+        (b"1.1\r\nX-Cookie: SESS=abc\r\n", b""),
+    ];
+    for (fields, session) in &table {
+        assert!(rt; closes_with(rt.alloc(), fields, false, session)?);
+    }
+    Ok(())
+}
+
+/// The head of a reply in JSON with no more fields.
+fn plain(status: u16) -> ReplyHead {
+    ReplyHead {
+        status,
+        media: Media::Json,
+        length: None,
+        location: None,
+        cookie: CookieOut::Nothing,
+        allow: false,
+        state: None,
+        close: false,
+    }
+}
+
+#[test]
+fn heads_of_replies(rt: HostRuntime) -> Result<(), Fail> {
+    let alloc = rt.alloc();
+    let token = Name::new(b"00000000000000030000000000000004")
+        .ok()
+        .ok_or("no name")?;
+    let table: [(ReplyHead, &[u8]); 5] = [
+        (
+            ReplyHead {
+                media: Media::Html,
+                length: Some(258),
+                state: Some(0),
+                ..plain(200)
+            },
+            b"HTTP/1.1 200 OK\r\nContent-Type: text/html; charset=UTF-8\r\nContent-Length: 258\r\nX-Site-State: 0\r\n\r\n",
+        ),
+        (
+            ReplyHead {
+                media: Media::Html,
+                length: Some(0),
+                location: Some(2),
+                cookie: CookieOut::Set(token),
+                state: Some(18_446_744_073_709_551_615),
+                ..plain(303)
+            },
+            b"HTTP/1.1 303 See Other\r\nContent-Type: text/html; charset=UTF-8\r\nContent-Length: 0\r\nLocation: /user/2\r\nSet-Cookie: SESS=00000000000000030000000000000004; Path=/; HttpOnly; SameSite=Lax\r\nX-Site-State: 18446744073709551615\r\n\r\n",
+        ),
+        (
+            ReplyHead {
+                length: Some(11),
+                cookie: CookieOut::Clear,
+                state: Some(7),
+                ..plain(200)
+            },
+            b"HTTP/1.1 200 OK\r\nContent-Type: application/json\r\nContent-Length: 11\r\nSet-Cookie: SESS=; Path=/; Max-Age=0\r\nX-Site-State: 7\r\n\r\n",
+        ),
+        (
+            ReplyHead {
+                length: Some(17),
+                allow: true,
+                state: Some(1),
+                close: true,
+                ..plain(405)
+            },
+            b"HTTP/1.1 405 Method Not Allowed\r\nContent-Type: application/json\r\nContent-Length: 17\r\nAllow: GET, POST, PATCH, DELETE\r\nX-Site-State: 1\r\nConnection: close\r\n\r\n",
+        ),
+        (
+            plain(503),
+            b"HTTP/1.1 503 Service Unavailable\r\nContent-Type: application/json\r\n\r\n",
+        ),
+    ];
+    for (head, want) in &table {
+        assert!(rt; is_reply_status(head.status));
+        let mut out = Vec::from_slice(alloc, b"before")?;
+        reply_head(alloc, &mut out, head)?;
+        assert!(rt; out.as_slice().starts_with(b"before"));
+        assert!(rt; out.as_slice().ends_with(want));
+        assert_eq!(rt; out.len(), want.len() + 6);
+    }
+    Ok(())
+}
+
+/// Whether a status is one that replies have, and this phrase follows it in a head.
+fn has_phrase(alloc: Global, status: u16, phrase: &[u8]) -> Result<bool, AllocError> {
+    let head = plain(status);
+    if !is_reply_status(head.status) {
+        return Ok(false);
+    }
+    let mut out = Vec::new(alloc);
+    reply_head(alloc, &mut out, &head)?;
+    let end: &[u8] = b"\r\nContent-Type: application/json\r\n\r\n";
+    let tail = out.as_slice().split_at(13.min(out.len())).1;
+    Ok(match tail.strip_suffix(end) {
+        Some(between) => between == phrase,
+        None => false,
+    })
+}
+
+#[test]
+fn phrases(rt: HostRuntime) -> Result<(), Fail> {
+    let table: [(u16, &[u8]); 15] = [
+        (200, b"OK"),
+        (201, b"Created"),
+        (303, b"See Other"),
+        (400, b"Bad Request"),
+        (403, b"Forbidden"),
+        (404, b"Not Found"),
+        (405, b"Method Not Allowed"),
+        (409, b"Conflict"),
+        (413, b"Payload Too Large"),
+        (415, b"Unsupported Media Type"),
+        (422, b"Unprocessable Entity"),
+        (431, b"Request Header Fields Too Large"),
+        (501, b"Not Implemented"),
+        (503, b"Service Unavailable"),
+        (507, b"Insufficient Storage"),
+    ];
+    for (status, phrase) in &table {
+        assert!(rt; has_phrase(rt.alloc(), *status, phrase)?);
+    }
+    assert!(rt; !is_reply_status(204));
+    Ok(())
+}

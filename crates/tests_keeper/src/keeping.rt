@@ -1,0 +1,138 @@
+//! What a keeper in memory holds as it is made, once a batch is kept, and where calls fail.
+ghost use Rattle.std.specs.Prelude.{◌≡◌, [], ◌∷◌, IfOk};
+ghost use Rattle.cacheability.specs.declared.tag.Tag.TheVariants as tag;
+
+use cacheability::Tag;
+use content_rows::{Cell, Items, Row, Seq, starter};
+use content_state::{Commit, Rows, Write};
+use site_keeper::{Batch, Fail, Keeper, KeeperFault, MemoryKeeper, Stored};
+use std::alloc::{AllocError, Global};
+use std::sync::Arc;
+use tag_counts::Counts;
+
+fn sendable<T: Send + Sync>(_: &T) {}
+
+// The rows that a site begins with.
+fn rows(alloc: Global) -> Result<Rows, AllocError> {
+    let mut rows = Rows::new(alloc);
+    for (cell, row) in starter(alloc)? {
+        if rows.set(cell, Arc::new(alloc, row)?).is_err() {
+            return Err(AllocError);
+        }
+    }
+    Ok(rows)
+}
+
+// A site as it begins.
+fn stored(alloc: Global) -> Result<Stored, AllocError>
+    ensures { IfOk result (λ stored. stored.counts ≡ []) }
+{
+    Ok(Stored {
+        rows: rows(alloc)?,
+        counts: Counts::new(alloc),
+        head: 0,
+    })
+}
+
+fn keeper(alloc: Global, fails: &[Fail]) -> Result<MemoryKeeper, AllocError>
+    ensures { IfOk result (λ keeper. keeper.kept.made_of.counts ≡ [] × (keeper.kept.batches ≡ [])) }
+{
+    let stored = stored(alloc)?;
+    let fails = Vec::from_slice(alloc, fails)?;
+    Ok(MemoryKeeper::new(alloc, stored, fails))
+}
+
+// An edit by which the next node is 3, and the user 1 is gone.
+fn commit(alloc: Global) -> Result<Commit, AllocError> {
+    let seq = Row::Seq(Seq {
+        node: 3,
+        term: 1,
+        user: 2,
+    });
+    let next = Write {
+        cell: Cell::Seq,
+        row: Some(Arc::new(alloc, seq)?),
+    };
+    let gone = Write {
+        cell: Cell::User(1),
+        row: None,
+    };
+    Ok(Commit {
+        writes: Items::from_vec(vec![in alloc; next, gone]?),
+        extra: Items::none(alloc),
+        pass: 1,
+    })
+}
+
+fn batch(alloc: Global) -> Result<Batch, AllocError>
+    ensures { IfOk result (λ batch. batch.counts ≡ (tag.NodeList, 1) ∷ []) }
+{
+    let commit = Arc::new(alloc, commit(alloc)?)?;
+    Ok(Batch {
+        commit,
+        counts: Items::one(alloc, (Tag::NodeList, 1))?,
+        head: 1,
+    })
+}
+
+// The id of the next node.
+fn next_node(stored: &Stored) -> Option<u32> {
+    match stored.rows.get(Cell::Seq) {
+        Some(Row::Seq(seq)) => Some(seq.node),
+        _ => None,
+    }
+}
+
+// Whether all of the batch is there, or nothing of it.
+fn is_as(stored: &Stored, kept: bool) -> bool {
+    let (node, count, head) = if kept { (3, 1, 1) } else { (2, 0, 0) };
+    next_node(stored) == Some(node)
+        && stored.rows.get(Cell::User(1)).is_some() != kept
+        && stored.counts.count(&Tag::NodeList) == count
+        && stored.counts.count(&Tag::Site) == 0
+        && stored.head == head
+}
+
+#[test]
+fn a_batch_is_kept(rt: HostRuntime) {
+    let alloc = rt.alloc();
+    let mut keeper = keeper(alloc, &[]).expect(&rt, "memory");
+    let batch = batch(alloc).expect(&rt, "memory");
+    sendable(&keeper);
+    sendable(&batch);
+    let first = keeper.load(alloc).expect(&rt, "it doesn't fail");
+    assert!(rt; is_as(&first, false));
+    assert!(rt; keeper.head(alloc) == Ok(0));
+    assert!(rt; keeper.apply(alloc, &batch) == Ok(()));
+    assert!(rt; keeper.head(alloc) == Ok(1));
+    let then = keeper.load(alloc).expect(&rt, "it doesn't fail");
+    assert!(rt; is_as(&then, true));
+    assert!(rt; keeper.faults() == 0);
+}
+
+#[test]
+fn an_apply_fails(rt: HostRuntime) {
+    let alloc = rt.alloc();
+    for (kept, head) in [(true, 1), (false, 0)] {
+        let mut keeper = keeper(alloc, &[Fail { call: 1, kept }]).expect(&rt, "memory");
+        let batch = batch(alloc).expect(&rt, "memory");
+        assert!(rt; keeper.apply(alloc, &batch) == Err(KeeperFault::Failed));
+        assert!(rt; keeper.faults() == 1);
+        assert!(rt; keeper.head(alloc) == Ok(head));
+        let stored = keeper.load(alloc).expect(&rt, "it doesn't fail");
+        assert!(rt; is_as(&stored, kept));
+        assert!(rt; keeper.faults() == 1);
+    }
+}
+
+#[test]
+fn other_calls_fail(rt: HostRuntime) {
+    let alloc = rt.alloc();
+    let fails = [1, 3].map(|call| Fail { call, kept: false });
+    let mut keeper = keeper(alloc, &fails).expect(&rt, "memory");
+    assert!(rt; keeper.load(alloc).is_err());
+    assert!(rt; keeper.head(alloc) == Ok(0));
+    assert!(rt; keeper.head(alloc) == Err(KeeperFault::Failed));
+    assert!(rt; keeper.load(alloc).is_ok());
+    assert!(rt; keeper.faults() == 2);
+}

@@ -1,0 +1,5 @@
+//! Tests of passwords, by public calls alone.
+#![tactic(auto)]
+
+#[cfg(test)]
+mod passwords;

@@ -1,0 +1,5 @@
+//! Tests of the program by its words, by public calls alone.
+#![tactic(auto)]
+
+#[cfg(test)]
+mod program;

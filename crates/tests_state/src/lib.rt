@@ -1,0 +1,5 @@
+//! Tests of states, by public calls alone.
+#![tactic(auto)]
+
+#[cfg(test)]
+mod states;
