@@ -1,0 +1,43 @@
+#!/bin/sh
+# Measures the program: reading 100,000 rows, and building the pages of a site with 10,000 nodes, 500 of them listed.
+# Needs crates/site/out/site (`rt run` in crates/site makes it), python3, and valgrind for the counts of instructions.
+set -e
+here=$(cd "$(dirname "$0")" && pwd)
+site=$here/../crates/site/out/site
+work=$(mktemp -d)
+trap 'rm -rf "$work"' EXIT
+
+# asks PATH COUNT: so many requests for the path
+asks() {
+    python3 -c 'import sys; sys.stdout.write("GET %s HTTP/1.1\r\nHost: a\r\n\r\n" % sys.argv[1] * int(sys.argv[2]))' "$1" "$2"
+}
+
+# timed NAME ROWS PATH COUNT: seconds of processor time and the greatest resident size of one run
+timed() {
+    asks "$3" "$4" >"$work/in"
+    python3 - "$1" "$site" "$2" "$work/in" <<'PYTHON'
+import resource, subprocess, sys
+name, site, rows, asked = sys.argv[1:]
+with open(asked, "rb") as requests:
+    done = subprocess.run([site, "replay", rows], stdin=requests, stdout=subprocess.PIPE)
+used = resource.getrusage(resource.RUSAGE_CHILDREN)
+print(f"{name}: status {done.returncode}, {len(done.stdout)} bytes, {used.ru_utime + used.ru_stime:.2f} s, {used.ru_maxrss // 1024} MiB")
+PYTHON
+}
+
+# counted NAME ROWS PATH COUNT: instructions of one run
+counted() {
+    asks "$3" "$4" >"$work/in"
+    valgrind --tool=callgrind --callgrind-out-file=/dev/null "$site" replay "$2" <"$work/in" 2>&1 >/dev/null |
+        sed -n "s/.*Collected : /$1: instructions /p"
+}
+
+python3 "$here/rows.py" 99993 10 >"$work/rows"
+python3 "$here/rows.py" 9993 500 >"$work/listed"
+timed "100,000 rows, one page" "$work/rows" /node/1 1
+timed "10,000 rows, one page" "$work/listed" /node/1 1
+timed "10,000 rows, listing once" "$work/listed" /node 1
+timed "10,000 rows, listing 101 times" "$work/listed" /node 101
+counted "10,000 rows, one page" "$work/listed" /node/1 1
+counted "10,000 rows, listing once" "$work/listed" /node 1
+counted "10,000 rows, listing twice" "$work/listed" /node 2
