@@ -1,5 +1,5 @@
 #!/bin/sh
-# Measures the program: reading 100,000 rows, and building the pages of a site with 10,000 nodes, 500 of them listed.
+# Measures the program: reading rows, and building the pages of sites with 10,000 and 20,000 rows, 500 of them listed nodes.
 # Needs crates/site/out/site (`rt run` in crates/site makes it), python3, and valgrind for the counts of instructions.
 set -e
 here=$(cd "$(dirname "$0")" && pwd)
@@ -32,12 +32,18 @@ counted() {
         sed -n "s/.*Collected : /$1: instructions /p"
 }
 
-python3 "$here/rows.py" 99993 10 >"$work/rows"
-python3 "$here/rows.py" 9993 500 >"$work/listed"
-timed "100,000 rows, one page" "$work/rows" /node/1 1
-timed "10,000 rows, one page" "$work/listed" /node/1 1
-timed "10,000 rows, listing once" "$work/listed" /node 1
-timed "10,000 rows, listing 101 times" "$work/listed" /node 101
-counted "10,000 rows, one page" "$work/listed" /node/1 1
-counted "10,000 rows, listing once" "$work/listed" /node 1
-counted "10,000 rows, listing twice" "$work/listed" /node 2
+python3 "$here/rows.py" 99993 10 >"$work/rows100"
+python3 "$here/rows.py" 9993 500 >"$work/rows10"
+python3 "$here/rows.py" 19993 500 >"$work/rows20"
+timed "100,000 rows, one page" "$work/rows100" /node/1 1
+timed "10,000 rows, one page" "$work/rows10" /node/1 1
+timed "10,000 rows, listing once" "$work/rows10" /node 1
+timed "10,000 rows, listing 101 times" "$work/rows10" /node 101
+counted "10,000 rows, no page" "$work/rows10" /node 0
+counted "10,000 rows, one page" "$work/rows10" /node/1 1
+counted "10,000 rows, listing once" "$work/rows10" /node 1
+counted "10,000 rows, listing twice" "$work/rows10" /node 2
+counted "20,000 rows, no page" "$work/rows20" /node 0
+counted "20,000 rows, listing once" "$work/rows20" /node 1
+counted "20,000 rows, listing twice" "$work/rows20" /node 2
+counted "100,000 rows, one page" "$work/rows100" /node/1 1
