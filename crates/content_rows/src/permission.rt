@@ -5,7 +5,7 @@ use crate::text::{Items, Text};
 
 /// What a viewer is permitted to do.
 /// <https://www.drupal.org/docs/user_guide/en/user-concept.html>
-#[derive(Drop, Debug)]
+#[derive(Drop)]
 pub enum Permissions {
     /// Everything: user 1, and every holder of a role marked admin.
     All,
@@ -14,7 +14,7 @@ pub enum Permissions {
 }
 
 /// Which nodes' grant records let a viewer view them.
-#[derive(Drop, Debug)]
+#[derive(Drop)]
 pub enum ViewGrants {
     /// Every node: access to nodes is bypassed.
     All,

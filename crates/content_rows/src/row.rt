@@ -5,7 +5,7 @@ use cacheability::Name;
 use std::cmp::Ordering;
 
 /// The settings of the site.
-#[derive(Drop, Debug)]
+#[derive(Drop)]
 pub struct Site {
     /// The path that `/` shows: a target that is no bare `/`.
     pub front: Text,
@@ -14,7 +14,7 @@ pub struct Site {
 }
 
 /// The next ids to give, each from 1 to 4,294,967,295; at the last there is none left.
-#[derive(Drop, Debug)]
+#[derive(Drop)]
 pub struct Seq {
     /// The id of the next node.
     pub node: u32,
@@ -25,7 +25,7 @@ pub struct Seq {
 }
 
 /// A field that the nodes of a content type have.
-#[derive(Drop, Debug)]
+#[derive(Drop)]
 pub struct FieldRow {
     /// The permission that editing it takes, if any.
     pub edit: Option<Text>,
@@ -43,7 +43,7 @@ pub struct FieldRow {
 
 /// A content type.
 /// <https://www.drupal.org/docs/user_guide/en/planning-data-types.html>
-#[derive(Drop, Debug)]
+#[derive(Drop)]
 pub struct NodeType {
     /// Its fields in the order in which they are shown: at most 32, names distinct.
     pub fields: Items<FieldRow>,
@@ -89,7 +89,7 @@ impl Grant {
 
 /// A role.
 /// <https://www.drupal.org/docs/user_guide/en/user-concept.html>
-#[derive(Drop, Debug)]
+#[derive(Drop)]
 pub struct Role {
     /// Whether its holders have every permission.
     pub admin: bool,
@@ -102,7 +102,7 @@ pub struct Role {
 }
 
 /// A user.
-#[derive(Drop, Debug)]
+#[derive(Drop)]
 pub struct User {
     /// When it was made, in seconds since 1970.
     pub created: u64,
@@ -124,7 +124,7 @@ pub struct User {
 
 /// A taxonomy term.
 /// <https://www.drupal.org/docs/user_guide/en/structure-taxonomy.html>
-#[derive(Drop, Debug)]
+#[derive(Drop)]
 pub struct Term {
     /// What it means: a text.
     pub description: Text,
@@ -137,7 +137,7 @@ pub struct Term {
 }
 
 /// The value of a node's field.
-#[derive(Drop, Debug)]
+#[derive(Drop)]
 pub struct FieldValue {
     /// The field's machine name.
     pub name: Name,
@@ -162,7 +162,7 @@ pub struct GrantRow {
 }
 
 /// A node: one piece of content.
-#[derive(Drop, Debug)]
+#[derive(Drop)]
 pub struct Node {
     /// When it was last changed, in seconds since 1970.
     pub changed: u64,
@@ -197,7 +197,7 @@ pub struct Node {
 }
 
 /// A link of a menu.
-#[derive(Drop, Debug)]
+#[derive(Drop)]
 pub struct Link {
     /// Its name within the menu.
     pub id: Name,
@@ -213,7 +213,7 @@ pub struct Link {
 
 /// A menu.
 /// <https://www.drupal.org/docs/user_guide/en/menu-concept.html>
-#[derive(Drop, Debug)]
+#[derive(Drop)]
 pub struct Menu {
     /// What people call it, a line of at most 255 bytes.
     pub label: Text,
@@ -223,7 +223,7 @@ pub struct Menu {
 
 /// A listing: nodes of some kind, newest first, ten a page.
 /// <https://www.drupal.org/docs/user_guide/en/views-concept.html>
-#[derive(Drop, Debug)]
+#[derive(Drop)]
 pub struct Listing {
     /// How long it may be shown once built, in seconds; none exactly where `recent` is none.
     pub age: Option<u32>,
@@ -271,7 +271,7 @@ pub enum Region {
 
 /// A placed block.
 /// <https://www.drupal.org/docs/user_guide/en/block-concept.html>
-#[derive(Drop, Debug)]
+#[derive(Drop)]
 pub struct Block {
     /// How long a clock may be shown once built, in seconds; none for every other kind.
     pub age: Option<u32>,
@@ -296,7 +296,7 @@ pub struct Block {
 }
 
 /// A session: who a token is logged in as.
-#[derive(Drop, Debug)]
+#[derive(Drop)]
 pub struct Session {
     /// When it ends, in seconds since 1970.
     pub expires: u64,
@@ -305,7 +305,7 @@ pub struct Session {
 }
 
 /// A row of any kind.
-#[derive(Drop, Debug)]
+#[derive(Drop)]
 pub enum Row {
     /// The settings of the site.
     Site(Site),

@@ -102,7 +102,7 @@ impl Ord for Text {
 }
 
 /// A list in a row.
-#[derive(Drop, Debug)]
+#[derive(Drop)]
 pub struct Items<T: Drop> {
     items: Vec<T>,
 }

@@ -1,6 +1,6 @@
 -- The search for the first fault finds the first, and none only where there is none.
 use Rattle.std.proofs.Common.{IsTrue, ◌↔◌, ◌∙◌, ℕ, List, [], ◌∷◌, ◌≡◌, ◌⊎◌, inl, inr, true, false, refl, sym, ap, subst}
-use Rattle.std.specs.Prelude.{Bool, Option, Some, None, ◌||◌, ◌&&◌, is_none, is_some, not, option_and_then}
+use Rattle.std.specs.Prelude.{Option, Some, None, ◌||◌, ◌&&◌, is_none, option_and_then}
 use Rattle.std.specs.Option.{option_or, MatchOption}
 use Rattle.std.specs.List.{AllByRecursion}
 use Rattle.std.specs.List.Sorted.{IsStrictlySortedBy}

@@ -4,9 +4,9 @@ use Rattle.content_state.specs.declared.element.Hole.{Hole}
 use Rattle.content_state.specs.declared.element.Library.{Library}
 use Rattle.content_state.specs.Read.{answer}
 use Rattle.content_state.specs.Context.{Visit, value}
-use Rattle.content_state.specs.Plan.{Piece, Byte, Place, bytes, Plan, Done, Write, Attach, Reading, Asking, Clock, Part, ◌>>◌, Needs, Made}
+use Rattle.content_state.specs.Plan.{Piece, Byte, bytes, Plan, Done, Write, Attach, Reading, Asking, Clock, Part, ◌>>◌, Needs, Made}
 use Rattle.content_state.proofs.Made.{Made-then}
-use Rattle.content_state.specs.Places.{Filling, at_place, filled_in, open_places, FillsPlace, Fills, SameMembers, MakesWhole}
+use Rattle.content_state.specs.Places.{Filling, at_place, filled_in, FillsPlace, Fills, SameMembers, MakesWhole}
 
 pub in_append : {A : Type 0} (xs ys : List A) (x : A) → Contains (xs ++ ys) x → Contains xs x ⊎ Contains ys x
 in_append [] ys x h = inr h

@@ -1,7 +1,11 @@
+pub mod Crossing
 pub mod Faults
 pub mod Filled
+pub mod Literal
 pub mod Made
+pub mod Matched
 pub mod Meets
+pub mod Named
 pub mod RightRows
 pub mod SeenRows
 pub mod There

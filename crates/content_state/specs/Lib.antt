@@ -3,6 +3,7 @@ pub mod Write
 pub mod Rows
 pub mod Ask
 pub mod Route
+pub mod Forms
 pub mod There
 pub mod Read
 pub mod Viewer

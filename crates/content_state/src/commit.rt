@@ -6,7 +6,7 @@ use std::marker::Model;
 use std::sync::Arc;
 
 /// One cell, and the row that it gets; none removes the row. Contracts see the row, and not who shares it.
-#[derive(Drop, Debug)]
+#[derive(Drop)]
 pub struct Write {
     pub cell: Cell,
     pub row: Option<Arc<Row>>,
@@ -24,7 +24,7 @@ impl Model for Write {
 
 /// An accepted edit: its writes, to distinct cells, the tags that it invalidates besides, and the number of the pass
 /// that made it.
-#[derive(Drop, Debug)]
+#[derive(Drop)]
 pub struct Commit {
     pub writes: Items<Write>,
     pub extra: Items<Tag>,

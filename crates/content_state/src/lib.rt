@@ -5,12 +5,14 @@
 mod ask;
 mod commit;
 mod element;
+mod forms;
 mod laws;
 mod route;
 mod rows;
 mod seen;
 mod site_rules;
 mod state;
+mod threads;
 
 pub use ask::{Ask, Viewer};
 pub use commit::{Commit, Write};
@@ -22,3 +24,4 @@ pub use site_rules::{
     NotASite, Numbered, Refusal, Refused, SiteField, SiteRule, Unique, has_text, text_of,
 };
 pub use state::State;
+pub use threads::states_go_between_threads;

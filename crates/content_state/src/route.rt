@@ -3,10 +3,9 @@ ghost use Rattle.std.specs.Prelude.{◌≡◌, ◌≢◌, IfOk};
 ghost use Rattle.std.specs.List.{find};
 ghost use Rattle.std.specs.Option.{option_copied, option_map};
 ghost use Rattle.content_state.specs.Rows.{entry_of};
+ghost use Rattle.content_state.specs.Forms.{led_by, tags_by};
 ghost use Rattle.content_state.specs.Route.{
-  id_after,
   meant,
-  led_to,
   node_route,
   term_route,
   user_route,
@@ -14,16 +13,16 @@ ghost use Rattle.content_state.specs.Route.{
   cell_route,
   cell_with,
   route_of,
-  route_tags,
   path_tags,
 };
 ghost use Rattle.content_state.specs.SiteRules.{is_text, text_of};
 ghost use Rattle.content_state.specs.There.{IsThere};
 
+use crate::forms::Named;
 use crate::site_rules::{Unique, text_of};
 use crate::state::State;
 use cacheability::{Name, Tag};
-use content_rows::{Cell, Items, Row, id_of};
+use content_rows::{Cell, Items, Row};
 use std::alloc::{AllocError, Global};
 
 /// What a path leads to.
@@ -58,8 +57,9 @@ pub fn route_of(
     ensures there { IfOk result (λ r. r.0 ≢ Route.Nothing → IsThere state.now.rows r.0) }
 {
     let meant = meant(state, path);
-    let route = led_to(state, meant);
-    let mut tags = route_tags(alloc, &route, meant)?;
+    let named = state.named_by(meant);
+    let route = led_by(state, meant, named);
+    let mut tags = tags_by(alloc, &route, named)?;
     if path == b"/".as_slice() {
         tags.push(Tag::Site)?;
     }
@@ -80,23 +80,15 @@ fn meant<'a>(state: &'a State, path: &'a [u8]) -> &'a [u8]
     }
 }
 
-/// Where a path leads that is meant as it stands: by the number that stands in it, else as a node or
-/// a listing has it.
-#[tactic(auto, unfolding(crate::specs::Route::login_path, crate::specs::Route::node_front, crate::specs::Route::term_front, crate::specs::Route::user_front))]
-fn led_to(state: &State, path: &[u8]) -> Route
-    ensures { result ≡ led_to state.now.rows path.now }
+/// Where a path leads that is meant as it stands and names this: to what it names, else to what has that path.
+fn led_by(state: &State, path: &[u8], named: Option<Named>) -> Route
+    ensures { result ≡ led_by state.now.rows path.now named }
 {
-    if path == b"/user/login".as_slice() {
-        return Route::Login;
-    }
-    if let Some(nid) = id_after(b"/node/", path) {
-        return node_route(state, nid);
-    }
-    if let Some(tid) = id_after(b"/taxonomy/term/", path) {
-        return term_route(state, tid);
-    }
-    match id_after(b"/user/", path) {
-        Some(uid) => user_route(state, uid),
+    match named {
+        Some(Named::Node(nid)) => node_route(state, nid),
+        Some(Named::Term(tid)) => term_route(state, tid),
+        Some(Named::User(uid)) => user_route(state, uid),
+        Some(Named::Login) => Route::Login,
         None => cell_route(state, cell_with(state, path)),
     }
 }
@@ -179,9 +171,9 @@ fn has_path(row: &Row, path: &[u8]) -> bool
     }
 }
 
-/// The tags of where a route leads.
-fn route_tags(alloc: Global, route: &Route, path: &[u8]) -> Result<Vec<Tag>, AllocError>
-    ensures { IfOk result (λ tags. tags.items ≡ route_tags route.now path.now) }
+/// The tags of where a path leads that names this.
+fn tags_by(alloc: Global, route: &Route, named: Option<Named>) -> Result<Vec<Tag>, AllocError>
+    ensures { IfOk result (λ tags. tags.items ≡ tags_by route.now named) }
 {
     match route {
         Route::Node(nid) => Vec::from_slice(alloc, &[Tag::Node(*nid)]),
@@ -189,37 +181,22 @@ fn route_tags(alloc: Global, route: &Route, path: &[u8]) -> Result<Vec<Tag>, All
         Route::User(uid) => Vec::from_slice(alloc, &[Tag::User(*uid)]),
         Route::Listing(name) => Vec::from_slice(alloc, &[Tag::Listing(*name)]),
         Route::Login => Ok(Vec::new(alloc)),
-        Route::Nothing => nothing_tags(alloc, path),
+        Route::Nothing => nothing_tags(alloc, named),
     }
 }
 
 /// The tags of a path that leads nowhere: `4xx-response`, and that of the row that it names by its
 /// number.
-#[tactic(auto, unfolding(crate::specs::Route::node_front, crate::specs::Route::term_front, crate::specs::Route::user_front))]
-fn nothing_tags(alloc: Global, path: &[u8]) -> Result<Vec<Tag>, AllocError>
-    ensures { IfOk result (λ tags. tags.items ≡ route_tags Route.Nothing path.now) }
+fn nothing_tags(alloc: Global, named: Option<Named>) -> Result<Vec<Tag>, AllocError>
+    ensures { IfOk result (λ tags. tags.items ≡ tags_by Route.Nothing named) }
 {
-    let mut tags = Vec::with_capacity(alloc, 4)?;
+    let mut tags = Vec::with_capacity(alloc, 3)?;
     tags.push(Tag::NotFound)?;
-    if let Some(nid) = id_after(b"/node/", path) {
-        tags.push(Tag::Node(nid))?;
-    }
-    if let Some(tid) = id_after(b"/taxonomy/term/", path) {
-        tags.push(Tag::Term(tid))?;
-    }
-    if let Some(uid) = id_after(b"/user/", path) {
-        tags.push(Tag::User(uid))?;
+    match named {
+        Some(Named::Node(nid)) => tags.push(Tag::Node(nid))?,
+        Some(Named::Term(tid)) => tags.push(Tag::Term(tid))?,
+        Some(Named::User(uid)) => tags.push(Tag::User(uid))?,
+        Some(Named::Login) | None => {}
     }
     Ok(tags)
-}
-
-/// The id that follows a front.
-fn id_after(front: &[u8], path: &[u8]) -> Option<u32>
-    ensures { result ≡ id_after front.now path.now }
-{
-    if path.starts_with(front) {
-        id_of(&path[front.len()..])
-    } else {
-        None
-    }
 }

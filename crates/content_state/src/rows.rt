@@ -15,7 +15,7 @@ use std::marker::Model;
 use std::sync::Arc;
 
 /// A row that several states may share, which contracts see as the row.
-#[derive(Drop, Debug)]
+#[derive(Drop)]
 struct Shared {
     row: Arc<Row>,
 }
@@ -41,7 +41,7 @@ impl Clone for Shared {
 
 /// The rows of a state: a finite map from cells to rows, which contracts see as the list of its pairs in cell order.
 /// Several states may share a row.
-#[derive(Drop, Debug)]
+#[derive(Drop)]
 pub struct Rows {
     map: BTreeMap<Cell, Shared>,
 }

@@ -91,7 +91,7 @@ pub enum Refusal {
 }
 
 /// Rows of which no site was made, handed back with the counts, and why.
-#[derive(Drop, Debug)]
+#[derive(Drop)]
 pub struct Refused {
     pub rows: Rows,
     pub counts: Counts,

@@ -1,8 +1,11 @@
 //! The states of a site.
-ghost use Rattle.std.specs.Prelude.{◌≡◌, ◌↔◌, ◌≤◌, ◌^◌, IfOk, IfErr, IsTrue};
+ghost use Rattle.std.specs.Prelude.{◌≡◌, ◌↔◌, ◌≤◌, ◌<◌, ◌+◌, ◌^◌, IfOk, IfErr, IsTrue};
+ghost use Rattle.std.specs.Arc.{arc_value};
 ghost use Rattle.std.specs.Option.{option_copied, MatchOption};
+ghost use Rattle.content_state.specs.Forms.{form_rows};
 ghost use Rattle.cacheability.specs.declared.tag.Tag.TheVariants as tag;
 
+use crate::forms::{Forms, Named};
 use crate::rows::Rows;
 use crate::site_rules::{
     NotASite, Refusal, Refused, SiteField, SiteRule, first_fault, meets_site_rules,
@@ -13,6 +16,7 @@ use content_rows::{
 };
 use std::alloc::{AllocError, Global};
 use std::marker::Model;
+use std::sync::Arc;
 use tag_counts::Counts;
 
 /// The greatest number that a site may begin with: 2^62, so that the edits of no run lead past a u64.
@@ -20,8 +24,11 @@ const GREATEST_NUMBER: u64 = 4_611_686_018_427_387_904;
 
 /// A state of a site: its rows, how often each tag was invalidated, and its number, which each
 /// accepted edit raises by one.
-#[derive(Drop, Debug)]
+#[derive(Drop)]
 pub struct State {
+    // The fixed forms of paths, the same in every state. They stand first: as the last field they lie too deep for the
+    // search that shows that states go between threads.
+    forms: Arc<Forms>,
     rows: Rows,
     counts: Counts,
     number: u64,
@@ -58,16 +65,33 @@ impl State {
       IsValidState,
     };
     ghost use Rattle.tag_counts.specs.Counts.{IsInOrder};
+    ghost use Rattle.content_state.specs.Forms.{named_by};
 
-    /// The state of these rows, counts and number, whether they are a site or not.
-    pub fn new(rows: Rows, counts: Counts, number: u64) -> State
-        ensures { result ≡ record { rows = rows; counts = counts; number = number } }
+    /// The state of these rows, counts and number, whether they are a site or not. `Err` only where memory is wanting.
+    pub fn new(alloc: Global, rows: Rows, counts: Counts, number: u64) -> Result<State, AllocError>
+        ensures { IfOk result (λ s. s ≡ record { rows = rows; counts = counts; number = number }) }
     {
-        State {
+        let forms = shared_forms(alloc)?;
+        Ok(State {
             rows,
             counts,
             number,
-        }
+            forms,
+        })
+    }
+
+    /// The state after this one, of these rows and counts, whether they are a site or not. `Err` only where memory is
+    /// wanting.
+    pub fn after(&self, rows: Rows, counts: Counts) -> Result<State, AllocError>
+        requires { self.now.number < 2 ^ 63 }
+        ensures { IfOk result (λ s. s ≡ record { rows = rows; counts = counts; number = self.now.number + 1 }) }
+    {
+        Ok(State {
+            rows,
+            counts,
+            number: self.number + 1,
+            forms: Arc::try_clone(&self.forms)?,
+        })
     }
 
     /// Its rows.
@@ -99,6 +123,7 @@ impl State {
             rows: self.rows.duplicate(alloc)?,
             counts: self.counts.duplicate(alloc)?,
             number: self.number,
+            forms: Arc::try_clone(&self.forms)?,
         })
     }
 
@@ -127,7 +152,22 @@ impl State {
         ensures refused { IfErr result (λ r. IsRefusal rows number r.why) }
         ensures back { IfErr result (λ r. (r.rows ≡ rows) × (r.counts ≡ counts)) }
     {
-        let state = State::new(rows, counts, number);
+        let forms = match shared_forms(alloc) {
+            Ok(forms) => forms,
+            Err(_) => {
+                return Err(Refused {
+                    rows,
+                    counts,
+                    why: Refusal::OutOfMemory,
+                });
+            }
+        };
+        let state = State {
+            rows,
+            counts,
+            number,
+            forms,
+        };
         state.stands_in_order();
         let why = match state.no_site(alloc) {
             Ok(None) => return Ok(state),
@@ -166,6 +206,13 @@ impl State {
             return Ok(false);
         }
         meets_site_rules(alloc, self)
+    }
+
+    /// What a path names by one of the fixed forms of paths.
+    pub(crate) fn named_by(&self, path: &[u8]) -> Option<Named>
+        ensures { result ≡ named_by path.now }
+    {
+        self.forms.named_by(path)
     }
 
     /// The settings of the site, and the tag that covers reading them.
@@ -295,4 +342,12 @@ impl State {
             _ => None,
         }
     }
+}
+
+/// The fixed forms of paths, to be shared by the states of a site.
+fn shared_forms(alloc: Global) -> Result<Arc<Forms>, AllocError>
+    ensures { IfOk result (λ forms. arc_value forms ≡ form_rows) }
+{
+    let forms = Forms::new(alloc)?;
+    Ok(Arc::new(alloc, forms)?)
 }

@@ -132,9 +132,15 @@ pair_fault k (string t) =
     if not (is_long form.Name k && is_long form.Body t) then Some rule.Length else (if not (is_written form.Name k && is_written form.Body t) then Some rule.Bytes else None)
 pair_fault k _ = Some rule.Kind
 
-abbrev pub pairs_fault : Members → Option Rule
-pairs_fault no_members = None
-pairs_fault (member k d ms) = or_else (pair_fault k d) (pairs_fault ms)
+-- null, where it may stand for a text, is judged as an empty one
+abbrev pub text_or : Bool → Data → Data
+text_or true null = string []
+text_or true d = d
+text_or false d = d
+
+abbrev pub pairs_fault : Bool → Members → Option Rule
+pairs_fault nulls no_members = None
+pairs_fault nulls (member k d ms) = or_else (pair_fault k (text_or nulls d)) (pairs_fault nulls ms)
 
 -- ---- keys of a row
 
@@ -143,7 +149,7 @@ shape_fault shape.Any d = None
 shape_fault (shape.Of e) d = entry_fault e d
 shape_fault (shape.Each most e) (array ds) = list_fault most (entry_fault e) ds
 shape_fault (shape.Table most cs) (array ds) = list_fault most (row_fault cs) ds
-shape_fault shape.Texts (object ms) = pairs_fault ms
+shape_fault (shape.Texts nulls) (object ms) = pairs_fault nulls ms
 shape_fault _ _ = Some rule.Kind
 
 abbrev pub ask_fault : Ask → Data → Option Rule

@@ -20,6 +20,7 @@ ghost use Rattle.json_keys.specs.Fault.{
   object_fault,
   row_fault,
   columns_of,
+  text_or,
   pair_fault,
   pairs_fault,
   always,
@@ -308,17 +309,18 @@ fn shape_fault(shape: Shape, value: &Value) -> Option<Rule>
         (Shape::Of(entry), _) => entry.fault_of(value),
         (Shape::Each(most, entry), Value::Array(values)) => list_fault(most, entry, values),
         (Shape::Table(most, columns), Value::Array(values)) => list_fault(most, columns, values),
-        (Shape::Texts, Value::Object(members)) => pairs_fault(members),
+        (Shape::Texts(nulls), Value::Object(members)) => pairs_fault(nulls, members),
         _ => Some(Rule::Kind),
     }
 }
 
-/// The first rule that a named text breaks.
-fn pair_fault(name: &str, value: &Value) -> Option<Rule>
-    ensures { result ≡ pair_fault name.now (view value.now) }
+/// The first rule that a named text breaks, for which `null` may stand where that is said.
+fn pair_fault(nulls: bool, name: &str, value: &Value) -> Option<Rule>
+    ensures { result ≡ pair_fault name.now (text_or nulls (view value.now)) }
 {
-    match value {
-        Value::String(text) => lengths_and_bytes_fault(name.as_bytes(), text.as_bytes()),
+    match (nulls, value) {
+        (_, Value::String(text)) => lengths_and_bytes_fault(name.as_bytes(), text.as_bytes()),
+        (true, Value::Null) => lengths_and_bytes_fault(name.as_bytes(), &[]),
         _ => Some(Rule::Kind),
     }
 }
@@ -336,12 +338,12 @@ fn lengths_and_bytes_fault(name: &[u8], text: &[u8]) -> Option<Rule>
     }
 }
 
-/// The first rule that texts by names break.
-fn pairs_fault(members: &Map<String, Value>) -> Option<Rule>
-    ensures { result ≡ pairs_fault (members_view members.now.entries) }
+/// The first rule that texts by names break, for which `null` may stand where that is said.
+fn pairs_fault(nulls: bool, members: &Map<String, Value>) -> Option<Rule>
+    ensures { result ≡ pairs_fault nulls (members_view members.now.entries) }
 {
     'members: for (name, value) in members.iter() {
-        let fault = pair_fault(name.as_str(), value);
+        let fault = pair_fault(nulls, name.as_str(), value);
         if fault.is_some() {
             return fault;
         }

@@ -4,7 +4,7 @@ use crate::rule::Rule;
 use content_rows::Text;
 
 /// What an object says, or the first rule that it breaks.
-#[derive(Drop, Debug)]
+#[derive(Drop)]
 pub enum Checked<T: Drop> {
     /// It breaks no rule.
     Right(T),

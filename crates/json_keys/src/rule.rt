@@ -2,7 +2,7 @@
 ghost use Rattle.std.specs.Prelude.{◌≡◌};
 ghost use Rattle.json_keys.specs.Words.{rule_word};
 
-/// A rule that a key of an object breaks.
+/// A rule that a key of an object breaks, by itself or beside what a site holds.
 #[derive(Clone, Copy, Debug, PartialEq, Eq)]
 pub enum Rule {
     /// The key is not in the table.
@@ -31,6 +31,14 @@ pub enum Rule {
     Deep,
     /// Two keys do not go together.
     Pair,
+    /// Another row has this text, of which no two rows have the same.
+    Taken,
+    /// The row may not be removed.
+    Locked,
+    /// Other rows name the row that is to be removed.
+    Used,
+    /// There is no greater number to give.
+    Full,
 }
 
 impl Rule {
@@ -52,6 +60,10 @@ impl Rule {
             Rule::Cycle => "cycle",
             Rule::Deep => "deep",
             Rule::Pair => "pair",
+            Rule::Taken => "taken",
+            Rule::Locked => "locked",
+            Rule::Used => "used",
+            Rule::Full => "full",
         }
     }
 }

@@ -79,8 +79,8 @@ pub enum Shape {
     Each(usize, Entry),
     /// A list of so many objects at most.
     Table(usize, Columns),
-    /// An object of texts by machine names.
-    Texts,
+    /// An object of texts by machine names; whether `null` may stand for a text.
+    Texts(bool),
 }
 
 /// Whether a key is to be there, and what its value is to be.

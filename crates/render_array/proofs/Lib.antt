@@ -1,6 +1,5 @@
 pub mod Leaves
 pub mod Lists
 pub mod MenuLaws
-pub mod Moving
 pub mod OnBlank
 pub mod Statuses

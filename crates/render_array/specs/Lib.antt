@@ -7,4 +7,3 @@ pub mod Page
 pub mod Built
 pub mod Whole
 pub mod Shown
-pub mod House

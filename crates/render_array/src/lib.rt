@@ -5,7 +5,6 @@
 mod blocks;
 mod building;
 mod element;
-mod house;
 mod listings;
 mod menus;
 mod nodes;
@@ -15,4 +14,3 @@ mod terms;
 
 pub use building::build;
 pub use element::Element;
-pub use house::{House, moves_follow_one_another};

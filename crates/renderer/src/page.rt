@@ -1,14 +1,15 @@
 //! The page of a request.
 ghost use Rattle.std.specs.Prelude.{◌≡◌, IfOk, IsTrue, min};
 ghost use Rattle.content_state.specs.Viewer.{viewer_of as named_viewer};
-ghost use Rattle.render_array.specs.House.{Moves, Stays};
+ghost use Rattle.site_house.specs.House.{Moves, Stays};
 ghost use Rattle.render_array.specs.Shown.{IsPage, is_page_status, page_count};
 
 use crate::assembled::assembled;
 use crate::filled::fill;
 use content_state::{Ask, State, Viewer};
-use render_array::{Element, House};
+use render_array::Element;
 use site_access::viewer_of;
+use site_house::House;
 use std::alloc::{AllocError, Global};
 
 /// The page of a request: the status of its reply (RFC 9110, section 15), its body, and how many elements were built for

@@ -1,6 +1,6 @@
 -- A right row that is written is read as that row.
-use Rattle.std.proofs.Common.{◌≡◌, ℕ, List, Bool, true, false, Option, Some, None, refl, sym, ap, subst, ◌∙◌, codes, IsTrue}
-use Rattle.serde_json.specs.Data.{Data, string}
+use Rattle.std.proofs.Common.{◌≡◌, ℕ, List, Some, None, refl, sym, ap, ◌∙◌, codes}
+use Rattle.serde_json.specs.Data.{Data}
 use Rattle.serde_json.specs.Find.{get}
 use Rattle.content_rows.specs.CellText.{cell_text}
 use Rattle.content_rows.specs.ValidRow.{IsValidRow}
@@ -8,9 +8,7 @@ use Rattle.content_rows.specs.declared.cell.Cell.{Cell}
 use Rattle.content_rows.specs.declared.cell.Cell.TheVariants as cell
 use Rattle.content_rows.specs.declared.row.Row.{Row}
 use Rattle.content_rows.specs.declared.row.Row.TheVariants as row
-use Rattle.json_keys.specs.Checked.{read_checked, go_on, unless_faulty}
-use Rattle.json_keys.specs.Fault.{first_fault}
-use Rattle.json_keys.specs.declared.checked.Checked.{Checked}
+use Rattle.json_keys.specs.Checked.{go_on, unless_faulty}
 use Rattle.json_keys.specs.declared.checked.Checked.TheVariants as checked
 use Rattle.json_keys.specs.declared.rule.Rule.{Rule}
 use Rattle.json_keys.specs.declared.shape.Ask.{Ask}
@@ -22,7 +20,7 @@ use Rattle.row_kinds.proofs.Utf8.{text_written}
 use Rattle.row_kinds.proofs.ContentLaws.{type_back, term_back, node_back}
 use Rattle.row_kinds.proofs.PeopleLaws.{role_back, user_back, session_back}
 use Rattle.row_kinds.proofs.StructureLaws.{site_back, seq_back, menu_back, listing_back, block_back}
-use Rattle.row_json.specs.Cells.{cell_of, IsTypedCell}
+use Rattle.row_json.specs.Cells.{IsTypedCell}
 use Rattle.row_json.specs.Reading.{known_cell, cell_in, of_kind, row_in, row_data, reading, written, IsTypedRow, IsNoRow}
 use Rattle.row_json.specs.Whole.{whole_fault}
 use Rattle.row_json.proofs.CellTexts.{IsSound, cell_back, cell_utf8}

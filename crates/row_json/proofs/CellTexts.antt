@@ -1,10 +1,10 @@
 -- A cell is read of its own text, and of no other.
-use Rattle.std.proofs.Common.{◌≡◌, ◌≤◌, ◌<◌, ◌^◌, ℕ, suc, List, [], ◌∷◌, ◌++◌, length, drop, Bool, true, false, ◌&&◌, cond, Option, Some, None, option_map, refl, sym, ap, subst, ◌∙◌, arith, codes, IsTrue}
+use Rattle.std.proofs.Common.{◌≡◌, ℕ, List, ◌++◌, length, drop, Bool, true, false, cond, Option, Some, None, option_map, refl, sym, ap, subst, ◌∙◌, arith, codes, IsTrue}
 use Rattle.std.specs.Prelude.{nat_eq, nat_lt}
 use Rattle.std.specs.Fmt.{decimal}
 use Rattle.std.specs.List.{starts_with, list_all}
 use Rattle.std.specs.Str.{is_utf8, bytes_eq, IsAscii}
-use Rattle.std.proofs.lemmas.Bool.{and_parts, ltb-true}
+use Rattle.std.proofs.lemmas.Bool.{ltb-true}
 use Rattle.std.proofs.lemmas.Slice.Eq.{bytes_eq-Decides, starts_is}
 use Rattle.std.proofs.lemmas.Bool.Decides.{Decides-eqb}
 use Rattle.std.proofs.lemmas.Fmt.{IsAscii-decimal}
@@ -15,11 +15,11 @@ use Rattle.content_rows.specs.Kinds.{IsId}
 use Rattle.content_rows.specs.LiteralName.{is_name}
 use Rattle.content_rows.specs.declared.cell.Cell.{Cell}
 use Rattle.content_rows.specs.declared.cell.Cell.TheVariants as cell
-use Rattle.content_rows.proofs.Ids.{IsIdText, id_some, id_told}
+use Rattle.content_rows.proofs.Ids.{id_some, id_told}
 use Rattle.json_keys.specs.Fault.{or_else}
 use Rattle.row_kinds.proofs.Names.{name_is_ascii}
 use Rattle.row_kinds.proofs.Utf8.{ascii_bytes}
-use Rattle.row_json.specs.Cells.{name_if, name_after, id_after, named_cell, placed_cell, numbered_cell, cell_of, IsTypedCell}
+use Rattle.row_json.specs.Cells.{name_if, name_after, id_after, named_cell, placed_cell, numbered_cell, cell_of}
 
 -- the cell of a row: its name is one, or its number is an id
 abbrev pub IsSound : Cell → Type 0

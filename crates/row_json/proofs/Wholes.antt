@@ -1,5 +1,5 @@
 -- What the keys of a row keep together.
-use Rattle.std.proofs.Common.{◌≡◌, ℕ, List, map, length, Bool, true, false, not, Option, Some, None, option_map, is_some, is_none, refl, sym, ap, ◌∙◌, cond, codes, IsTrue}
+use Rattle.std.proofs.Common.{◌≡◌, ℕ, List, map, length, Bool, true, false, not, Option, Some, None, option_map, is_some, is_none, refl, sym, ap, ◌∙◌, cond, codes}
 use Rattle.std.specs.List.{list_all, IsDistinct}
 use Rattle.std.specs.Str.{bytes_eq}
 use Rattle.content_rows.specs.MenuTree.{has_its_parent, reaches_top}

@@ -1,6 +1,6 @@
 -- What an object says as a row with its cell, or the first rule that it breaks, and what is written of a row.
 use Rattle.std.specs.Prelude.{ℕ, List, ◌≡◌, Option, None, Some, codes}
-use Rattle.serde_json.specs.Data.{Data, null, string}
+use Rattle.serde_json.specs.Data.{Data, string}
 use Rattle.serde_json.specs.Find.{get}
 use Rattle.std.specs.declared.alloc.AllocError.{AllocError}
 use Rattle.content_rows.specs.CellText.{cell_text}

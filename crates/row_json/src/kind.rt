@@ -7,7 +7,7 @@ use content_rows::{
 use row_kinds::Read;
 
 /// A kind of row.
-pub(crate) trait Kind: Read {
+pub trait Kind: Read {
     ghost use Rattle.std.specs.Prelude.{◌≡◌};
     ghost use Rattle.content_rows.specs.declared.row.Row.{Row as RowValue};
 

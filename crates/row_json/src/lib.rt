@@ -10,4 +10,6 @@ mod whole;
 
 pub use cell::cell_of;
 pub use fault::RowFault;
-pub use object::{reading, row_from_json, row_to_json};
+pub use kind::Kind;
+pub use object::{of_kind, reading, row_from_json, row_to_json};
+pub use whole::whole_fault;

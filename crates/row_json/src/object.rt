@@ -40,8 +40,13 @@ fn cell_in(alloc: Global, value: &Value) -> Result<Checked<Cell>, AllocError>
     Ok(Checked::Broken(Text::copied(alloc, b"cell")?, rule))
 }
 
-/// A row of a kind, by its table of keys.
-fn of_kind<T: Kind>(alloc: Global, keys: &[Key], value: &Value) -> Result<Checked<Row>, AllocError>
+/// A row of a kind, by a table of keys, or the first rule that one key breaks. `Err` only where
+/// memory is wanting.
+pub fn of_kind<T: Kind>(
+    alloc: Global,
+    keys: &[Key],
+    value: &Value,
+) -> Result<Checked<Row>, AllocError>
     ensures { IfOk result (λ c. c ≡ of_kind T.made T.of (seen keys.now) (view value.now)) }
 {
     let read: Checked<T> = read_checked(alloc, keys, value)?;

@@ -9,8 +9,9 @@ use content_rows::{
 };
 use json_keys::Rule;
 
-/// The first rule that the keys of a row break together, with the key that it is told of.
-pub(crate) fn whole_fault(row: &Row) -> Option<(&'static str, Rule)>
+/// The first rule that the keys of a row break together, with the key that it is told of. Takes no
+/// memory.
+pub fn whole_fault(row: &Row) -> Option<(&'static str, Rule)>
     ensures { option_map (λ f. (f.0.now, f.1)) result ≡ whole_fault row.now }
 {
     match row {

@@ -11,13 +11,13 @@ use Rattle.json_keys.specs.Order.{AllInOrder}
 use Rattle.json_keys.proofs.Held.{object_fine}
 use Rattle.row_kinds.specs.Look.{value_at, with_cell, list_in, items_in, items_data}
 use Rattle.row_kinds.specs.Rows.{grant_row_in, grant_row_data, field_in, field_data, type_in, type_data, term_in, term_data, node_in, node_data, IsTypedField, IsTypedGrantRow, IsTypedNode, IsTypedType}
-use Rattle.row_kinds.specs.Tables.{type_row, term_row, node_row}
+use Rattle.row_kinds.specs.Tables.{type_row, term_row, node_row, type_keys, term_keys, node_keys}
 use Rattle.row_kinds.proofs.Codec.{Codec, Back, any, ComesBack}
 use Rattle.row_kinds.proofs.Fields.{fields}
 use Rattle.row_kinds.proofs.Keys.{zero_least, below_top, below_next, gid, next_id, owner_id, moment, maybe_line, maybe_path, ids}
 use Rattle.row_kinds.proofs.Lists.{table, IsListOf, each_of, of_each, both_of, weaker, some_passes, of_some_passes}
 use Rattle.row_kinds.proofs.Numbers.{flag}
-use Rattle.row_kinds.proofs.Objects.{good, keeps, rebuilt, columns_passed, IsPassed}
+use Rattle.row_kinds.proofs.Objects.{good, keeps, rebuilt, columns_passed, held, IsHeld, IsPassed}
 use Rattle.row_kinds.proofs.Strings.{line, body, uuid, name}
 use Rattle.content_rows.specs.declared.row.GrantRow.{GrantRow}
 use Rattle.content_rows.specs.declared.row.FieldRow.{FieldRow}
@@ -32,7 +32,7 @@ IsGoodField x = IsValidField x × IsTypedField x
 
 field_right : (d : Data) → AllInOrder d → row_fault columns.Field d ≡ None → IsGoodField (field_in d)
 field_right d o h =
-    let p = columns_passed columns.Field d o h in
+    let p = held (columns_passed columns.Field d o h) in
     let edit_is = good p (codes "edit") _ refl refl (maybe_line 128) in
     let label_is = good p (codes "label") _ refl refl (line 64) in
     let name_is = good p (codes "name") _ refl refl name in
@@ -79,7 +79,7 @@ field = record { right = field_right; back = field_back; kept = field_kept }
 fields_of_type : Codec (List FieldRow) (shape_fault (shape.Table 32 columns.Field)) (λ d. list_in field_in (items_in d)) (λ xs. array (items_data field_data xs)) (IsListOf 32 IsGoodField)
 fields_of_type = table 32 columns.Field field
 
-pub type_right : (d : Data) → IsPassed ask_fault is_wanted type_row d → IsDistinct bytes_eq (map (λ f. f.name) (type_in d).fields) → IsValidNodeType (type_in d) × IsTypedType (type_in d)
+pub type_right : (d : Data) → IsHeld ask_fault is_wanted type_keys d → IsDistinct bytes_eq (map (λ f. f.name) (type_in d).fields) → IsValidNodeType (type_in d) × IsTypedType (type_in d)
 type_right d p once =
     let fields_is = good p (codes "fields") _ refl refl fields_of_type in
     let label_is = good p (codes "label") _ refl refl (line 255) in (
@@ -117,7 +117,7 @@ type_kept d p =
       ),
     )
 
-pub term_right : (d : Data) → IsPassed ask_fault is_wanted term_row d → IsValidTerm (term_in d)
+pub term_right : (d : Data) → IsHeld ask_fault is_wanted term_keys d → IsValidTerm (term_in d)
 term_right d p =
     let description_is = good p (codes "description") _ refl refl body in
     let name_is = good p (codes "name") _ refl refl (line 255) in
@@ -160,7 +160,7 @@ term_kept d p =
 
 grant_row_right : (d : Data) → AllInOrder d → row_fault columns.GrantRow d ≡ None → IsTypedGrantRow (grant_row_in d)
 grant_row_right d o h =
-    let p = columns_passed columns.GrantRow d o h in
+    let p = held (columns_passed columns.GrantRow d o h) in
     let gid_is = good p (codes "gid") _ refl refl gid in
     let realm_is = good p (codes "realm") _ refl refl name in
     (below_next (grant_row_in d).gid gid_is.1, realm_is)
@@ -191,10 +191,10 @@ grant_row_kept d o h =
 grant_row : Codec GrantRow (row_fault columns.GrantRow) grant_row_in grant_row_data IsTypedGrantRow
 grant_row = record { right = grant_row_right; back = grant_row_back; kept = grant_row_kept }
 
-grant_rows : Codec (List GrantRow) (shape_fault (shape.Table 64 columns.GrantRow)) (λ d. list_in grant_row_in (items_in d)) (λ xs. array (items_data grant_row_data xs)) (IsListOf 64 IsTypedGrantRow)
+pub grant_rows : Codec (List GrantRow) (shape_fault (shape.Table 64 columns.GrantRow)) (λ d. list_in grant_row_in (items_in d)) (λ xs. array (items_data grant_row_data xs)) (IsListOf 64 IsTypedGrantRow)
 grant_rows = table 64 columns.GrantRow grant_row
 
-pub node_right : (d : Data) → IsPassed ask_fault is_wanted node_row d → IsValidNode (node_in d) × IsTypedNode (node_in d)
+pub node_right : (d : Data) → IsHeld ask_fault is_wanted node_keys d → IsValidNode (node_in d) × IsTypedNode (node_in d)
 node_right d p =
     let changed_is = good p (codes "changed") _ refl refl moment in
     let created_is = good p (codes "created") _ refl refl moment in

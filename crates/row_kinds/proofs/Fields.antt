@@ -1,19 +1,18 @@
 -- Texts by machine names.
-use Rattle.std.proofs.Common.{◌≡◌, ℕ, List, [], ◌∷◌, map, Bool, true, false, not, ◌&&◌, cond, Option, Some, None, Ordering, Less, Equal, Greater, refl, sym, ap, subst, ◌∙◌, IsTrue, nat_cmp}
+use Rattle.std.proofs.Common.{◌≡◌, ℕ, List, [], ◌∷◌, map, Bool, true, false, not, ◌&&◌, cond, Some, None, Less, Greater, refl, sym, ap, subst, ◌∙◌, IsTrue, nat_cmp}
 use Rattle.std.specs.Cmp.Lexicographic.{slice_cmp}
 use Rattle.std.specs.List.{AllByRecursion, list_all}
 use Rattle.std.specs.List.Sorted.{IsStrictlySortedBy}
-use Rattle.std.specs.Ordering.{match_ordering, ordering_reverse}
+use Rattle.std.specs.Ordering.{ordering_reverse}
 use Rattle.std.proofs.lemmas.Bool.{and_parts}
 use Rattle.std.proofs.lemmas.Cmp.{nat_list_cmp_total}
 use Rattle.serde_json.specs.Data.{Data, null, boolean, number, string, array, object, Members, no_members, member, put}
 use Rattle.content_rows.specs.Kinds.{is_text}
 use Rattle.content_rows.specs.LiteralName.{is_name}
 use Rattle.content_rows.specs.declared.row.FieldValue.{FieldValue}
-use Rattle.json_keys.specs.Fault.{members_in, pair_fault, pairs_fault, shape_fault, plain_fault}
-use Rattle.json_keys.specs.Form.{is_long, is_written, text_fault}
-use Rattle.json_keys.specs.Order.{names_of, AllInOrder, IsInOrder, MembersInOrder}
-use Rattle.json_keys.specs.declared.rule.Rule.{Rule}
+use Rattle.json_keys.specs.Fault.{members_in, pair_fault, pairs_fault, shape_fault}
+use Rattle.json_keys.specs.Form.{is_long, is_written}
+use Rattle.json_keys.specs.Order.{names_of, AllInOrder, IsInOrder}
 use Rattle.json_keys.specs.declared.rule.Rule.TheVariants as rule
 use Rattle.json_keys.specs.declared.shape.Form.TheVariants as form
 use Rattle.json_keys.specs.declared.shape.Shape.TheVariants as shape
@@ -37,7 +36,7 @@ two_stages true false c d h = absurd cc
 two_stages false b c d h = absurd cc
 
 -- a pair that is let through is a name and a text
-pair_right : (k : List ℕ) (d : Data) → pair_fault k d ≡ None → IsTrue (is_name k) × IsTrue (is_text (text_in d)) × (text_data (text_in d) ≡ d)
+pub pair_right : (k : List ℕ) (d : Data) → pair_fault k d ≡ None → IsTrue (is_name k) × IsTrue (is_text (text_in d)) × (text_data (text_in d) ≡ d)
 pair_right k (string t) h =
     let two = two_stages (is_long form.Name k) (is_long form.Body t) (is_written form.Name k) (is_written form.Body t) h in
     let long = and_parts (is_long form.Name k) (is_long form.Body t) two.0 in
@@ -112,39 +111,39 @@ in_order fs sorted = onto no_members fs (none_above fs) sorted
 
 -- ---- all members
 
-names_kept : (ms : Members) → pairs_fault ms ≡ None → map (λ (f : FieldValue). f.name) (texts_in ms) ≡ names_of ms
+names_kept : (ms : Members) → pairs_fault false ms ≡ None → map (λ (f : FieldValue). f.name) (texts_in ms) ≡ names_of ms
 names_kept no_members h = refl
 names_kept (member k d ms) h =
-    let both = neither (pair_fault k d) (pairs_fault ms) h in
+    let both = neither (pair_fault k d) (pairs_fault false ms) h in
     rw (name_same k (pair_right k d both.0).0, names_kept ms both.1) refl
 
-typed_names : (ms : Members) → pairs_fault ms ≡ None → AllByRecursion IsTypedText (texts_in ms)
+typed_names : (ms : Members) → pairs_fault false ms ≡ None → AllByRecursion IsTypedText (texts_in ms)
 typed_names no_members h = tt
 typed_names (member k d ms) h =
-    let both = neither (pair_fault k d) (pairs_fault ms) h in
+    let both = neither (pair_fault k d) (pairs_fault false ms) h in
     let name = (pair_right k d both.0).0 in
     (subst (λ (t : List ℕ). IsTrue (is_name t)) (sym (name_same k name)) name, typed_names ms both.1)
 
-all_texts : (ms : Members) → pairs_fault ms ≡ None → IsTrue (list_all (λ (f : FieldValue). is_text f.value) (texts_in ms))
+all_texts : (ms : Members) → pairs_fault false ms ≡ None → IsTrue (list_all (λ (f : FieldValue). is_text f.value) (texts_in ms))
 all_texts no_members h = refl
 all_texts (member k d ms) h =
-    let both = neither (pair_fault k d) (pairs_fault ms) h in rw ((pair_right k d both.0).1, all_texts ms both.1) refl
+    let both = neither (pair_fault k d) (pairs_fault false ms) h in rw ((pair_right k d both.0).1, all_texts ms both.1) refl
 
-members_right : (ms : Members) → IsInOrder ms → pairs_fault ms ≡ None → AreTexts (texts_in ms)
+members_right : (ms : Members) → IsInOrder ms → pairs_fault false ms ≡ None → AreTexts (texts_in ms)
 members_right ms o h = record {
   typed = typed_names ms h;
   texts = all_texts ms h;
   by_name = subst (IsStrictlySortedBy (slice_cmp nat_cmp)) (sym (names_kept ms h)) o;
 }
 
-members_kept : (ms : Members) → pairs_fault ms ≡ None → members_for (texts_in ms) ≡ ms
+members_kept : (ms : Members) → pairs_fault false ms ≡ None → members_for (texts_in ms) ≡ ms
 members_kept no_members h = refl
 members_kept (member k d ms) h =
-    let both = neither (pair_fault k d) (pairs_fault ms) h in
+    let both = neither (pair_fault k d) (pairs_fault false ms) h in
     let pair = pair_right k d both.0 in
     rw (name_same k pair.0, pair.2, members_kept ms both.1) refl
 
-members_back : (fs : List FieldValue) → AllByRecursion IsTypedText fs → IsTrue (list_all (λ (f : FieldValue). is_text f.value) fs) → (pairs_fault (members_for fs) ≡ None) × (texts_in (members_for fs) ≡ fs)
+members_back : (fs : List FieldValue) → AllByRecursion IsTypedText fs → IsTrue (list_all (λ (f : FieldValue). is_text f.value) fs) → (pairs_fault false (members_for fs) ≡ None) × (texts_in (members_for fs) ≡ fs)
 members_back [] typed texts = (refl, refl)
 members_back (f ∷ fs) typed texts =
     let both = and_parts (is_text f.value) (list_all (λ (f : FieldValue). is_text f.value) fs) texts in
@@ -152,7 +151,7 @@ members_back (f ∷ fs) typed texts =
     let more = members_back fs typed.1 both.1 in
     (rw one.0 more.0, λ i. record { name = one.2 i; value = one.1 i } ∷ more.1 i)
 
-fields_right : (d : Data) → AllInOrder d → shape_fault shape.Texts d ≡ None → AreTexts (texts_in (members_in d))
+fields_right : (d : Data) → AllInOrder d → shape_fault (shape.Texts false) d ≡ None → AreTexts (texts_in (members_in d))
 fields_right (object ms) o h = members_right ms o.0 h
 fields_right null o h = absurd cc
 fields_right (boolean b) o h = absurd cc
@@ -160,7 +159,7 @@ fields_right (number n) o h = absurd cc
 fields_right (string s) o h = absurd cc
 fields_right (array ds) o h = absurd cc
 
-fields_kept : (d : Data) → AllInOrder d → shape_fault shape.Texts d ≡ None → object (texts_data (texts_in (members_in d))) ≡ d
+fields_kept : (d : Data) → AllInOrder d → shape_fault (shape.Texts false) d ≡ None → object (texts_data (texts_in (members_in d))) ≡ d
 fields_kept (object ms) o h = ap object (in_order (texts_in ms) (members_right ms o.0 h).by_name ∙ members_kept ms h)
 fields_kept null o h = absurd cc
 fields_kept (boolean b) o h = absurd cc
@@ -168,11 +167,11 @@ fields_kept (number n) o h = absurd cc
 fields_kept (string s) o h = absurd cc
 fields_kept (array ds) o h = absurd cc
 
-fields_back : (fs : List FieldValue) → AreTexts fs → Back (shape_fault shape.Texts) (λ d. texts_in (members_in d)) (λ fs. object (texts_data fs)) fs
+fields_back : (fs : List FieldValue) → AreTexts fs → Back (shape_fault (shape.Texts false)) (λ d. texts_in (members_in d)) (λ fs. object (texts_data fs)) fs
 fields_back fs g =
     let same = in_order fs g.by_name in
     let both = members_back fs g.typed g.texts in
-    (ap pairs_fault same ∙ both.0, ap texts_in same ∙ both.1)
+    (ap (pairs_fault false) same ∙ both.0, ap texts_in same ∙ both.1)
 
-pub fields : Codec (List FieldValue) (shape_fault shape.Texts) (λ d. texts_in (members_in d)) (λ fs. object (texts_data fs)) AreTexts
+pub fields : Codec (List FieldValue) (shape_fault (shape.Texts false)) (λ d. texts_in (members_in d)) (λ fs. object (texts_data fs)) AreTexts
 fields = record { right = fields_right; back = fields_back; kept = fields_kept }

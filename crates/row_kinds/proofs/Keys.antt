@@ -1,5 +1,5 @@
 -- The kinds of value that several keys have.
-use Rattle.std.proofs.Common.{◌≡◌, ◌≤◌, ◌<◌, ℕ, List, Option, arith, lit≤}
+use Rattle.std.proofs.Common.{◌≤◌, ◌<◌, ℕ, List, Option, arith, lit≤}
 use Rattle.serde_json.specs.Data.{array}
 use Rattle.content_rows.specs.Kinds.{is_line, is_hex, is_path, is_listing_path, is_block_path, is_text}
 use Rattle.json_keys.specs.Fault.{plain_fault, entry_fault, shape_fault}

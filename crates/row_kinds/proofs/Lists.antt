@@ -1,5 +1,5 @@
 -- Values that may be null, lists of values, and lists of objects.
-use Rattle.std.proofs.Common.{◌≡◌, ◌≤◌, ℕ, suc, List, [], ◌∷◌, length, get_or, Bool, true, false, cond, Option, Some, None, refl, sym, ap, subst, ◌∙◌, arith, IsTrue}
+use Rattle.std.proofs.Common.{◌≡◌, ◌≤◌, ℕ, suc, List, [], ◌∷◌, length, Bool, true, false, cond, Option, Some, None, refl, sym, ap, subst, ◌∙◌, arith, IsTrue}
 use Rattle.std.specs.Prelude.{nat_lt, All}
 use Rattle.std.specs.List.{AllByRecursion, list_all}
 use Rattle.std.specs.Option.{ForSome}
@@ -8,12 +8,10 @@ use Rattle.std.proofs.lemmas.List.Elements.{All-head, All-tail, All-cons, All-ni
 use Rattle.serde_json.specs.Data.{Data, null, boolean, number, string, array, object, Items, no_items, item}
 use Rattle.serde_json.specs.Events.{items_len}
 use Rattle.content_rows.specs.Kinds.{none_or}
-use Rattle.json_keys.specs.Fault.{or_else, plain_fault, entry_fault, items_fault, list_fault, row_fault, shape_fault}
+use Rattle.json_keys.specs.Fault.{plain_fault, entry_fault, items_fault, list_fault, row_fault, shape_fault}
 use Rattle.json_keys.specs.Order.{AllInOrder, ItemsInOrder}
 use Rattle.json_keys.specs.declared.rule.Rule.{Rule}
 use Rattle.json_keys.specs.declared.rule.Rule.TheVariants as rule
-use Rattle.json_keys.specs.declared.shape.Form.{Form}
-use Rattle.json_keys.specs.declared.shape.Form.TheVariants as form
 use Rattle.json_keys.specs.declared.shape.Plain.{Plain}
 use Rattle.json_keys.specs.declared.shape.Plain.TheVariants as plain
 use Rattle.json_keys.specs.declared.shape.Entry.{Entry}

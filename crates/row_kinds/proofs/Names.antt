@@ -1,5 +1,5 @@
 -- A name is a text.
-use Rattle.std.proofs.Common.{◌≡◌, ℕ, List, length, IsTrue, refl}
+use Rattle.std.proofs.Common.{ℕ, List, length, IsTrue, refl}
 use Rattle.std.specs.Prelude.{◌&&◌, nat_le}
 use Rattle.std.specs.List.{list_all}
 use Rattle.std.specs.Str.{IsUtf8, IsAscii}

@@ -1,8 +1,8 @@
 -- Flags and numbers.
-use Rattle.std.proofs.Common.{◌≡◌, ◌≤◌, ◌<◌, ℕ, Bool, true, false, ◌&&◌, cond, Option, Some, None, refl, sym, ap, ◌∙◌, arith, pos, negsuc, T}
-use Rattle.std.specs.Prelude.{ℤ, ◌≤ℤ◌, nat_le, nat_lt, int_le, int_lt}
+use Rattle.std.proofs.Common.{◌≡◌, ◌<◌, ℕ, Bool, true, false, ◌&&◌, cond, Some, None, refl, ap, ◌∙◌, arith, pos, negsuc, T}
+use Rattle.std.specs.Prelude.{ℤ, nat_le, int_le, int_lt}
 use Rattle.std.proofs.lemmas.Bool.{and_parts, leb-true, ltb-true, le-leb, lt-ltb}
-use Rattle.serde_json.specs.Data.{Num, unsigned, negative, float, Data, null, boolean, number, string, array, object}
+use Rattle.serde_json.specs.Data.{unsigned, negative, float, Data, null, boolean, number, string, array, object}
 use Rattle.serde_json.specs.Find.{of_integer}
 use Rattle.content_rows.specs.Kinds.{IsWeight}
 use Rattle.json_keys.specs.Fault.{plain_fault, is_low_weight}
@@ -10,7 +10,7 @@ use Rattle.json_keys.specs.Order.{AllInOrder}
 use Rattle.json_keys.specs.declared.rule.Rule.{Rule}
 use Rattle.json_keys.specs.declared.rule.Rule.TheVariants as rule
 use Rattle.json_keys.specs.declared.shape.Plain.TheVariants as plain
-use Rattle.row_kinds.specs.Look.{flag_in, number_in, small_in, weight_in, weight_of, low_weight_in, whole_data, weight_data, nothing_said}
+use Rattle.row_kinds.specs.Look.{flag_in, number_in, small_in, weight_in, whole_data, weight_data, nothing_said}
 use Rattle.row_kinds.proofs.Codec.{Codec, Between}
 
 -- ---- flags

@@ -1,10 +1,12 @@
 -- What a table that lets an object through says of what is read of each of its keys.
-use Rattle.std.proofs.Common.{◌≡◌, ℕ, List, ◌∷◌, Bool, true, false, cond, Option, Some, None, refl, sym, ap, subst, ◌∙◌, codes, option_map}
+use Rattle.std.proofs.Common.{◌≡◌, ℕ, List, ◌∷◌, Bool, true, false, cond, Option, Some, None, refl, sym, ap, subst, ◌∙◌, option_map}
 use Rattle.std.specs.Cmp.Lexicographic.{slice_cmp}
 use Rattle.std.specs.List.Sorted.{IsStrictlySortedBy}
 use Rattle.std.specs.Ordering.{nat_cmp, match_ordering}
 use Rattle.std.specs.declared.cmp.Ordering.{Ordering}
 use Rattle.std.specs.declared.cmp.Ordering.TheVariants.{Less, Equal, Greater}
+use Rattle.std.specs.Str.{bytes_eq}
+use Rattle.std.proofs.lemmas.Slice.Eq.{bytes_eq-Decides}
 use Rattle.serde_json.specs.Data.{Data, null, boolean, number, string, array, object, Members, no_members, member}
 use Rattle.serde_json.specs.Find.{get, get_member}
 use Rattle.json_keys.specs.Fault.{named, members_in, members_fault, missing_key, object_fault, row_fault, columns_of, entry_fault, always}
@@ -27,7 +29,7 @@ inside_at : (ms : Members) (k : List ℕ) (v : Data) → MembersInOrder ms → g
 inside_at no_members k v o g = absurd cc
 inside_at (member l d ms) k v o g = inside_one (slice_cmp nat_cmp k l) d v (get_member k ms) o.0 (inside_at ms k v o.1) g
 
-inside : (d : Data) (k : List ℕ) (v : Data) → AllInOrder d → get k d ≡ Some v → AllInOrder v
+pub inside : (d : Data) (k : List ℕ) (v : Data) → AllInOrder d → get k d ≡ Some v → AllInOrder v
 inside (object ms) k v o g = inside_at ms k v o.1 g
 inside null k v o g = absurd cc
 inside (boolean b) k v o g = absurd cc
@@ -59,11 +61,34 @@ pub record IsPassed {A : Type 0} (fault : A → Data → Option Rule) (wanted : 
   pub order : AllInOrder d
   pub passed : object_fault fault wanted ks d ≡ None
 
+-- an object in which each key of a table that is to be there has a value that is let through
+pub record IsHeld {A : Type 0} (fault : A → Data → Option Rule) (wanted : A → Bool) (ks : List (List ℕ × A)) (d : Data) : Type 0 where
+  pub held : (k : List ℕ) (a : A) → named ks k ≡ Some a → wanted a ≡ true → AllInOrder (value_at k d) × (fault a (value_at k d) ≡ None)
+
+-- the keys of a table that lets an object through are held
+pub held : {A : Type 0} {fault : A → Data → Option Rule} {wanted : A → Bool} {ks : List (List ℕ × A)} {d : Data} → IsPassed fault wanted ks d → IsHeld fault wanted ks d
+held {A} {fault} {wanted} {ks} {d} p = record {
+  held = λ k a n w.
+      (inside d k (value_at k d) p.order (present fault wanted ks k a d p.passed n w), must fault wanted ks k a d p.passed n w);
+}
+
+later_at : {A : Type 0} (here : Bool) (first k : List ℕ) (b a : A) (ks : List (List ℕ × A)) → bytes_eq first k ≡ here → named ks first ≡ None → named ks k ≡ Some a → cond here (Some b) (named ks k) ≡ Some a
+later_at false first k b a ks is none n = n
+later_at true first k b a ks is none n =
+    let gone : named ks k ≡ None = ap (named ks) (sym ((bytes_eq-Decides first k).0 is)) ∙ none in absurd cc
+
+-- and so are those after its first one
+pub held_later : {A : Type 0} {fault : A → Data → Option Rule} {wanted : A → Bool} {ks : List (List ℕ × A)} {d : Data} (first : List ℕ) (b : A)
+    → IsPassed fault wanted ((first, b) ∷ ks) d → named ks first ≡ None → IsHeld fault wanted ks d
+held_later {A} {fault} {wanted} {ks} {d} first b p none = record {
+  held = λ k a n w. (held p).held k a (later_at (bytes_eq first k) first k b a ks refl none n) w;
+}
+
 -- what is read at a key that is to be there is good
 pub good : {A X : Type 0} {of : Data → X} {shown : X → Data} {Good : X → Type 0} {fault : A → Data → Option Rule} {wanted : A → Bool} {ks : List (List ℕ × A)} {d : Data}
-    → IsPassed fault wanted ks d → (k : List ℕ) (a : A) → named ks k ≡ Some a → wanted a ≡ true → Codec X (fault a) of shown Good → Good (of (value_at k d))
-good {A} {X} {of} {shown} {Good} {fault} {wanted} {ks} {d} p k a n w c =
-    c.right (value_at k d) (inside d k (value_at k d) p.order (present fault wanted ks k a d p.passed n w)) (must fault wanted ks k a d p.passed n w)
+    → IsHeld fault wanted ks d → (k : List ℕ) (a : A) → named ks k ≡ Some a → wanted a ≡ true → Codec X (fault a) of shown Good → Good (of (value_at k d))
+good {A} {X} {of} {shown} {Good} {fault} {wanted} {ks} {d} h k a n w c =
+    let value = h.held k a n w in c.right (value_at k d) value.0 value.1
 
 -- what is written of what is read there is what is there
 pub keeps : {A X : Type 0} {of : Data → X} {shown : X → Data} {Good : X → Type 0} {fault : A → Data → Option Rule} {wanted : A → Bool} {ks : List (List ℕ × A)} {d : Data}

@@ -9,12 +9,12 @@ use Rattle.json_keys.specs.Order.{AllInOrder}
 use Rattle.json_keys.proofs.Held.{object_fine}
 use Rattle.row_kinds.specs.Look.{value_at, with_cell, list_in, items_in, items_data}
 use Rattle.row_kinds.specs.Rows.{grant_in, grant_data, role_in, role_data, user_in, user_data, session_in, session_data, IsTypedGrant, IsTypedRole, IsTypedUser}
-use Rattle.row_kinds.specs.Tables.{role_row, user_row, session_row}
+use Rattle.row_kinds.specs.Tables.{role_row, user_row, session_row, role_keys, user_keys, session_keys}
 use Rattle.row_kinds.proofs.Codec.{Codec, Back, any, ComesBack}
 use Rattle.row_kinds.proofs.Keys.{zero_least, below_top, below_next, gid, id, moment, maybe_hex, permissions, names}
 use Rattle.row_kinds.proofs.Lists.{table, IsListOf, passing, of_passing, some_passes, of_some_passes}
 use Rattle.row_kinds.proofs.Numbers.{flag}
-use Rattle.row_kinds.proofs.Objects.{good, keeps, rebuilt, columns_passed, IsPassed}
+use Rattle.row_kinds.proofs.Objects.{good, keeps, rebuilt, columns_passed, held, IsHeld, IsPassed}
 use Rattle.row_kinds.proofs.Strings.{line, uuid, name, hex_or_empty}
 use Rattle.content_rows.specs.declared.row.Grant.{Grant}
 use Rattle.content_rows.specs.declared.row.Role.{Role}
@@ -25,7 +25,7 @@ use Rattle.json_keys.specs.declared.shape.Shape.TheVariants as shape
 
 grant_right : (d : Data) → AllInOrder d → row_fault columns.Grant d ≡ None → IsTypedGrant (grant_in d)
 grant_right d o h =
-    let p = columns_passed columns.Grant d o h in
+    let p = held (columns_passed columns.Grant d o h) in
     let gid_is = good p (codes "gid") _ refl refl gid in
     let realm_is = good p (codes "realm") _ refl refl name in
     (below_next (grant_in d).gid gid_is.1, realm_is)
@@ -47,10 +47,10 @@ grant_kept d o h =
 grant : Codec Grant (row_fault columns.Grant) grant_in grant_data IsTypedGrant
 grant = record { right = grant_right; back = grant_back; kept = grant_kept }
 
-grants : Codec (List Grant) (shape_fault (shape.Table 64 columns.Grant)) (λ d. list_in grant_in (items_in d)) (λ xs. array (items_data grant_data xs)) (IsListOf 64 IsTypedGrant)
+pub grants : Codec (List Grant) (shape_fault (shape.Table 64 columns.Grant)) (λ d. list_in grant_in (items_in d)) (λ xs. array (items_data grant_data xs)) (IsListOf 64 IsTypedGrant)
 grants = table 64 columns.Grant grant
 
-pub role_right : (d : Data) → IsPassed ask_fault is_wanted role_row d → IsValidRole (role_in d) × IsTypedRole (role_in d)
+pub role_right : (d : Data) → IsHeld ask_fault is_wanted role_keys d → IsValidRole (role_in d) × IsTypedRole (role_in d)
 role_right d p =
     let grants_is = good p (codes "grants") _ refl refl grants in
     let label_is = good p (codes "label") _ refl refl (line 255) in
@@ -94,7 +94,7 @@ role_kept d p =
       ),
     )
 
-pub user_right : (d : Data) → IsPassed ask_fault is_wanted user_row d → IsValidUser (user_in d) × IsTypedUser (user_in d)
+pub user_right : (d : Data) → IsHeld ask_fault is_wanted user_keys d → IsValidUser (user_in d) × IsTypedUser (user_in d)
 user_right d p =
     let created_is = good p (codes "created") _ refl refl moment in
     let digest_is = good p (codes "digest") _ refl refl (maybe_hex 64) in
@@ -165,7 +165,7 @@ user_kept d p =
       ),
     )
 
-pub session_right : (d : Data) → IsPassed ask_fault is_wanted session_row d → IsValidSession (session_in d)
+pub session_right : (d : Data) → IsHeld ask_fault is_wanted session_keys d → IsValidSession (session_in d)
 session_right d p =
     let expires_is = good p (codes "expires") _ refl refl moment in
     let uid_is = good p (codes "uid") _ refl refl id in

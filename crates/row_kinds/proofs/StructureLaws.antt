@@ -13,12 +13,12 @@ use Rattle.json_keys.specs.Order.{AllInOrder}
 use Rattle.json_keys.proofs.Held.{object_fine}
 use Rattle.row_kinds.specs.Look.{value_at, with_cell, list_in, items_in, items_data}
 use Rattle.row_kinds.specs.Rows.{link_in, link_data, site_in, site_data, seq_in, seq_data, menu_in, menu_data, listing_in, listing_data, block_in, block_data, IsTypedBlock, IsTypedLink, IsTypedListing, IsTypedMenu, IsTypedSeq}
-use Rattle.row_kinds.specs.Tables.{site_row, seq_row, menu_row, listing_row, block_row}
+use Rattle.row_kinds.specs.Tables.{site_row, seq_row, menu_row, listing_row, block_row, site_keys, seq_keys, menu_keys, listing_keys, block_keys}
 use Rattle.row_kinds.proofs.Codec.{Codec, Back, Between, any, ComesBack}
-use Rattle.row_kinds.proofs.Keys.{zero_least, below_top, below_next, next_id, id, maybe_listing_path, maybe_body, maybe_name, maybe_age, maybe_span, maybe_id, names, block_paths}
+use Rattle.row_kinds.proofs.Keys.{zero_least, below_top, below_next, next_id, maybe_listing_path, maybe_body, maybe_name, maybe_age, maybe_span, maybe_id, names, block_paths}
 use Rattle.row_kinds.proofs.Lists.{table, IsListOf, each_of, of_each, passing, of_passing, both_of, weaker, some_passes, of_some_passes, for_some, of_for_some}
 use Rattle.row_kinds.proofs.Numbers.{flag, weight}
-use Rattle.row_kinds.proofs.Objects.{good, keeps, rebuilt, columns_passed, IsPassed}
+use Rattle.row_kinds.proofs.Objects.{good, keeps, rebuilt, columns_passed, held, IsHeld, IsPassed}
 use Rattle.row_kinds.proofs.Strings.{line, heading, name, target, front}
 use Rattle.row_kinds.proofs.WordCodecs.{block_kind, region_word_of}
 use Rattle.content_rows.specs.declared.row.Link.{Link}
@@ -43,7 +43,7 @@ pub record IsPairedBlock (r : Block) : Type 0 where
   pub name_paired : is_some r.name ≡ has_name r.kind
   pub text_paired : is_some r.text ≡ is_placed_text r.kind
 
-pub site_right : (d : Data) → IsPassed ask_fault is_wanted site_row d → IsValidSite (site_in d)
+pub site_right : (d : Data) → IsHeld ask_fault is_wanted site_keys d → IsValidSite (site_in d)
 site_right d p =
     let front_is = good p (codes "front") _ refl refl front in
     let name_is = good p (codes "name") _ refl refl (line 255) in
@@ -73,7 +73,7 @@ site_kept d p =
       ),
     )
 
-pub seq_right : (d : Data) → IsPassed ask_fault is_wanted seq_row d → IsValidSeq (seq_in d) × IsTypedSeq (seq_in d)
+pub seq_right : (d : Data) → IsHeld ask_fault is_wanted seq_keys d → IsValidSeq (seq_in d) × IsTypedSeq (seq_in d)
 seq_right d p =
     let node_is = good p (codes "node") _ refl refl next_id in
     let term_is = good p (codes "term") _ refl refl next_id in
@@ -117,7 +117,7 @@ IsGoodLink x = IsValidLink x × IsTypedLink x
 
 link_right : (d : Data) → AllInOrder d → row_fault columns.Link d ≡ None → IsGoodLink (link_in d)
 link_right d o h =
-    let p = columns_passed columns.Link d o h in
+    let p = held (columns_passed columns.Link d o h) in
     let id_is = good p (codes "id") _ refl refl name in
     let parent_is = good p (codes "parent") _ refl refl maybe_name in
     let path_is = good p (codes "path") _ refl refl target in
@@ -163,7 +163,7 @@ link = record { right = link_right; back = link_back; kept = link_kept }
 links : Codec (List Link) (shape_fault (shape.Table 256 columns.Link)) (λ d. list_in link_in (items_in d)) (λ xs. array (items_data link_data xs)) (IsListOf 256 IsGoodLink)
 links = table 256 columns.Link link
 
-pub menu_right : (d : Data) → IsPassed ask_fault is_wanted menu_row d → IsWholeMenu (menu_in d) → IsValidMenu (menu_in d) × IsTypedMenu (menu_in d)
+pub menu_right : (d : Data) → IsHeld ask_fault is_wanted menu_keys d → IsWholeMenu (menu_in d) → IsValidMenu (menu_in d) × IsTypedMenu (menu_in d)
 menu_right d p whole =
     let label_is = good p (codes "label") _ refl refl (line 255) in
     let links_is = good p (codes "links") _ refl refl links in (
@@ -200,7 +200,7 @@ menu_kept d p =
       ),
     )
 
-pub listing_right : (d : Data) → IsPassed ask_fault is_wanted listing_row d → is_none (listing_in d).age ≡ is_none (listing_in d).recent → IsValidListing (listing_in d) × IsTypedListing (listing_in d)
+pub listing_right : (d : Data) → IsHeld ask_fault is_wanted listing_keys d → is_none (listing_in d).age ≡ is_none (listing_in d).recent → IsValidListing (listing_in d) × IsTypedListing (listing_in d)
 listing_right d p paired =
     let age_is = good p (codes "age") _ refl refl maybe_age in
     let path_is = good p (codes "path") _ refl refl maybe_listing_path in
@@ -265,7 +265,7 @@ listing_kept d p =
       ),
     )
 
-pub block_right : (d : Data) → IsPassed ask_fault is_wanted block_row d → IsPairedBlock (block_in d) → IsValidBlock (block_in d) × IsTypedBlock (block_in d)
+pub block_right : (d : Data) → IsHeld ask_fault is_wanted block_keys d → IsPairedBlock (block_in d) → IsValidBlock (block_in d) × IsTypedBlock (block_in d)
 block_right d p paired =
     let age_is = good p (codes "age") _ refl refl maybe_age in
     let label_is = good p (codes "label") _ refl refl (heading 255) in

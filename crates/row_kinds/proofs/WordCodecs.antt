@@ -1,5 +1,5 @@
 -- Words.
-use Rattle.std.proofs.Common.{◌≡◌, ℕ, List, [], ◌∷◌, Bool, true, false, not, ◌||◌, cond, Option, Some, None, refl, sym, ap, ◌∙◌, codes}
+use Rattle.std.proofs.Common.{◌≡◌, ℕ, List, Bool, true, false, not, ◌||◌, cond, Some, None, refl, sym, ap, codes}
 use Rattle.std.specs.Str.{bytes_eq}
 use Rattle.std.proofs.lemmas.Slice.Eq.{bytes_eq-Decides}
 use Rattle.serde_json.specs.Data.{Data, null, boolean, number, string, array, object}
@@ -8,9 +8,8 @@ use Rattle.content_rows.specs.declared.row.BlockKind.TheVariants as kind
 use Rattle.content_rows.specs.declared.row.Region.{Region}
 use Rattle.content_rows.specs.declared.row.Region.TheVariants as region
 use Rattle.json_keys.specs.Fault.{plain_fault}
-use Rattle.json_keys.specs.Form.{block_kinds, regions, is_among, text_fault}
+use Rattle.json_keys.specs.Form.{block_kinds, regions, is_among}
 use Rattle.json_keys.specs.Order.{AllInOrder}
-use Rattle.json_keys.specs.declared.rule.Rule.{Rule}
 use Rattle.json_keys.specs.declared.rule.Rule.TheVariants as rule
 use Rattle.json_keys.specs.declared.shape.Form.TheVariants as form
 use Rattle.json_keys.specs.declared.shape.Plain.TheVariants as plain

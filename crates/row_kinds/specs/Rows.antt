@@ -1,6 +1,6 @@
 -- The kinds of rows: what is read of every object, what is written of every row, and what the types of a row's keys say of
 -- their values.
-use Rattle.std.specs.Prelude.{List, ◌<◌, IsTrue, codes}
+use Rattle.std.specs.Prelude.{◌<◌, IsTrue, codes}
 use Rattle.std.specs.List.{AllByRecursion}
 use Rattle.serde_json.specs.Data.{Data, boolean, array, object, no_members, member}
 use Rattle.content_rows.specs.LiteralName.{is_name}
@@ -20,7 +20,7 @@ use Rattle.content_rows.specs.declared.row.Listing.{Listing}
 use Rattle.content_rows.specs.declared.row.Block.{Block}
 use Rattle.content_rows.specs.declared.row.Session.{Session}
 use Rattle.json_keys.specs.Fault.{members_in}
-use Rattle.row_kinds.specs.Look.{value_at, flag_in, number_in, small_in, text_in, name_in, weight_in, kind_in, region_in, option_in, items_in, list_in, texts_in, whole_data, text_data, weight_data, kind_data, region_data, option_data, items_data, texts_data, OrNone, IsSmall, IsNameText, IsTypedText}
+use Rattle.row_kinds.specs.Look.{value_at, flag_in, number_in, small_in, text_in, name_in, weight_in, kind_in, region_in, option_in, items_in, list_in, texts_in, whole_data, text_data, weight_data, kind_data, region_data, option_data, items_data, texts_data, OrNone, IsNameText, IsTypedText}
 
 abbrev pub grant_in : Data → Grant
 grant_in d = record {

@@ -335,7 +335,7 @@ pub(crate) fn text_in(value: &Value) -> &[u8]
 }
 
 /// The name that a text is, or `_`.
-pub(crate) fn name_in(text: &[u8]) -> Name
+pub fn name_in(text: &[u8]) -> Name
     ensures { result ≡ name_or_blank text.now }
 {
     if is_name(text) {

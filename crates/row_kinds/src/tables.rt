@@ -117,7 +117,7 @@ pub const NODE: [Key; 16] = [
         "created",
         Ask::Must(Shape::Of(Entry::One(Plain::Whole(0, 4_102_444_800)))),
     ),
-    ("fields", Ask::Must(Shape::Texts)),
+    ("fields", Ask::Must(Shape::Texts(false))),
     ("grants", Ask::Must(Shape::Table(64, Columns::GrantRow))),
     (
         "path",

@@ -12,12 +12,9 @@ use content_rows::{FieldValue, Items};
 use serde_json::{Map, Value};
 use std::alloc::{AllocError, Global};
 
-/// The texts at a key, by their names.
-pub(crate) fn texts_at(
-    alloc: Global,
-    value: &Value,
-    key: &str,
-) -> Result<Items<FieldValue>, AllocError>
+/// The texts at a key, by their names; none where it has no object. `Err` only where memory is
+/// wanting.
+pub fn texts_at(alloc: Global, value: &Value, key: &str) -> Result<Items<FieldValue>, AllocError>
     ensures { IfOk result (λ xs. xs ≡ texts_in (members_in (value_at key.now (view value.now)))) }
 {
     match value.get(key) {

@@ -18,7 +18,7 @@ use user_roles::{has, permissions_of, role_names};
 
 /// A viewer with what it is permitted and granted: made once, and asked about each thing that is to
 /// be shown or edited.
-#[derive(Drop, Debug)]
+#[derive(Drop)]
 pub struct Account {
     /// Who views.
     pub viewer: Viewer,

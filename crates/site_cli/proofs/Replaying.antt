@@ -1,53 +1,93 @@
 -- From what a connection promises to what a replay does.
-use Rattle.std.proofs.Common.{◌≡◌, ◌∙◌, List, ℕ, Option, Some, None, refl, sym, subst}
+use Rattle.std.proofs.Common.{◌≡◌, ◌∙◌, ◌≤◌, ◌+◌, ◌⊎◌, List, [], ℕ, Option, Some, None, true, min, drop, ap, refl, sym, subst, arith, inl, inr}
 use Rattle.content_state.specs.State.{State}
+use Rattle.content_state.specs.declared.commit.Commit.{Commit}
 use Rattle.site_io.specs.declared.device.Point.{Point}
 use Rattle.site_io.specs.declared.ended.Ended.{Ended}
-use Rattle.site_io.specs.Series.{AreFirstOf, GivesInTurn, last_moment}
-use Rattle.site_http.specs.History.{history_of, newest}
-use Rattle.site_http.specs.Connection.{Connection}
-use Rattle.site_cli.specs.House.{unedited}
+use Rattle.site_io.specs.Series.{AreFirstOf, GivesInTurn, last_moment, last_word}
+use Rattle.site_house.specs.History.{History, newest, newest_of}
+use Rattle.site_house.specs.House.{HouseView, Moves, CountRose, history_of}
+use Rattle.site_http.specs.Connection.{Around, Connection}
+use Rattle.site_cli.specs.House.{opened_on}
 use Rattle.site_cli.specs.Place.{next_list, none_given, clock_given, entropy_given, IsNoneReached}
 use Rattle.site_cli.specs.Run.{around, status_of, Outside, Replays}
 
 -- what has given nothing has given what its list has first
-none_first : (moments : Option (List ℕ)) → AreFirstOf last_moment moments (none_given moments)
-none_first None = tt
-none_first (Some values) = refl
+none_first : (greatest : ℕ) (values : Option (List ℕ)) → AreFirstOf greatest values (none_given values)
+none_first greatest None = tt
+none_first greatest (Some values) = refl
+
+-- what a list gave, of one that gave nothing before
+in_turn : (greatest : ℕ) (list listed listed-after given given-after : Option (List ℕ)) → listed ≡ list → given ≡ none_given list → GivesInTurn greatest listed listed-after given given-after → AreFirstOf greatest list given-after
+in_turn greatest list listed listed-after given given-after is begins turn =
+    let first = subst (λ (o : Option (List ℕ)). AreFirstOf greatest listed o) (sym begins) (subst (λ (l : Option (List ℕ)). AreFirstOf greatest l (none_given list)) (sym is) (none_first greatest list)) in
+    subst (λ (l : Option (List ℕ)). AreFirstOf greatest l given-after) (turn.same ∙ is) (turn.in_turn first)
 
 -- what a connection is over, and what it says of the devices that its place gave
-pub record Served (end : Ended) (site : State) (old new : Outside) (listed listed-after told given drawn drawn-after : Option (List ℕ)) (points points-after : Option (List Point)) (base base-after : State) : Type 0 where
+pub record Served (end : Ended) (site : State) (old new : Outside) (listed listed-after given given-after words words-after drawn drawn-after : Option (List ℕ)) (points points-after : Option (List Point)) (house house-after : HouseView) : Type 0 where
   pub list : listed ≡ next_list old.place.moments
-  pub clock : told ≡ none_given (next_list old.place.moments)
+  pub clock : given ≡ none_given (next_list old.place.moments)
+  pub chances : words ≡ next_list old.place.words
   pub chance : drawn ≡ none_given (next_list old.place.words)
-  pub undrawn : drawn-after ≡ drawn
   pub gate : IsNoneReached points
-  pub turn : GivesInTurn last_moment listed listed-after told given
-  pub same : base-after ≡ base
-  pub site_is : base ≡ site
-  pub connection : Connection end (around old.left told drawn points old.written) (around new.left given drawn-after points-after new.written) (history_of (unedited base-after)) 1000 (newest (history_of (unedited base)))
+  pub turn : GivesInTurn last_moment listed listed-after given given-after
+  pub word_turn : GivesInTurn last_word words words-after drawn drawn-after
+  pub house_is : house ≡ opened_on site
+  pub moves : Moves house house-after
+  pub own : house-after.faults ≡ 0 → house-after.handed ≡ drop house-after.opened house-after.seen
+  pub connection :
+      Connection end
+      (record { left = old.left; out = record { given = given; words = drawn; points = points; written = old.written; handed = house.handed; keepers = house.keepers } })
+      (record { left = new.left; out = record { given = given-after; words = drawn-after; points = points-after; written = new.written; handed = house-after.handed; keepers = house-after.keepers } })
+      (history_of house-after) 1000 (newest (history_of house))
   pub place : new.place ≡ entropy_given (clock_given old.place)
 
+-- no answer was that the keeper failed, since it never did
+no_keepers : {k k' f f' : ℕ} → f ≡ 0 → f' ≡ f → k ≡ 0 → (k' ≡ k) ⊎ CountRose f f' → k' ≡ 0
+no_keepers none same begins cause = elim cause [
+  | inl stays ↦ stays ∙ begins
+  | inr rose ↦ absurd (omega (arith, none, same))
+]
+
+abbrev with_log : State → List Commit → ℕ → History
+with_log base log pass = record { base = base; log = log; pass = pass }
+
+abbrev over : Option (List ℕ) → Option (List ℕ) → Option (List ℕ) → Option (List Point) → Option (List ℕ) → List Commit → ℕ → Around
+over left given words points written handed keepers = record {
+  left = left;
+  out = record { given = given; words = words; points = points; written = written; handed = handed; keepers = keepers };
+}
+
 -- a connection over a house of a site
-pub replays : (end : Ended) (site : State) (old new : Outside) (listed listed-after told given drawn drawn-after : Option (List ℕ)) (points points-after : Option (List Point)) (base base-after : State) (status : ℕ)
-    → Served end site old new listed listed-after told given drawn drawn-after points points-after base base-after → status ≡ status_of end → Replays site old new status
-replays end site old new listed listed-after told given drawn drawn-after points points-after base base-after status s status_is =
-    let begun : Option (List ℕ) = none_given (next_list old.place.moments) in
-    let none : Option (List ℕ) = none_given (next_list old.place.words) in
-    let on_base = subst (λ (b : State). Connection end (around old.left told drawn points old.written) (around new.left given drawn-after points-after new.written) (history_of (unedited b)) 1000 (newest (history_of (unedited base)))) s.same s.connection in
-    let on_site = subst (λ (b : State). Connection end (around old.left told drawn points old.written) (around new.left given drawn-after points-after new.written) (history_of (unedited b)) 1000 (newest (history_of (unedited b)))) s.site_is on_base in
-    let undrawn = subst (λ (o : Option (List ℕ)). Connection end (around old.left told drawn points old.written) (around new.left given o points-after new.written) (history_of (unedited site)) 1000 (newest (history_of (unedited site)))) s.undrawn on_site in
-    let chance = subst (λ (o : Option (List ℕ)). Connection end (around old.left told o points old.written) (around new.left given o points-after new.written) (history_of (unedited site)) 1000 (newest (history_of (unedited site)))) s.chance undrawn in
-    let clock = subst (λ (o : Option (List ℕ)). Connection end (around old.left o none points old.written) (around new.left given none points-after new.written) (history_of (unedited site)) 1000 (newest (history_of (unedited site)))) s.clock chance in
-    let first = subst (λ (o : Option (List ℕ)). AreFirstOf last_moment listed o) (sym s.clock) (subst (λ (l : Option (List ℕ)). AreFirstOf last_moment l begun) (sym s.list) (none_first (next_list old.place.moments))) in
+pub replays : (end : Ended) (site : State) (old new : Outside) (listed listed-after given given-after words words-after drawn drawn-after : Option (List ℕ)) (points points-after : Option (List Point)) (house house-after : HouseView) (status : ℕ)
+    → Served end site old new listed listed-after given given-after words words-after drawn drawn-after points points-after house house-after → status ≡ status_of end → Replays site old new status
+replays end site old new listed listed-after given given-after words words-after drawn drawn-after points points-after house house-after status s status_is =
+    let m = s.moves in
+    let base : house-after.base ≡ site = m.base ∙ ap (λ (h : HouseView). h.base) s.house_is in
+    let pass : house-after.number ≡ 0 = m.number ∙ ap (λ (h : HouseView). h.number) s.house_is in
+    let opened : house-after.opened ≡ 0 = m.opened ∙ ap (λ (h : HouseView). h.opened) s.house_is in
+    let begun : house.faults ≡ 0 = ap (λ (h : HouseView). h.faults) s.house_is in
+    let same : house-after.faults ≡ house.faults = m.never_fails (ap (λ (h : HouseView). h.steadfast) s.house_is) in
+    let handed : house-after.handed ≡ house-after.seen = s.own (same ∙ begun) ∙ ap (λ (n : ℕ). drop n house-after.seen) opened in
+    let keepers : house-after.keepers ≡ 0 = no_keepers begun same (ap (λ (h : HouseView). h.keepers) s.house_is) m.cause in
+    let first = subst (λ (h : HouseView). Connection end (over old.left given drawn points old.written h.handed h.keepers) (over new.left given-after drawn-after points-after new.written house-after.handed house-after.keepers) (history_of house-after) 1000 (newest (history_of h))) s.house_is s.connection in
+    let second = subst (λ (l : List Commit). Connection end (over old.left given drawn points old.written [] 0) (over new.left given-after drawn-after points-after new.written l house-after.keepers) (history_of house-after) 1000 (newest_of site [])) handed first in
+    let third = subst (λ (k : ℕ). Connection end (over old.left given drawn points old.written [] 0) (over new.left given-after drawn-after points-after new.written house-after.seen k) (history_of house-after) 1000 (newest_of site [])) keepers second in
+    let fourth = subst (λ (b : State). Connection end (over old.left given drawn points old.written [] 0) (over new.left given-after drawn-after points-after new.written house-after.seen 0) (with_log b house-after.seen house-after.number) 1000 (newest_of site [])) base third in
+    let fifth = subst (λ (n : ℕ). Connection end (over old.left given drawn points old.written [] 0) (over new.left given-after drawn-after points-after new.written house-after.seen 0) (with_log site house-after.seen n) 1000 (newest_of site [])) pass fourth in
+    let sixth = subst (λ (o : Option (List ℕ)). Connection end (over old.left o drawn points old.written [] 0) (over new.left given-after drawn-after points-after new.written house-after.seen 0) (with_log site house-after.seen 0) 1000 (newest_of site [])) s.clock fifth in
+    let seventh = subst (λ (o : Option (List ℕ)). Connection end (over old.left (none_given (next_list old.place.moments)) o points old.written [] 0) (over new.left given-after drawn-after points-after new.written house-after.seen 0) (with_log site house-after.seen 0) 1000 (newest_of site [])) s.chance sixth in
     record {
       end = end;
-      given = given;
+      given = given-after;
+      drawn = drawn-after;
       points = points;
       points-after = points-after;
-      in_turn = subst (λ (l : Option (List ℕ)). AreFirstOf last_moment l given) (s.turn.same ∙ s.list) (s.turn.in_turn first);
+      log = house-after.seen;
+      in_turn = in_turn last_moment (next_list old.place.moments) listed listed-after given given-after s.list s.clock s.turn;
+      words_in_turn = in_turn last_word (next_list old.place.words) words words-after drawn drawn-after s.chances s.chance s.word_turn;
       begins = s.gate;
-      connection = clock;
+      connection = seventh;
       place = s.place;
       status_is = status_is;
     }

@@ -1,5 +1,5 @@
 -- A place that the program works at: what it is to give, and how often it failed.
-use Rattle.std.specs.Prelude.{ℕ, List, [], ◌∷◌, ◌≡◌, ◌≤◌, ◌<◌, Option, Some, None, Vec, find, option_map}
+use Rattle.std.specs.Prelude.{ℕ, List, [], ◌∷◌, ◌≡◌, ◌≤◌, ◌<◌, ◌+◌, ◌%◌, ◌^◌, Option, Some, None, Vec, find, option_map}
 use Rattle.std.specs.Str.{bytes_eq}
 use Rattle.site_io.specs.declared.device.Point.{Point}
 use Rattle.site_io.specs.Told.{Rose}
@@ -33,10 +33,21 @@ pub record Memory : Type 0 where
   pub faults : ℕ
   pub rows_faults : ℕ
 
--- the place of the real program: how often it failed to open a device, and how often one was given back that had failed
+-- The place of the real program: the seed that its words of chance are made from, and how many streams of them it gave;
+-- how often it failed to open a device, and how often one was given back that had failed.
 pub record System : Type 0 where
+  pub seed : List ℕ
+  pub streams : ℕ
   pub faults : ℕ
   pub rows_faults : ℕ
+
+-- where nothing was given and nothing failed yet
+abbrev pub IsNewSystem : System → Type 0
+IsNewSystem place = place ≡ record { seed = place.seed; streams = 0; faults = 0; rows_faults = 0 }
+
+-- One more stream was given. After 2^64 of them their numbers begin anew.
+abbrev pub stream_given : System → System
+stream_given place = record place { streams = (place.streams + 1) % 2 ^ 64 }
 
 -- the list that is next; past the last one it is empty
 abbrev pub next_list : Option (List (List ℕ)) → Option (List ℕ)

@@ -8,11 +8,11 @@ use Rattle.content_rows.specs.declared.row.Row.{Row}
 use Rattle.content_rows.specs.StarterRows.{starter_rows}
 use Rattle.content_state.specs.Rows.{with_row}
 use Rattle.content_state.specs.State.{State}
-use Rattle.site_io.specs.Series.{AreFirstOf, last_moment}
+use Rattle.site_io.specs.Series.{AreFirstOf, last_moment, last_word}
 use Rattle.site_io.specs.declared.device.Point.{Point}
-use Rattle.site_http.specs.History.{history_of, newest}
+use Rattle.site_house.specs.History.{newest_of}
 use Rattle.site_http.specs.Connection.{Around, Connection}
-use Rattle.site_cli.specs.House.{unedited}
+use Rattle.content_state.specs.declared.commit.Commit.{Commit}
 use Rattle.content_state.specs.SiteRules.{IsValidState}
 use Rattle.site_files.specs.Rows.{rows_of as rows_of_file, IsToldBy, IsSiteFault}
 use Rattle.site_files.specs.declared.fault.ReadFault.{ReadFault}
@@ -39,11 +39,12 @@ status_of ended.ReadFault = 5
 status_of ended.WriteFault = 6
 status_of ended.OutOfMemory = 9
 
--- what stands around a connection over a house without edits: what is left, given, drawn, told and written
-abbrev pub around : Option (List ℕ) → Option (List ℕ) → Option (List ℕ) → Option (List Point) → Option (List ℕ) → Around
-around left given words points written = record {
+-- what stands around a connection whose keeper never failed: what is left, given, drawn, told and written, and the edits that
+-- were handed in
+abbrev pub around : Option (List ℕ) → Option (List ℕ) → Option (List ℕ) → Option (List Point) → Option (List ℕ) → List Commit → Around
+around left given words points written handed = record {
   left = left;
-  out = record { given = given; words = words; points = points; written = written; handed = []; keepers = 0 };
+  out = record { given = given; words = words; points = points; written = written; handed = handed; keepers = 0 };
 }
 
 -- the site of a file of these bytes: the rows that they give, no tag of which was ever invalidated, and the number 0
@@ -63,20 +64,23 @@ pub record Outside : Type 0 where
   pub place : PlaceView
 
 -- One connection over a site was answered, from the input to the output: at the moments of the place's next list, in
--- turn, each reply on the one state that there is. Nothing was handed in, and no word of chance was drawn. Of the place,
--- one clock and one entropy were taken.
+-- turn, with the words of its next list, in turn. Its log is the edits that it handed in, in order, all of which were
+-- accepted; no reply says that the keeper failed. Of the place, one clock and one entropy were taken.
 pub record Replays (base : State) (old new : Outside) (status : ℕ) : Type 0 where
   pub end : Ended
   pub given : Option (List ℕ)
+  pub drawn : Option (List ℕ)
   pub points : Option (List Point)
   pub points-after : Option (List Point)
+  pub log : List Commit
   pub in_turn : AreFirstOf last_moment (next_list old.place.moments) given
+  pub words_in_turn : AreFirstOf last_word (next_list old.place.words) drawn
   pub begins : IsNoneReached points
   pub connection :
       Connection end
-      (around old.left (none_given (next_list old.place.moments)) (none_given (next_list old.place.words)) points old.written)
-      (around new.left given (none_given (next_list old.place.words)) points-after new.written)
-      (history_of (unedited base)) 1000 (newest (history_of (unedited base)))
+      (around old.left (none_given (next_list old.place.moments)) (none_given (next_list old.place.words)) points old.written [])
+      (around new.left given drawn points-after new.written log)
+      (record { base = base; log = log; pass = 0 }) 1000 (newest_of base [])
   pub place : new.place ≡ entropy_given (clock_given old.place)
   pub status_is : status ≡ status_of end
 

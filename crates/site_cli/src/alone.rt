@@ -1,53 +1,35 @@
-//! A house of one caller, over one state that no edit changes yet.
-ghost use Rattle.std.specs.Prelude.{◌≡◌};
-ghost use Rattle.std.specs.Arc.{arc_value};
+//! The house of a caller that is alone with a site.
+ghost use Rattle.std.specs.Prelude.{◌≡◌, IfOk};
 ghost use Rattle.content_state.specs.SiteRules.{IsValidState};
-ghost use Rattle.site_cli.specs.House.{unedited};
+ghost use Rattle.site_keeper.specs.Steps.{stored_of};
+ghost use Rattle.site_hall.specs.Alone.{house_of};
+ghost use Rattle.site_cli.specs.House.{opened_on};
 
 use content_state::State;
-use render_array::House;
+use site_hall::{Alone, Hall};
+use site_keeper::{MemoryKeeper, Stored};
 use std::alloc::{AllocError, Global};
-use std::marker::Model;
-use std::sync::Arc;
 
-/// The house of a caller that is alone: its state is the one that was loaded, which is valid. Contracts see it as that
-/// state.
-#[derive(Drop)]
-pub struct Alone {
-    state: Arc<State>,
+/// All that a keeper holds of a state.
+fn stored(alloc: Global, state: &State) -> Result<Stored, AllocError>
+    ensures { IfOk result (λ stored. stored ≡ stored_of state.now) }
+{
+    Ok(Stored {
+        rows: state.rows().duplicate(alloc)?,
+        counts: state.counts().duplicate(alloc)?,
+        head: state.number(),
+    })
 }
 
-impl Model for Alone {
-    ghost use Rattle.std.specs.Arc.{arc_value};
-    ghost use Rattle.content_state.specs.State.{State as StateValue};
-    ghost use Rattle.content_state.specs.SiteRules.{IsValidState};
-
-    ghost Value = { StateValue };
-
-    ghost view = { λ a. arc_value a.state };
-
-    ghost invariant = { λ a. IsValidState (arc_value a.state) };
-}
-
-impl Alone {
-    /// The house of this state. `State::is_valid` tells whether it is one.
-    pub fn new(state: Arc<State>) -> Alone
-        requires { IsValidState (arc_value state) }
-        ensures { result ≡ arc_value state }
-    {
-        Alone { state }
-    }
-}
-
-impl House for Alone {
-    ghost sees = { λ a. unedited a };
-
-    #[tactic(auto, unfolding(content_state::specs::Replay::replay))]
-    fn snapshot(&mut self, _alloc: Global) -> Result<Arc<State>, AllocError> {
-        Arc::try_clone(&self.state)
-    }
-
-    fn faults(&self) -> u64 {
-        0
+/// The house of a caller that is alone with a valid site, over a keeper in memory that fails at no call. `Err` only where
+/// memory is wanting.
+pub fn alone_with(alloc: Global, state: &State) -> Result<Alone<MemoryKeeper>, AllocError>
+    requires { IsValidState state.now }
+    ensures { IfOk result (λ alone. house_of alone ≡ opened_on state.now) }
+{
+    let keeper = MemoryKeeper::new(alloc, stored(alloc, state)?, Vec::new(alloc));
+    match Hall::new(alloc, keeper, stored(alloc, state)?) {
+        Ok(hall) => Ok(Alone::new(alloc, hall)),
+        Err(_) => Err(AllocError),
     }
 }

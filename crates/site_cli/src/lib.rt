@@ -8,7 +8,7 @@ mod run;
 mod texts;
 mod words;
 
-pub use alone::Alone;
+pub use alone::alone_with;
 pub use place::{MemoryFile, MemoryPlace, NoDevice, Place, SystemPlace};
 pub use run::{refuse_words, rows_of, run_site, starter_is_valid};
 pub use words::{Job, WordFault, WordsFault, command_words, read_words, words_fault, words_of};

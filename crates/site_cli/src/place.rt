@@ -1,13 +1,14 @@
 //! Where the program works: what gives it moments, words of chance, a gate, and files of rows.
-ghost use Rattle.std.specs.Prelude.{◌≡◌, ◌≤◌, IfOk, IfErr, [], map, option_map};
+ghost use Rattle.std.specs.Prelude.{◌≡◌, ◌≤◌, IfOk, IfErr, None, [], length, map, option_map};
 ghost use Rattle.std.specs.String.{string_bytes};
 ghost use Rattle.site_io.specs.Memory.{fresh, up};
-ghost use Rattle.site_cli.specs.Place.{clock_given, entropy_given, file_at, memory_view, next_list, none_given, numbers, system_view, GivenBack, HasTold, IsNoDevice, IsNoneReached, Memory, PlaceView, System};
+ghost use Rattle.site_io.specs.Chance.{stream_at};
+ghost use Rattle.site_cli.specs.Place.{clock_given, entropy_given, file_at, memory_view, next_list, none_given, numbers, stream_given, system_view, GivenBack, HasTold, IsNewSystem, IsNoDevice, IsNoneReached, Memory, PlaceView, System};
 ghost use Rattle.site_cli.specs.declared.place.NoDevice.TheVariants as why;
 
 use site_io::{
-    Clock, Entropy, Gate, ListClock, ListEntropy, MemorySink, MemorySource, OpenGate, Reading,
-    Sink, Source, SystemClock, SystemEntropy, Writing,
+    Clock, Entropy, Gate, ListClock, ListEntropy, MemorySink, MemorySource, NoChance, OpenGate,
+    Reading, Seed, Sink, Source, SystemClock, SystemEntropy, Writing,
 };
 use std::alloc::{AllocError, Global};
 use std::fs::File;
@@ -269,10 +270,13 @@ impl Place for MemoryPlace {
     }
 }
 
-/// The place of the real program: the system's clock and entropy, its files, and a gate that does nothing.
+/// The place of the real program: the system's clock, streams of chance over one seed of the system's, its files, and a
+/// gate that does nothing.
 #[derive(Drop)]
 pub struct SystemPlace {
     rt: HostRuntime,
+    seed: Seed,
+    streams: u64,
     faults: u64,
     rows_faults: u64,
 }
@@ -282,19 +286,24 @@ impl Model for SystemPlace {
 
     ghost Value = { System };
 
-    ghost view = { λ p. record { faults = p.faults; rows_faults = p.rows_faults } };
+    ghost view = { λ p. record { seed = p.seed; streams = p.streams; faults = p.faults; rows_faults = p.rows_faults } };
 }
 
 impl SystemPlace {
-    /// The place of this runtime. Nothing has failed yet.
-    pub fn new(rt: HostRuntime) -> SystemPlace
-        ensures { result ≡ record { faults = 0; rows_faults = 0 } }
+    /// The place of this runtime, over a seed that is drawn now. Nothing has failed yet. `NoChance` comes where the
+    /// system's chance can't be had, and there is no place then.
+    pub fn new(rt: HostRuntime) -> Result<SystemPlace, NoChance>
+        ensures new { IfOk result IsNewSystem }
+        ensures seeded { IfOk result (λ place. length place.seed ≡ 32) }
     {
-        SystemPlace {
+        let seed = Seed::draw(&rt)?;
+        Ok(SystemPlace {
             rt,
+            seed,
+            streams: 0,
             faults: 0,
             rows_faults: 0,
-        }
+        })
     }
 }
 
@@ -307,7 +316,7 @@ impl Place for SystemPlace {
 
     type Clock = SystemClock<HostRuntime>;
 
-    type Entropy = SystemEntropy<HostRuntime>;
+    type Entropy = SystemEntropy;
 
     type Gate = OpenGate;
 
@@ -342,8 +351,16 @@ impl Place for SystemPlace {
         SystemClock::new(self.rt)
     }
 
-    fn entropy(&mut self) -> SystemEntropy<HostRuntime> {
-        SystemEntropy::new(self.rt)
+    fn entropy(&mut self) -> SystemEntropy
+        ensures words { None ≡ next_list (system_view self.old).words }
+        ensures begins { None ≡ none_given (next_list (system_view self.old).words) }
+        ensures later { system_view self.new ≡ entropy_given (system_view self.old) }
+        ensures stream { result ≡ stream_at self.old.seed self.old.streams }
+        ensures next { self.new ≡ stream_given self.old }
+    {
+        let entropy = SystemEntropy::new(&self.seed, self.streams);
+        self.streams = self.streams.wrapping_add(1);
+        entropy
     }
 
     fn gate(&mut self) -> OpenGate {

@@ -6,7 +6,7 @@ ghost use Rattle.content_state.specs.SiteRules.{IsValidState};
 ghost use Rattle.site_cli.specs.Words.{asked, usage};
 ghost use Rattle.site_cli.specs.Run.{rows_of, starter_site, status_of, HasCause, ReplaysFileOrStarves, ReplaysOrStarves, Runs};
 
-use crate::alone::Alone;
+use crate::alone::alone_with;
 use crate::load::{NoSite, load};
 use crate::place::Place;
 use crate::words::{Job, WordFault, read_words};
@@ -67,7 +67,7 @@ fn starter_state(alloc: Global) -> Result<State, AllocError>
     ensures { IfOk result (λ s. s ≡ starter_site) }
 {
     let rows = rows_of(alloc, starter(alloc)?)?;
-    Ok(State::new(rows, Counts::new(alloc), 0))
+    State::new(alloc, rows, Counts::new(alloc), 0)
 }
 
 /// Prints why the rows of a file are refused.
@@ -99,10 +99,9 @@ fn connect<P: Place>(
         (record { left = P.In.left input.new; written = P.Out.written output.new; reading = P.In.faults input.new; writing = P.Out.faults output.new; place = P.sees place.new })
         result }
 {
-    let Ok(shared) = Arc::new(alloc, state) else {
+    let Ok(mut house) = alone_with(alloc, &state) else {
         return 9;
     };
-    let mut house = Alone::new(shared);
     let mut clock = place.clock();
     let mut entropy = place.entropy();
     let mut gate = place.gate();
@@ -116,6 +115,8 @@ fn connect<P: Place>(
         &mut entropy,
         &mut gate,
     );
+    // All that was published is what this caller handed in, since nobody else was there.
+    let _handed = house.handed();
     status_of(ended)
 }
 

@@ -2,8 +2,8 @@ use Rattle.std.proofs.Common.{◌≡◌, ◌++◌, ◌<◌, ◌+◌, List, [], �
 use Rattle.site_io.specs.declared.ended.Ended.{Ended}
 use Rattle.site_io.specs.declared.ended.Ended.TheVariants as ended
 use Rattle.http_heads.specs.Requests.{End, Empty, Cut, ending}
-use Rattle.render_array.specs.House.{HouseView, Moves}
-use Rattle.site_http.specs.History.{History, history_of, newest}
+use Rattle.site_house.specs.House.{HouseView, Moves, history_of}
+use Rattle.site_house.specs.History.{History, newest}
 use Rattle.site_http.specs.Connection.{Around, Answered, Connection}
 use Rattle.site_http.specs.Turn.{Turned}
 use Rattle.site_http.proofs.Progress.{Progress, carried, goes_on, ends_at, interrupted_at, refused_at, asked_at, starved_at, half_answered_at, half_refused_at}

@@ -1,7 +1,6 @@
 pub mod Asks
 pub mod Fixed
 mod Told
-mod Histories
 mod Stories
 mod Made
 mod Grow

@@ -4,9 +4,9 @@ use Rattle.content_state.specs.declared.commit.Commit.{Commit}
 use Rattle.http_heads.specs.Requests.{End}
 use Rattle.site_io.specs.declared.ended.Ended.{Ended}
 use Rattle.site_io.specs.declared.ended.Ended.TheVariants as ended
-use Rattle.site_http.specs.History.{History, longer}
+use Rattle.site_house.specs.History.{History, longer}
 use Rattle.site_http.specs.Connection.{Around, Answered, Starved, Broken, Connection, closes_after}
-use Rattle.site_http.proofs.Histories.{newest_grows}
+use Rattle.site_house.proofs.Histories.{newest_grows}
 use Rattle.site_http.proofs.Grow.{text_grows, texts_grow}
 
 answered_grows : {old new : Around} {history : History} (more : List Commit) {limit low : ℕ} {end : End} {closing : List ℕ} → Answered old new history limit low end closing → Answered old new (longer history more) limit low end closing

@@ -6,13 +6,13 @@ use Rattle.http_heads.specs.declared.parsed.Parsed.TheVariants.{Refused}
 use Rattle.http_heads.specs.Parses.{Parses}
 use Rattle.http_heads.specs.Requests.{End, Empty, Asks, Limit, Code, Cut, ending, Reads}
 use Rattle.http_heads.proofs.Laws.{reads_next, reads_closing, reads_refused, reads_part}
-use Rattle.render_array.specs.House.{HouseView, Moves}
-use Rattle.site_http.specs.History.{History, history_of, newest}
+use Rattle.site_house.specs.House.{HouseView, Moves, history_of}
+use Rattle.site_house.specs.History.{History, newest}
 use Rattle.site_http.specs.Reply.{Story, IsText, refusal_text}
 use Rattle.site_http.specs.Connection.{Out, Around, Gave, Went, Texts, Answered, Interrupted, Starved, Broken, closes_after, joined, nothing, saying, cut_at}
 use Rattle.site_http.specs.Turn.{TookOne, Ends, RefusesWith, FailsToRead, Starves, HalfAnswered, HalfRefused}
 use Rattle.site_http.proofs.Told.{before_nothing}
-use Rattle.site_http.proofs.Histories.{history_moves, newest_grows}
+use Rattle.site_house.proofs.Histories.{history_moves, newest_grows}
 use Rattle.site_http.proofs.Stories.{gave_nothing, went_on, joined_nothing}
 use Rattle.site_http.proofs.Grow.{text_lower, texts_grow, texts_more}
 

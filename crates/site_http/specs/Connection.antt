@@ -11,8 +11,9 @@ use Rattle.http_heads.specs.declared.parsed.Parsed.TheVariants.{Whole, Refused}
 use Rattle.http_heads.specs.Parses.{Parses}
 use Rattle.content_state.specs.Ask.{IsAsk}
 use Rattle.http_heads.specs.Requests.{End, Empty, Asks, Limit, Code, Cut, Reads}
-use Rattle.site_http.specs.History.{History, newest}
-use Rattle.site_http.specs.Reply.{Story, IsText, ask_of, refusal_text}
+use Rattle.site_house.specs.History.{History, newest}
+use Rattle.site_http.specs.Called.{ask_of}
+use Rattle.site_http.specs.Reply.{Story, IsText, refusal_text}
 
 -- whether the connection closes after the reply of this index
 abbrev pub closes_after : ℕ → ℕ → Request → Bool

@@ -1,4 +1,4 @@
-pub mod History
+pub mod Called
 pub mod Reply
 pub mod Fixed
 pub mod Connection

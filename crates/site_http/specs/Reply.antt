@@ -1,7 +1,6 @@
 -- The reply to a request: what it is by the state that it is of, and what it takes and tells besides.
 -- RFC 9110, sections 9.3.1 (GET), 15.5.6 (405) and 10.2.1 (Allow); RFC 4918, section 11.5 (507).
-use Rattle.std.specs.Prelude.{ℕ, List, [], ◌∷◌, ◌++◌, ◌≡◌, ◌≤◌, ◌==◌, ◌⊎◌, Bool, true, false, Some, None, codes, length, if◌then◌else◌, min}
-use Rattle.std.specs.Str.{bytes_eq}
+use Rattle.std.specs.Prelude.{ℕ, List, [], ◌∷◌, ◌++◌, ◌≡◌, ◌≤◌, ◌<◌, ◌==◌, ◌⊎◌, Bool, true, false, Option, Some, None, is_some, codes, length, if◌then◌else◌, min}
 use Rattle.content_state.specs.declared.ask.Ask.{Ask}
 use Rattle.content_state.specs.State.{State}
 use Rattle.content_state.specs.declared.commit.Commit.{Commit}
@@ -14,28 +13,17 @@ use Rattle.http_heads.specs.Reply.{reply_text}
 use Rattle.site_io.specs.declared.device.Point.{Point}
 use Rattle.site_io.specs.declared.device.Point.TheVariants.{AfterSnapshot, BeforeReply}
 use Rattle.site_io.specs.Series.{last_moment}
-use Rattle.site_http.specs.declared.call.Asked.{Asked}
-use Rattle.site_http.specs.declared.call.Call.{Call}
-use Rattle.site_http.specs.declared.call.Call.TheVariants as call
+use Rattle.site_commands.specs.Causes.{Decision, Accepted, Refused}
+use Rattle.site_commands.specs.Judged.{judged}
+use Rattle.site_commands.specs.declared.answer.Done.{Done}
+use Rattle.site_commands.specs.declared.answer.Refusal.{Refusal}
+use Rattle.edit_bodies.specs.Commands.{draws, command_in}
+use Rattle.edit_bodies.specs.declared.words.Words.{Words}
+use Rattle.edit_replies.specs.Texts.{refused_text, done_text, media_text, bad_json_text, keeper_text}
+use Rattle.site_house.specs.History.{History, OnLog, newest, log_to, state_of}
+use Rattle.site_http.specs.Called.{Called, ToRead, ToEdit, Wish, called, ask_of}
 use Rattle.site_http.specs.declared.call.Reading.{Reading}
 use Rattle.site_http.specs.declared.call.Reading.TheVariants as reading
-use Rattle.site_http.specs.History.{History, OnLog, state_of}
-
--- what a request asks of the site
-abbrev pub ask_of : Request → Ask
-ask_of request = record { target = request.target; path = request.path; query = request.query; cookie = request.session }
-
-unfoldable pub get : List ℕ
-get = codes "GET"
-
--- what is asked for by GET, and by any other method
-abbrev pub call_by_get : Bool → Call
-call_by_get true = call.Reading reading.Page
-call_by_get false = call.Reading reading.NoPairing
-
--- what a request is for, and from where it is asked
-abbrev pub asked : Request → Asked
-asked request = record { call = call_by_get (bytes_eq request.method get); ask = ask_of request }
 
 -- the head of a page of so many bytes
 abbrev pub page_head : ℕ → ℕ → ℕ → Bool → ReplyHead
@@ -114,7 +102,7 @@ pub record Story : Type 0 where
   pub keepers : ℕ
   pub high : ℕ
 
--- the story of one reply that hands nothing in: `built` pieces of a page were built for it
+-- the story of one reply that hands nothing in and draws nothing: `built` pieces of a page were built for it
 abbrev pub told : ℕ → List Point → ℕ → List ℕ → ℕ → Story
 told moment points built text number = record {
   moments = moment ∷ [];
@@ -139,6 +127,8 @@ pub record IsPageReply (state : State) (ask : Ask) (moment : ℕ) (closing : Boo
 abbrev pub Says : Reading → State → Ask → ℕ → Bool → List ℕ → ℕ → Type 0
 Says reading.Page state ask moment closing text built = IsPageReply state ask moment closing text built
 Says reading.NoPairing state ask moment closing text built = (text ≡ method_text state.number closing) × (built ≡ 0)
+Says reading.NoMedia state ask moment closing text built = (text ≡ media_text state.number closing) × (built ≡ 0)
+Says reading.BadJson state ask moment closing text built = (text ≡ bad_json_text state.number closing) × (built ≡ 0)
 
 -- A reply on one state, whose number is of the history and isn't below the earlier ones: the gate was told of the
 -- snapshot, and then of the reply.
@@ -152,25 +142,122 @@ pub record OnState (history : History) (low : ℕ) (story : Story) (Holds : Stat
   pub holds : Holds (state_of history number) moment text built
   pub story_is : story ≡ told moment (AfterSnapshot ∷ []) built text number
 
--- Memory was wanting, for the snapshot or after it. The reply carries no number.
-pub record IsWanting (history : History) (low : ℕ) (closing : Bool) (story : Story) : Type 0 where
+-- ---- edits
+
+-- the words of chance that were drawn
+abbrev pub listed : Option Words → List ℕ
+listed None = []
+listed (Some words) = words.first ∷ words.second ∷ []
+
+-- words are drawn for an edit that takes them, and for no other
+abbrev pub IsDrawn : Wish → Option Words → Type 0
+IsDrawn wish drawn = is_some drawn ≡ draws wish.edit wish.sent
+
+-- the story of a reply to an edit
+abbrev pub answered : ℕ → Option Words → List ℕ → List Commit → ℕ → ℕ → Story
+answered moment drawn text handed keepers number = record {
+  moments = moment ∷ [];
+  words = listed drawn;
+  points = BeforeReply 0 ∷ [];
+  text = text;
+  handed = handed;
+  keepers = keepers;
+  high = number;
+}
+
+-- what becomes of a wish on a log, with the words that were drawn for it
+abbrev pub judgement : History → List Commit → Wish → Ask → Option Words → ℕ → Decision
+judgement history log wish ask drawn moment =
+    judged history.base log ask wish.csrf (command_in wish.edit wish.sent drawn) moment history.pass
+
+-- An edit is refused, as it was judged on a state of the history, whose number the reply carries.
+pub record IsRefused (history : History) (low : ℕ) (wish : Wish) (ask : Ask) (closing : Bool) (story : Story) : Type 0 where
+  pub moment : ℕ
+  pub number : ℕ
+  pub drawn : Option Words
+  pub refusal : Refusal
+  pub within : moment ≤ last_moment
+  pub on : OnLog history low number
+  pub words : IsDrawn wish drawn
+  pub refused : judgement history (log_to history number) wish ask drawn moment ≡ Refused refusal
+  pub story_is : story ≡ answered moment drawn (refused_text refusal number closing) [] 0 number
+
+-- An edit is accepted: it stands in the log at its number, which is above all that was seen before, and was judged on the
+-- state just before. The reply carries that number.
+pub record IsAccepted (history : History) (low : ℕ) (wish : Wish) (ask : Ask) (closing : Bool) (story : Story) : Type 0 where
+  pub moment : ℕ
+  pub number : ℕ
+  pub drawn : Option Words
+  pub before : List Commit
+  pub commit : Commit
+  pub done : Done
+  pub within : moment ≤ last_moment
+  pub on : OnLog history low number
+  pub above : low < number
+  pub words : IsDrawn wish drawn
+  pub stands : log_to history number ≡ before ++ commit ∷ []
+  pub accepted : judgement history before wish ask drawn moment ≡ Accepted commit done
+  pub story_is : story ≡ answered moment drawn (done_text done number closing) (commit ∷ []) 0 number
+
+-- what was handed in of an edit whose keeper failed: nothing, or the edit, as it was accepted on a state of the history
+abbrev pub HandedOnce : History → ℕ → Wish → Ask → Option Words → ℕ → List Commit → Type 0
+HandedOnce history number wish ask drawn moment [] = Unit {0}
+HandedOnce history number wish ask drawn moment (commit ∷ []) =
+    (done : Done) × (judgement history (log_to history number) wish ask drawn moment ≡ Accepted commit done)
+HandedOnce history number wish ask drawn moment (commit ∷ other ∷ others) = ⊥
+
+-- The keeper of the rows failed. The reply carries no number.
+pub record IsKeeper (history : History) (low : ℕ) (wish : Wish) (ask : Ask) (closing : Bool) (story : Story) : Type 0 where
+  pub moment : ℕ
+  pub number : ℕ
+  pub drawn : Option Words
+  pub handed : List Commit
+  pub within : moment ≤ last_moment
+  pub on : OnLog history low number
+  pub words : IsDrawn wish drawn
+  pub at_most : HandedOnce history number wish ask drawn moment handed
+  pub story_is : story ≡ answered moment drawn (keeper_text closing) handed 1 number
+
+-- ---- want of memory
+
+-- The points that were told until memory was wanting: that of the snapshot, if a state is read.
+abbrev pub MayTell : Called → List Point → Type 0
+MayTell (ToRead r) points = (points ≡ []) ⊎ (points ≡ AfterSnapshot ∷ [])
+MayTell (ToEdit wish) points = points ≡ []
+
+-- the words that were drawn until then: none, or all that the edit takes
+abbrev pub MayDraw : Called → Option Words → Type 0
+MayDraw (ToRead r) drawn = drawn ≡ None
+MayDraw (ToEdit wish) drawn = (drawn ≡ None) ⊎ IsDrawn wish drawn
+
+-- Memory was wanting: nothing was handed in. The reply carries no number.
+pub record IsWanting (history : History) (low : ℕ) (asked : Called) (closing : Bool) (story : Story) : Type 0 where
   pub moment : ℕ
   pub number : ℕ
   pub points : List Point
+  pub drawn : Option Words
   pub within : moment ≤ last_moment
-  pub on : OnLog history low number
-  pub before_or_after : (points ≡ []) ⊎ (points ≡ AfterSnapshot ∷ [])
-  pub story_is : story ≡ told moment points 0 (memory_text closing) number
+  pub from_base : history.base.number ≤ number
+  pub from : low ≤ number
+  pub to : number ≤ newest history
+  pub before_or_after : MayTell asked points
+  pub words : MayDraw asked drawn
+  pub story_is : story ≡ record (told moment points 0 (memory_text closing) number) { words = listed drawn }
+
+-- ---- replies
 
 -- the reply, by what is asked for
-abbrev pub IsReply : History → ℕ → Call → Ask → Bool → Story → Type 0
-IsReply history low (call.Reading reading) ask closing story =
-    OnState history low story (λ state moment text built. Says reading state ask moment closing text built)
+abbrev pub IsReply : History → ℕ → Called → Ask → Bool → Story → Type 0
+IsReply history low (ToRead r) ask closing story =
+    OnState history low story (λ state moment text built. Says r state ask moment closing text built)
+IsReply history low (ToEdit wish) ask closing story =
+    IsRefused history low wish ask closing story
+    ⊎ (IsAccepted history low wish ask closing story ⊎ IsKeeper history low wish ask closing story)
 
 -- the reply, or that memory was wanting
-abbrev pub IsAnswer : History → ℕ → Call → Ask → Bool → Story → Type 0
-IsAnswer history low call ask closing story = IsReply history low call ask closing story ⊎ IsWanting history low closing story
+abbrev pub IsAnswer : History → ℕ → Called → Ask → Bool → Story → Type 0
+IsAnswer history low asked ask closing story = IsReply history low asked ask closing story ⊎ IsWanting history low asked closing story
 
 -- one text, to a request
 abbrev pub IsText : History → ℕ → Request → Bool → Story → Type 0
-IsText history low request closing story = IsAnswer history low (asked request).call (asked request).ask closing story
+IsText history low request closing story = IsAnswer history low (called request) (ask_of request) closing story

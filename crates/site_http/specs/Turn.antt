@@ -3,25 +3,26 @@ use Rattle.std.specs.Prelude.{ℕ, List, [], ◌∷◌, ◌++◌, ◌≡◌, ◌
 use Rattle.content_state.specs.declared.ask.Ask.{Ask}
 use Rattle.content_state.specs.State.{State}
 use Rattle.site_io.specs.declared.device.Point.{Point}
-use Rattle.site_io.specs.declared.device.Point.TheVariants.{AfterSnapshot}
+use Rattle.site_io.specs.declared.device.Point.TheVariants.{AfterSnapshot, BeforeReply}
 use Rattle.site_io.specs.declared.ended.Ended.{Ended}
 use Rattle.site_io.specs.declared.ended.Ended.TheVariants as ended
-use Rattle.site_io.specs.Told.{before, IsNothingLeft, Rose}
+use Rattle.site_io.specs.Told.{before, after, IsNothingLeft, Rose}
 use Rattle.http_heads.specs.declared.request.Request.{Request}
 use Rattle.http_heads.specs.declared.parsed.Parsed.TheVariants.{Whole, More, Refused}
 use Rattle.http_heads.specs.Parses.{Parses}
-use Rattle.render_array.specs.House.{HouseView}
+use Rattle.site_house.specs.House.{HouseView, history_of}
 use Rattle.site_http.specs.declared.answer.Made.{Made}
 use Rattle.site_http.specs.declared.answer.Made.TheVariants as made
 use Rattle.site_http.specs.declared.answer.Outcome.{Outcome}
 use Rattle.site_http.specs.declared.answer.Outcome.TheVariants.{Written, WriteFault}
-use Rattle.site_http.specs.declared.call.Call.{Call}
 use Rattle.site_http.specs.declared.next.Next.{Next}
 use Rattle.site_http.specs.declared.next.Next.TheVariants as next
 use Rattle.site_http.specs.declared.next.Trouble.{Trouble}
 use Rattle.site_http.specs.declared.next.Trouble.TheVariants.{ReadFault, OutOfMemory}
-use Rattle.site_http.specs.History.{History, history_of, newest, state_of}
-use Rattle.site_http.specs.Reply.{Story, IsAnswer, IsText, refusal_text}
+use Rattle.site_house.specs.History.{History, newest, state_of}
+use Rattle.edit_bodies.specs.declared.words.Words.{Words}
+use Rattle.site_http.specs.Called.{Called, ToEdit, Wish}
+use Rattle.site_http.specs.Reply.{Story, IsAnswer, IsText, listed, refusal_text}
 use Rattle.site_http.specs.Connection.{Out, Around, Gave, and_points, raised, saying, cut_at, closes_after, CountsReads, CountsWrites}
 
 -- some bytes were taken
@@ -113,24 +114,43 @@ ToldOnTheWay points points-after =
 -- the bytes of a text that was made
 abbrev pub bytes_of : Made → List ℕ
 bytes_of (made.Text text) = text.items
+bytes_of (made.Short text) = text.items
 bytes_of (made.Fixed text) = text.now
 
--- One reply was made, of what the house saw meanwhile, and of what the gate was told.
-pub record MadeOf (old new : HouseView) (points points-after : Option (List Point)) (moment : ℕ) (text : Made) (Is : Story → Type 0) : Type 0 where
+-- what stands around the making of a reply: the house, the words of chance that were given, and the points that were told
+pub record Making : Type 0 where
+  pub house : HouseView
+  pub words : Option (List ℕ)
+  pub points : Option (List Point)
+
+-- One reply was made, of what the house saw and took meanwhile, of what was drawn, and of what the gate was told.
+pub record MadeOf (old new : Making) (moment : ℕ) (text : Made) (Is : Story → Type 0) : Type 0 where
   pub story : Story
   pub is : Is story
   pub moments : story.moments ≡ moment ∷ []
-  pub words : story.words ≡ []
-  pub gate : points-after ≡ and_points points story.points
+  pub chance : new.words ≡ after old.words story.words
+  pub gate : new.points ≡ and_points old.points story.points
+  pub text_is : story.text ≡ bytes_of text
+  pub house : new.house.handed ≡ old.house.handed ++ story.handed
+  pub failures : new.house.keepers ≡ raised old.house.keepers story.keepers
+  pub not_above : story.high ≤ newest (history_of new.house)
+
+-- An edit was asked of a house, with the words that were drawn for it: what became of it, as a reply and its story.
+pub record Committed (old new : HouseView) (wish : Wish) (ask : Ask) (drawn : Option Words) (moment : ℕ) (closing : Bool) (text : Made) : Type 0 where
+  pub story : Story
+  pub is : IsAnswer (history_of new) (newest (history_of old)) (ToEdit wish) ask closing story
+  pub moments : story.moments ≡ moment ∷ []
+  pub words : story.words ≡ listed drawn
+  pub points : story.points ≡ BeforeReply 0 ∷ []
   pub text_is : story.text ≡ bytes_of text
   pub house : new.handed ≡ old.handed ++ story.handed
   pub failures : new.keepers ≡ raised old.keepers story.keepers
   pub not_above : story.high ≤ newest (history_of new)
 
-abbrev pub Makes : HouseView → HouseView → Option (List Point) → Option (List Point) → Call → Ask → ℕ → Bool → Made → Type 0
-Makes old new points points-after call ask moment closing text =
-    MadeOf old new points points-after moment text
-    (IsAnswer (history_of new) (newest (history_of old)) call ask closing)
+abbrev pub Makes : Making → Making → Called → Ask → ℕ → Bool → Made → Type 0
+Makes old new asked ask moment closing text =
+    MadeOf old new moment text
+    (IsAnswer (history_of new.house) (newest (history_of old.house)) asked ask closing)
 
 -- one request was answered, with a whole text
 pub record Replied (old new : Out) (history : History) (low : ℕ) (request : Request) (closing : Bool) : Type 0 where

@@ -1,19 +1,29 @@
 //! One reply.
-ghost use Rattle.std.specs.Prelude.{◌≡◌, ◌∷◌, ◌≤◌, [], IfOk, OnOk, OnErr};
-ghost use Rattle.render_array.specs.House.{AreValid, Moves, Stays};
+ghost use Rattle.std.specs.Prelude.{◌≡◌, ◌∷◌, ◌≤◌, [], ℕ, List, Option, IfOk, OnOk, OnErr, is_some};
+ghost use Rattle.std.specs.Option.{option_copied};
+ghost use Rattle.site_house.specs.House.{AreValid, Moves, Stays, history_of};
 ghost use Rattle.site_io.specs.Reached.{and_point};
-ghost use Rattle.site_io.specs.Series.{GivesInTurn, last_moment};
+ghost use Rattle.site_io.specs.Series.{GivesInTurn, last_moment, last_word};
+ghost use Rattle.site_io.specs.Told.{after};
 ghost use Rattle.site_io.specs.declared.device.Point.TheVariants.{AfterSnapshot};
-ghost use Rattle.site_http.specs.History.{history_of, newest};
-ghost use Rattle.site_http.specs.Reply.{Says};
-ghost use Rattle.site_http.specs.Turn.{bytes_of, CountsOutcome, Makes, OnNewest, Replies, ToldOnTheWay};
+ghost use Rattle.edit_bodies.specs.Bodies.{sent_of};
+ghost use Rattle.edit_bodies.specs.Commands.{draws};
+ghost use Rattle.site_house.specs.History.{newest};
+ghost use Rattle.site_http.specs.Called.{ask_of, called, called_of, ToRead};
+ghost use Rattle.site_http.specs.Reply.{Says, listed};
+ghost use Rattle.site_http.specs.Turn.{bytes_of, Committed, CountsOutcome, Makes, OnNewest, Replies, ToldOnTheWay};
 
-use crate::call::{Asked, Reading, asked_by};
+use crate::call::{Asked, Call, Reading, asked_by};
 use crate::refusal::memory_text;
 use crate::reply::{Reply, reply_on};
+use arrayvec::ArrayVec;
 use content_state::Ask;
-use http_heads::Request;
-use render_array::House;
+use edit_bodies::{Body, Words, command_of, draws};
+use edit_paths::{Edit, EditPaths};
+use edit_replies::{done_text, keeper_text, refused_text};
+use http_heads::{Octets, Request};
+use site_commands::{Answer, Command};
+use site_house::House;
 use site_io::{Clock, Entropy, Failed, Gate, Point, Sink, write_whole};
 use std::alloc::{AllocError, Global};
 
@@ -24,10 +34,11 @@ pub enum Outcome {
     WriteFault,
 }
 
-/// The text of a reply.
+/// The text of a reply. One that tells of an edit that was made takes no memory.
 #[derive(Drop)]
 pub enum Made {
     Text(Vec<u8>),
+    Short(ArrayVec<u8, 512>),
     Fixed(&'static [u8]),
 }
 
@@ -38,6 +49,7 @@ impl Made {
     {
         match self {
             Made::Text(text) => text.as_slice(),
+            Made::Short(text) => text.as_slice(),
             Made::Fixed(text) => text,
         }
     }
@@ -66,21 +78,81 @@ fn read<H: House, G: Gate>(
     Ok(reply)
 }
 
-/// The text of the reply. The gate is told of it.
-fn reply_to<H: House, G: Gate>(
+/// The words of chance that an edit takes, if it takes any.
+fn draw<E: Entropy>(entropy: &mut E, draws: bool) -> Option<Words>
+    ensures drawn { is_some result ≡ draws }
+    ensures told { E.given entropy.new ≡ after (E.given entropy.old) (listed result) }
+    ensures in_turn { GivesInTurn last_word (E.words entropy.old) (E.words entropy.new) (E.given entropy.old) (E.given entropy.new) }
+{
+    if !draws {
+        return None;
+    }
+    let first = entropy.word();
+    let second = entropy.word();
+    Some(Words { first, second })
+}
+
+/// The value that was sent to guard the forms of a session.
+fn sent_value(csrf: &Option<Octets>) -> Option<&[u8]>
+    ensures { option_copied result ≡ csrf.now }
+{
+    match csrf {
+        Some(value) => Some(value.as_slice()),
+        None => None,
+    }
+}
+
+/// Makes an edit, and the text of what became of it.
+fn edited<H: House>(
+    alloc: Global,
+    house: &mut H,
+    ask: &Ask,
+    csrf: &Option<Octets>,
+    edit: &Edit,
+    body: &Body,
+    words: Option<Words>,
+    now: u64,
+    closing: bool,
+) -> Made
+    requires moment { now ≤ last_moment }
+    requires drawn { is_some words ≡ draws edit.now (sent_of body.now) }
+    ensures moves { Moves (H.sees house.old) (H.sees house.new) }
+    ensures committed { Committed (H.sees house.old) (H.sees house.new) (record { edit = edit.now; sent = sent_of body.now; csrf = csrf.now }) ask.now words now closing result }
+{
+    let Ok(command) = command_of(alloc, edit, body, words) else {
+        return Made::Fixed(memory_text(closing));
+    };
+    match house.commit(alloc, ask, sent_value(csrf), &command, now) {
+        Answer::Done(done, number) => Made::Short(done_text(&done, number, closing)),
+        Answer::Refused(refusal, number) => {
+            match refused_text(alloc, &refusal, number, closing) {
+                Ok(text) => Made::Text(text),
+                Err(_) => Made::Fixed(memory_text(closing)),
+            }
+        }
+        Answer::Keeper => Made::Fixed(keeper_text(closing)),
+        Answer::OutOfMemory => Made::Fixed(memory_text(closing)),
+    }
+}
+
+/// The text of the reply to what was asked to read. The gate is told of it.
+fn reading_reply<H: House, G: Gate>(
     alloc: Global,
     house: &mut H,
     gate: &mut G,
-    asked: &Asked,
+    reading: Reading,
+    ask: &Ask,
     now: u64,
     closing: bool,
 ) -> Made
     requires { now ≤ last_moment }
     ensures moves { Moves (H.sees house.old) (H.sees house.new) }
-    ensures makes { Makes (H.sees house.old) (H.sees house.new) (G.reached gate.old) (G.reached gate.new) asked.now.call asked.now.ask now closing result }
+    ensures makes { (words : Option (List ℕ)) → Makes
+        (record { house = H.sees house.old; words = words; points = G.reached gate.old })
+        (record { house = H.sees house.new; words = words; points = G.reached gate.new })
+        (ToRead reading) ask.now now closing result }
 {
-    let reading = asked.call.reading();
-    match read(alloc, house, gate, reading, &asked.ask, now, closing) {
+    match read(alloc, house, gate, reading, ask, now, closing) {
         Ok(reply) => {
             gate.reach(Point::BeforeReply(reply.built));
             Made::Text(reply.text)
@@ -92,9 +164,79 @@ fn reply_to<H: House, G: Gate>(
     }
 }
 
-/// Answers a request on the newest state. No words are drawn yet.
+/// The text of the reply. The gate is told of it.
+fn reply_to<H: House, E: Entropy, G: Gate>(
+    alloc: Global,
+    house: &mut H,
+    entropy: &mut E,
+    gate: &mut G,
+    asked: &Asked,
+    now: u64,
+    closing: bool,
+) -> Made
+    requires { now ≤ last_moment }
+    ensures moves { Moves (H.sees house.old) (H.sees house.new) }
+    ensures makes { Makes
+        (record { house = H.sees house.old; words = E.given entropy.old; points = G.reached gate.old })
+        (record { house = H.sees house.new; words = E.given entropy.new; points = G.reached gate.new })
+        (called_of asked.now.call asked.now.csrf) asked.now.ask now closing result }
+    ensures words { GivesInTurn last_word (E.words entropy.old) (E.words entropy.new) (E.given entropy.old) (E.given entropy.new) }
+{
+    match &asked.call {
+        Call::Reading(reading) => reading_reply(
+            alloc, house, gate, *reading, &asked.ask, now, closing,
+        ),
+        Call::Edit(edit, body) => {
+            let words = draw(entropy, draws(edit, body));
+            let made = edited(
+                alloc,
+                house,
+                &asked.ask,
+                &asked.csrf,
+                edit,
+                body,
+                words,
+                now,
+                closing,
+            );
+            gate.reach(Point::BeforeReply(0));
+            made
+        }
+    }
+}
+
+/// The text of the reply to a request. The gate is told of it.
+fn reply_made<H: House, E: Entropy, G: Gate>(
+    alloc: Global,
+    paths: &EditPaths,
+    house: &mut H,
+    entropy: &mut E,
+    gate: &mut G,
+    request: Request,
+    now: u64,
+    closing: bool,
+) -> Made
+    requires { now ≤ last_moment }
+    ensures moves { Moves (H.sees house.old) (H.sees house.new) }
+    ensures makes { Makes
+        (record { house = H.sees house.old; words = E.given entropy.old; points = G.reached gate.old })
+        (record { house = H.sees house.new; words = E.given entropy.new; points = G.reached gate.new })
+        (called request) (ask_of request) now closing result }
+    ensures words { GivesInTurn last_word (E.words entropy.old) (E.words entropy.new) (E.given entropy.old) (E.given entropy.new) }
+{
+    match asked_by(alloc, paths, request) {
+        Ok(asked) => reply_to(alloc, house, entropy, gate, &asked, now, closing),
+        Err(_) => {
+            gate.reach(Point::BeforeReply(0));
+            Made::Fixed(memory_text(closing))
+        }
+    }
+}
+
+/// Answers a request: on the newest state, or with what becomes of the edit that it asks for.
 pub fn answer<H: House, O: Sink, C: Clock, E: Entropy, G: Gate>(
     alloc: Global,
+    paths: &EditPaths,
     house: &mut H,
     sink: &mut O,
     clock: &mut C,
@@ -109,12 +251,11 @@ pub fn answer<H: House, O: Sink, C: Clock, E: Entropy, G: Gate>(
         (record { given = C.given clock.new; words = E.given entropy.new; points = G.reached gate.new; written = O.written sink.new; handed = (H.sees house.new).handed; keepers = (H.sees house.new).keepers })
         (history_of (H.sees house.new)) (newest (history_of (H.sees house.old))) request closing }
     ensures moments { GivesInTurn last_moment (C.moments clock.old) (C.moments clock.new) (C.given clock.old) (C.given clock.new) }
-    ensures words { E.given entropy.new ≡ E.given entropy.old }
+    ensures words { GivesInTurn last_word (E.words entropy.old) (E.words entropy.new) (E.given entropy.old) (E.given entropy.new) }
     ensures cause { CountsOutcome result (O.faults sink.old) (O.faults sink.new) }
 {
     let now = clock.now();
-    let asked = asked_by(request);
-    let made = reply_to(alloc, house, gate, &asked, now, closing);
+    let made = reply_made(alloc, paths, house, entropy, gate, request, now, closing);
     match write_whole(sink, made.bytes()) {
         Ok(()) => Outcome::Written,
         Err(Failed) => Outcome::WriteFault,

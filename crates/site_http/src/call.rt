@@ -1,69 +1,91 @@
 //! What a request is for.
-ghost use Rattle.std.specs.Prelude.{◌≡◌};
-ghost use Rattle.std.specs.Str.{bytes_eq};
-ghost use Rattle.site_http.specs.Reply.{asked, call_by_get, get};
+ghost use Rattle.std.specs.Prelude.{◌≡◌, IfOk};
+ghost use Rattle.site_http.specs.Called.{ask_of, called, called_by, called_of, get};
 
 use content_rows::Text;
 use content_state::Ask;
-use http_heads::Request;
+use edit_bodies::{Body, body_of};
+use edit_paths::{Edit, EditPaths, media_fits, reads_of};
+use http_heads::{Octets, Request};
+use std::alloc::{AllocError, Global};
 
 /// What is answered on a state without changing it.
 #[derive(Clone, Copy, Debug, PartialEq, Eq)]
 pub enum Reading {
     /// The page of the path.
     Page,
-    /// That the method isn't served.
+    /// That the method and the path name nothing that is served.
     NoPairing,
+    /// That the body is of another media type than the edit reads.
+    NoMedia,
+    /// That the body is no object of JSON.
+    BadJson,
 }
 
 /// What a request is for.
-#[derive(Clone, Copy, Debug, PartialEq, Eq)]
+#[derive(Drop)]
 pub enum Call {
     /// To read the newest state.
     Reading(Reading),
-}
-
-impl Call {
-    /// What is to be read. Nothing else can be asked for yet.
-    pub fn reading(self) -> Reading
-        ensures { self ≡ Call.Reading result }
-    {
-        let Call::Reading(reading) = self;
-        reading
-    }
+    /// To change it: an edit, and what its body says.
+    Edit(Edit, Body),
 }
 
 /// A request as the site sees it.
 #[derive(Drop)]
 pub struct Asked {
     pub call: Call,
+    /// The value that was sent to guard the forms of a session.
+    pub csrf: Option<Octets>,
     pub ask: Ask,
 }
 
-/// What a request with this method is for.
-#[tactic(auto, unfolding(crate::specs::Reply::get))]
-fn call_of(method: &[u8]) -> Call
-    ensures { result ≡ call_by_get (bytes_eq method.now get) }
+/// An edit that the method and the path name, where its body is what it reads.
+fn call_by(alloc: Global, request: &Request, edit: Edit) -> Result<Call, AllocError>
+    ensures { IfOk result (λ c. called_of c request.now.csrf ≡ called_by request.now (Some edit)) }
 {
-    if method == b"GET".as_slice() {
-        Call::Reading(Reading::Page)
-    } else {
-        Call::Reading(Reading::NoPairing)
+    let reads = reads_of(&edit);
+    let content_type = match &request.content_type {
+        Some(value) => Some(value.as_slice()),
+        None => None,
+    };
+    if !media_fits(reads, content_type) {
+        return Ok(Call::Reading(Reading::NoMedia));
+    }
+    match body_of(alloc, reads, request.body.as_slice())? {
+        Some(body) => Ok(Call::Edit(edit, body)),
+        None => Ok(Call::Reading(Reading::BadJson)),
     }
 }
 
-/// What a request is for, and from where it is asked.
-pub fn asked_by(request: Request) -> Asked
-    ensures { result ≡ asked request }
+/// What a request is for. `Err` only where memory is wanting.
+#[tactic(auto, unfolding(crate::specs::Called::get, crate::specs::Called::called))]
+fn call_of(alloc: Global, paths: &EditPaths, request: &Request) -> Result<Call, AllocError>
+    ensures { IfOk result (λ c. called_of c request.now.csrf ≡ called request.now) }
 {
-    let call = call_of(request.method.as_slice());
-    Asked {
+    if request.method.as_slice() == b"GET".as_slice() {
+        return Ok(Call::Reading(Reading::Page));
+    }
+    match paths.paired(request.method.as_slice(), request.path.as_slice()) {
+        Some(edit) => call_by(alloc, request, edit),
+        None => Ok(Call::Reading(Reading::NoPairing)),
+    }
+}
+
+/// What a request is for, and from where it is asked. `Err` only where memory is wanting.
+pub fn asked_by(alloc: Global, paths: &EditPaths, request: Request) -> Result<Asked, AllocError>
+    ensures call { IfOk result (λ a. called_of a.call a.csrf ≡ called request) }
+    ensures ask { IfOk result (λ a. a.ask ≡ ask_of request) }
+{
+    let call = call_of(alloc, paths, &request)?;
+    Ok(Asked {
         call,
+        csrf: request.csrf,
         ask: Ask {
             target: Text::from_vec(request.target.into_vec()),
             path: Text::from_vec(request.path.into_vec()),
             query: Text::from_vec(request.query.into_vec()),
             cookie: request.session,
         },
-    }
+    })
 }

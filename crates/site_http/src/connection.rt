@@ -1,15 +1,16 @@
 //! A connection, from its first byte to its end.
 ghost use Rattle.std.specs.Prelude.{◌≡◌, ℕ, List};
 ghost use Rattle.content_state.specs.declared.commit.Commit.{Commit};
-ghost use Rattle.render_array.specs.House.{Moves};
-ghost use Rattle.site_io.specs.Series.{GivesInTurn, last_moment};
+ghost use Rattle.site_house.specs.House.{Moves, history_of};
+ghost use Rattle.site_io.specs.Series.{GivesInTurn, last_moment, last_word};
 ghost use Rattle.site_io.specs.declared.ended.Ended.{Ended as End};
-ghost use Rattle.site_http.specs.History.{History, history_of, longer, newest};
+ghost use Rattle.site_house.specs.History.{History, longer, newest};
 ghost use Rattle.site_http.specs.Connection.{AreAsks, Around, Connection, CountsReads, CountsWrites};
 
 use crate::next::Inbox;
 use crate::turn::{LIMIT, turn};
-use render_array::House;
+use edit_paths::EditPaths;
+use site_house::House;
 use site_io::{Clock, Ended, Entropy, Gate, Sink, Source};
 use std::alloc::Global;
 
@@ -35,16 +36,19 @@ pub fn serve_connection<H: House, S: Source, O: Sink, C: Clock, E: Entropy, G: G
         (record { left = S.left source.new; out = record { given = C.given clock.new; words = E.given entropy.new; points = G.reached gate.new; written = O.written sink.new; handed = (H.sees house.new).handed; keepers = (H.sees house.new).keepers } })
         (history_of (H.sees house.new)) 1000 (newest (history_of (H.sees house.old))) }
     ensures moments { GivesInTurn last_moment (C.moments clock.old) (C.moments clock.new) (C.given clock.old) (C.given clock.new) }
-    ensures words { E.given entropy.new ≡ E.given entropy.old }
+    ensures words { GivesInTurn last_word (E.words entropy.old) (E.words entropy.new) (E.given entropy.old) (E.given entropy.new) }
     ensures reads { CountsReads result (S.faults source.old) (S.faults source.new) }
     ensures writes { CountsWrites result (O.faults sink.old) (O.faults sink.new) }
 {
     let Ok(mut inbox) = Inbox::new(alloc) else {
         return Ended::OutOfMemory;
     };
+    let Ok(paths) = EditPaths::new(alloc) else {
+        return Ended::OutOfMemory;
+    };
     'requests: for index in 0..LIMIT {
         if let Some(ended) = turn(
-            alloc, house, source, sink, clock, entropy, gate, &mut inbox, index,
+            alloc, &paths, house, source, sink, clock, entropy, gate, &mut inbox, index,
         ) {
             return ended;
         }

@@ -6,6 +6,7 @@ ghost use Rattle.http_heads.specs.Reply.{reply_text, is_reply_status};
 use crate::call::Reading;
 use crate::shown::shown_page;
 use content_state::{Ask, State};
+use edit_replies::{bad_json_text, media_text};
 use http_heads::{CookieOut, Media, ReplyHead, reply_head};
 use std::alloc::{AllocError, Global};
 
@@ -94,6 +95,14 @@ pub fn reply_on(
         Reading::NoPairing => {
             let reply = method_reply(alloc, state.number(), closing)?;
             Ok(reply)
+        }
+        Reading::NoMedia => {
+            let text = media_text(alloc, state.number(), closing)?;
+            Ok(Reply { text, built: 0 })
+        }
+        Reading::BadJson => {
+            let text = bad_json_text(alloc, state.number(), closing)?;
+            Ok(Reply { text, built: 0 })
         }
     }
 }

@@ -1,14 +1,15 @@
 //! One turn of a connection.
 ghost use Rattle.std.specs.Prelude.{◌≡◌, ◌≤◌, ◌<◌, Some};
-ghost use Rattle.render_array.specs.House.{Moves};
-ghost use Rattle.site_io.specs.Series.{GivesInTurn, last_moment};
-ghost use Rattle.site_http.specs.History.{history_of, newest};
+ghost use Rattle.site_house.specs.House.{Moves, history_of};
+ghost use Rattle.site_io.specs.Series.{GivesInTurn, last_moment, last_word};
+ghost use Rattle.site_house.specs.History.{newest};
 ghost use Rattle.site_http.specs.Turn.{Turned, TurnReads, TurnWrites};
 
 use crate::answer::{Outcome, answer};
 use crate::next::{Inbox, Next, Trouble};
 use crate::refusal::write_refusal;
-use render_array::House;
+use edit_paths::EditPaths;
+use site_house::House;
 use site_io::{Clock, Ended, Entropy, Gate, Sink, Source};
 use std::alloc::Global;
 
@@ -18,6 +19,7 @@ pub const LIMIT: u64 = 1000;
 /// Takes a request and answers it. None is to go on.
 pub fn turn<H: House, S: Source, O: Sink, C: Clock, E: Entropy, G: Gate>(
     alloc: Global,
+    paths: &EditPaths,
     house: &mut H,
     source: &mut S,
     sink: &mut O,
@@ -33,7 +35,7 @@ pub fn turn<H: House, S: Source, O: Sink, C: Clock, E: Entropy, G: Gate>(
         (record { left = S.left source.old; out = record { given = C.given clock.old; words = E.given entropy.old; points = G.reached gate.old; written = O.written sink.old; handed = (H.sees house.old).handed; keepers = (H.sees house.old).keepers } })
         (record { left = S.left source.new; out = record { given = C.given clock.new; words = E.given entropy.new; points = G.reached gate.new; written = O.written sink.new; handed = (H.sees house.new).handed; keepers = (H.sees house.new).keepers } })
         (history_of (H.sees house.new)) LIMIT index (newest (history_of (H.sees house.old))) inbox.old inbox.new }
-    ensures words { E.given entropy.new ≡ E.given entropy.old }
+    ensures words { GivesInTurn last_word (E.words entropy.old) (E.words entropy.new) (E.given entropy.old) (E.given entropy.new) }
     ensures moments { GivesInTurn last_moment (C.moments clock.old) (C.moments clock.new) (C.given clock.old) (C.given clock.new) }
     ensures reads { TurnReads result (S.faults source.old) (S.faults source.new) }
     ensures writes { TurnWrites result (O.faults sink.old) (O.faults sink.new) }
@@ -53,7 +55,9 @@ pub fn turn<H: House, S: Source, O: Sink, C: Clock, E: Entropy, G: Gate>(
     };
     let closes = request.closes;
     let closing = closes || index + 1 == LIMIT;
-    match answer(alloc, house, sink, clock, entropy, gate, request, closing) {
+    match answer(
+        alloc, paths, house, sink, clock, entropy, gate, request, closing,
+    ) {
         Outcome::Written => { if closes { Some(Ended::Asked) } else { None } }
         Outcome::WriteFault => Some(Ended::WriteFault),
     }

@@ -3,3 +3,4 @@ pub mod Reached
 pub mod Memory
 pub mod Series
 pub mod Adapters
+pub mod Chance

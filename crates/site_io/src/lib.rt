@@ -6,6 +6,7 @@
 #![tactic(auto)]
 
 mod adapters;
+mod chance;
 mod device;
 mod ended;
 mod memory;
@@ -15,9 +16,10 @@ mod system;
 mod whole;
 
 pub use adapters::{Reading, Writing};
+pub use chance::{NoChance, Seed, SystemEntropy};
 pub use device::{Clock, Entropy, Failed, Gate, LAST_MOMENT, Point, Sink, Source};
 pub use ended::Ended;
 pub use memory::{MemorySink, MemorySource};
 pub use series::{ListClock, ListEntropy};
-pub use system::{OpenGate, SystemClock, SystemEntropy};
+pub use system::{OpenGate, SystemClock};
 pub use whole::write_whole;

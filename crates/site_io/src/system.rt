@@ -1,8 +1,7 @@
-//! The devices of the system, which tell nothing of what they hold.
+//! The clock of the system, and a gate that does nothing, which tell nothing of what they hold.
 ghost use Rattle.std.specs.Prelude.{None};
 
-use crate::device::{Clock, Entropy, Gate, LAST_MOMENT, Point};
-use std::random::RandomSource;
+use crate::device::{Clock, Gate, LAST_MOMENT, Point};
 use std::time::{SystemTime, UNIX_EPOCH};
 
 /// The system's clock. A moment that it can't give, or before 1970, is 0; one after the year 2099 is 4,102,444,800.
@@ -29,33 +28,6 @@ impl<C: std::time::Clock> Clock for SystemClock<C> {
         };
         match time.duration_since(UNIX_EPOCH) {
             Ok(since) => since.as_secs().min(LAST_MOMENT),
-            Err(_) => 0,
-        }
-    }
-}
-
-/// The system's entropy. A word that it can't give is 0.
-#[derive(Drop)]
-pub struct SystemEntropy<R> {
-    random: R,
-}
-
-impl<R> SystemEntropy<R> {
-    /// Draws from this source, as the runtime that `main` is given.
-    pub fn new(random: R) -> SystemEntropy<R> {
-        SystemEntropy { random }
-    }
-}
-
-impl<R: RandomSource> Entropy for SystemEntropy<R> {
-    ghost words = { λ _. None };
-
-    ghost given = { λ _. None };
-
-    fn word(&mut self) -> u64 {
-        let mut bytes = [0; 8];
-        match self.random.fill_bytes(&mut bytes) {
-            Ok(()) => u64::from_le_bytes(bytes),
             Err(_) => 0,
         }
     }

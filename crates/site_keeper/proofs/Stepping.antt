@@ -22,8 +22,8 @@ use Rattle.content_state.specs.State.{State}
 use Rattle.content_state.specs.declared.commit.Commit.{Commit}
 use Rattle.content_state.specs.Replay.{step, tags_of_commit, written, tags_of_write}
 use Rattle.site_keeper.specs.declared.stored.Stored.{Stored}
-use Rattle.site_keeper.specs.Keeper.{with_batch, with_count, RaisesEach}
-use Rattle.site_keeper.specs.Steps.{raised, KeepsStep}
+use Rattle.site_keeper.specs.Keeper.{with_batch, with_entry}
+use Rattle.site_keeper.specs.Steps.{stored_of, batch_of, raised}
 
 tags_total : IsTotalOrder tag_cmp
 tags_total = search (comparing, rules)
@@ -50,7 +50,7 @@ below_apart t u below same =
     let turned = tags_total.antisymm u u in
     cc
 
-count_other : (counts : List (Tag × ℕ)) (t u : Tag) (n : ℕ) → tag_cmp t u ≡ Less → count_of (with_count counts (t, n)) u ≡ count_of counts u
+count_other : (counts : List (Tag × ℕ)) (t u : Tag) (n : ℕ) → tag_cmp t u ≡ Less → count_of (with_entry counts (t, n)) u ≡ count_of counts u
 count_other counts t u n below =
     ap (λ found. unwrap_or found 0) (lookup_other (is_at (tag_cmp u)) t n (not_at_other u t (below_apart t u below)) counts)
 
@@ -66,24 +66,24 @@ same_counts counts [] = tt
 same_counts counts (u ∷ tags) = (refl, same_counts counts tags)
 
 same_after : (now counts : List (Tag × ℕ)) (t : Tag) (n : ℕ) (tags : List Tag) → AllByRecursion (λ u. tag_cmp t u ≡ Less) tags
-    → SameCounts now counts tags → SameCounts (with_count now (t, n)) counts tags
+    → SameCounts now counts tags → SameCounts (with_entry now (t, n)) counts tags
 unfolding SameCounts
 same_after now counts t n [] below same = tt
 same_after now counts t n (u ∷ tags) below same =
     (count_other now t u n below.0 ∙ same.0, same_after now counts t n tags below.1 same.1)
 
--- Tags in order, with counts that are one more than in some counts: they raise each count of others that have the same
--- counts of them, and setting them raises each tag by one.
-Raised : List (Tag × ℕ) → List (Tag × ℕ) → List Tag → Type 0
-Raised now counts tags = RaisesEach now (raised counts tags) × (fold with_count now (raised counts tags) ≡ fold bumped now tags)
+-- Tags in order, with counts that are one more than in some counts: setting them raises each tag of others that have the
+-- same counts of them by one.
+Raises : List (Tag × ℕ) → List (Tag × ℕ) → List Tag → Type 0
+Raises now counts tags = fold with_entry now (raised counts tags) ≡ fold bumped now tags
 
-raised_in_turn : (now counts : List (Tag × ℕ)) (tags : List Tag) → IsStrictlySortedBy tag_cmp tags → SameCounts now counts tags → Raised now counts tags
-unfolding IsStrictlySortedBy SameCounts Raised
-raised_in_turn now counts [] sorted same = (tt, refl)
+raised_in_turn : (now counts : List (Tag × ℕ)) (tags : List Tag) → IsStrictlySortedBy tag_cmp tags → SameCounts now counts tags → Raises now counts tags
+unfolding IsStrictlySortedBy SameCounts Raises
+raised_in_turn now counts [] sorted same = refl
 raised_in_turn now counts (t ∷ tags) sorted same =
     let more : count_of counts t + 1 ≡ count_of now t + 1 = ap (λ n. n + 1) (sym same.0) in
-    let rest = raised_in_turn (with_count now (t, count_of counts t + 1)) counts tags sorted.1 (same_after now counts t (count_of counts t + 1) tags sorted.0 same.1) in
-    ((more, rest.0), rest.1 ∙ ap (λ n. fold bumped (insert_entry tag_cmp now t n) tags) more)
+    raised_in_turn (with_entry now (t, count_of counts t + 1)) counts tags sorted.1 (same_after now counts t (count_of counts t + 1) tags sorted.0 same.1)
+    ∙ ap (λ n. fold bumped (insert_entry tag_cmp now t n) tags) more
 
 sorted_all : (keys tags : List Tag) → IsStrictlySortedBy tag_cmp keys → IsStrictlySortedBy tag_cmp (fold (insert_key tag_cmp) keys tags)
 sorted_all keys [] sorted = sorted
@@ -93,7 +93,7 @@ no_tags : IsStrictlySortedBy tag_cmp []
 unfolding IsStrictlySortedBy
 no_tags = tt
 
-commit_raises : (state : State) (commit : Commit) → Raised state.counts state.counts (tags_of_commit state.rows commit)
+commit_raises : (state : State) (commit : Commit) → Raises state.counts state.counts (tags_of_commit state.rows commit)
 commit_raises state commit =
     raised_in_turn state.counts state.counts (tags_of_commit state.rows commit) (sorted_all [] (flat_map (tags_of_write state.rows) commit.writes ++ commit.extra) no_tags) (same_counts state.counts (tags_of_commit state.rows commit))
 
@@ -102,9 +102,6 @@ commit_raises state commit =
 parts : List (Cell × Row) → ℕ → List (Tag × ℕ) → Stored
 parts rows head counts = record { rows = rows; counts = counts; head = head }
 
-pub keeps_step : (state : State) (commit : Commit) → KeepsStep state commit
-unfolding Raised step with_batch parts
-keeps_step state commit = record {
-  raises = (commit_raises state commit).0;
-  kept = ap (parts (fold written state.rows commit.writes) (state.number + 1)) (commit_raises state commit).1;
-}
+pub keeps_step : (state : State) (commit : Commit) → with_batch (stored_of state) (batch_of state commit) ≡ stored_of (step state commit)
+unfolding Raises step with_batch parts
+keeps_step state commit = ap (parts (fold written state.rows commit.writes) (state.number + 1)) (commit_raises state commit)

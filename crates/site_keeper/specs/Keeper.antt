@@ -1,10 +1,8 @@
 -- What a keeper holds, and what it holds once a batch is kept.
-use Rattle.std.specs.Prelude.{ℕ, List, [], ◌∷◌, ◌++◌, ◌≡◌, ◌+◌, ◌⊎◌, Option, Some, None, min}
+use Rattle.std.specs.Prelude.{ℕ, List, [], ◌∷◌, ◌++◌, ◌≡◌, ◌+◌, ◌⊎◌, Option, Some, None, min, Bool, true}
 use Rattle.std.specs.List.{fold}
-use Rattle.std.specs.BTreeMap.{insert_entry}
 use Rattle.cacheability.specs.declared.tag.Tag.{Tag}
-use Rattle.cacheability.specs.Tag.{tag_cmp}
-use Rattle.tag_counts.specs.Counts.{count_of}
+use Rattle.tag_counts.specs.Counts.{with_count}
 use Rattle.content_state.specs.Replay.{written}
 use Rattle.site_keeper.specs.declared.fault.KeeperFault.{KeeperFault}
 use Rattle.site_keeper.specs.declared.fault.KeeperFault.TheVariants as keeper_fault
@@ -13,16 +11,16 @@ use Rattle.site_keeper.specs.Batch.{Batch}
 
 -- ---- what is held
 
--- the counts with this one set
-abbrev pub with_count : List (Tag × ℕ) → Tag × ℕ → List (Tag × ℕ)
-with_count counts entry = insert_entry tag_cmp counts entry.0 entry.1
+-- the counts with that of a tag set
+abbrev pub with_entry : List (Tag × ℕ) → Tag × ℕ → List (Tag × ℕ)
+with_entry counts entry = with_count counts entry.0 entry.1
 
 -- what is held once a batch is kept: its writes are made in turn, each count that it names is set, and its number is the
 -- head
 unfoldable pub with_batch : Stored → Batch → Stored
 with_batch held batch = record {
   rows = fold written held.rows batch.commit.writes;
-  counts = fold with_count held.counts batch.counts;
+  counts = fold with_entry held.counts batch.counts;
   head = batch.head;
 }
 
@@ -47,11 +45,6 @@ abbrev pub and_batch : Option Kept → Batch → Option Kept
 and_batch None batch = None
 and_batch (Some kept) batch = Some (record kept { batches = kept.batches ++ batch ∷ [] })
 
--- each count that is named is one more than the one that stands when its turn comes
-abbrev pub RaisesEach : List (Tag × ℕ) → List (Tag × ℕ) → Type 0
-RaisesEach counts [] = Unit {0}
-RaisesEach counts (entry ∷ entries) = (entry.1 ≡ count_of counts entry.0 + 1) × RaisesEach (with_count counts entry) entries
-
 -- ---- what a fault means
 
 -- a count of faults rose by one; one at the greatest u64 stays there
@@ -67,3 +60,8 @@ CountsFault keeper_fault.OutOfMemory old new = new ≡ old
 abbrev pub LeavesBatch : KeeperFault → Option Kept → Batch → Option Kept → Type 0
 LeavesBatch keeper_fault.Failed old batch new = (new ≡ old) ⊎ (new ≡ and_batch old batch)
 LeavesBatch keeper_fault.OutOfMemory old batch new = new ≡ old
+
+-- what tells that it never fails goes on to tell it, and its count of faults stays
+pub record StaysSteadfast (old new : Bool) (faults faults-after : ℕ) : Type 0 where
+  pub tells : new ≡ old
+  pub stays : old ≡ true → faults-after ≡ faults

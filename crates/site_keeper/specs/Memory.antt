@@ -1,14 +1,18 @@
 -- A keeper in memory: what it holds, its calls, and which of them fail.
-use Rattle.std.specs.Prelude.{ℕ, List, [], ◌∷◌, ◌++◌, ◌==◌, ◌+◌, ◌≡◌, Option, Some, None, min, IsSomeAnd, if◌then◌else◌}
+use Rattle.std.specs.Prelude.{ℕ, List, [], ◌∷◌, ◌++◌, ◌==◌, ◌+◌, ◌≡◌, Option, Some, None, min, IsSomeAnd, if◌then◌else◌, Bool, true, false}
 use Rattle.std.specs.List.{find}
 use Rattle.site_keeper.specs.declared.memory.Fail.{Fail}
 use Rattle.site_keeper.specs.declared.fault.KeeperFault.{KeeperFault}
 use Rattle.site_keeper.specs.declared.fault.KeeperFault.TheVariants as keeper_fault
 use Rattle.site_keeper.specs.declared.stored.Stored.{Stored}
 use Rattle.site_keeper.specs.Batch.{Batch}
-use Rattle.site_keeper.specs.Keeper.{Kept, with_batch, RaisesEach}
+use Rattle.site_keeper.specs.Keeper.{Kept}
 
 -- ---- its calls
+
+abbrev pub is_nil : List Fail → Bool
+is_nil [] = true
+is_nil (fail ∷ fails) = false
 
 -- one more, up to the greatest u64
 abbrev pub up : ℕ → ℕ
@@ -19,6 +23,10 @@ pub record Calls : Type 0 where
   pub fails : List Fail
   pub made : ℕ
   pub faults : ℕ
+
+-- whether no call is to fail
+abbrev pub is_steadfast : Calls → Bool
+is_steadfast calls = is_nil calls.fails
 
 -- no call is made yet
 abbrev pub fresh : List Fail → Calls
@@ -70,8 +78,3 @@ applied keeper batch (Some fail) = record {
 abbrev pub IsRefusedAs : KeeperFault → MemoryKeeper → Batch → MemoryKeeper → Type 0
 IsRefusedAs keeper_fault.Failed old batch new = IsSomeAnd (next_fail old.calls) (λ fail. new ≡ applied old batch (Some fail))
 IsRefusedAs keeper_fault.OutOfMemory old batch new = new ≡ record old { calls = passed old.calls }
-
--- each batch raises, by one each, the counts that it names
-abbrev pub AllRaise : Stored → List Batch → Type 0
-AllRaise stored [] = Unit {0}
-AllRaise stored (batch ∷ batches) = RaisesEach stored.counts batch.counts × AllRaise (with_batch stored batch) batches

@@ -7,7 +7,7 @@ use Rattle.content_state.specs.declared.commit.Commit.{Commit}
 use Rattle.content_state.specs.Replay.{step, tags_of_commit}
 use Rattle.site_keeper.specs.declared.stored.Stored.{Stored}
 use Rattle.site_keeper.specs.Batch.{Batch}
-use Rattle.site_keeper.specs.Keeper.{with_batch, RaisesEach}
+use Rattle.site_keeper.specs.Keeper.{with_batch}
 
 -- all that is kept of a state
 abbrev pub stored_of : State → Stored
@@ -25,11 +25,7 @@ batch_of state commit = record {
   head = state.number + 1;
 }
 
--- Where a state is kept, the batch of an edit may be kept, since it raises each count by one; and then the state after the
--- edit is kept.
-pub record KeepsStep (state : State) (commit : Commit) : Type 0 where
-  pub raises : RaisesEach state.counts (batch_of state commit).counts
-  pub kept : with_batch (stored_of state) (batch_of state commit) ≡ stored_of (step state commit)
-
+-- where a state is kept, and then the batch of an edit, the state after the edit is kept
 abbrev pub BatchesKeepSteps : Type 0
-BatchesKeepSteps = (state : State) (commit : Commit) → KeepsStep state commit
+BatchesKeepSteps =
+    (state : State) (commit : Commit) → with_batch (stored_of state) (batch_of state commit) ≡ stored_of (step state commit)

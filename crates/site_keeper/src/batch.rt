@@ -10,7 +10,7 @@ use std::sync::Arc;
 
 /// What is kept at once: the writes of an accepted edit, the new count of each tag that it invalidates, and the number
 /// of the state that it makes. Contracts see the edit, and not who shares it.
-#[derive(Drop, Debug)]
+#[derive(Drop)]
 pub struct Batch {
     /// The edit, whose writes are to be made in turn.
     pub commit: Arc<Commit>,

@@ -1,5 +1,5 @@
 //! A keeper, as a trait.
-ghost use Rattle.std.specs.Prelude.{◌≡◌, ◌≤◌, ℕ, Option, OnOk, IfOk, IfErr};
+ghost use Rattle.std.specs.Prelude.{◌≡◌, ◌≤◌, ℕ, Bool, Option, OnOk, IfOk, IfErr};
 
 use crate::batch::Batch;
 use crate::fault::KeeperFault;
@@ -8,7 +8,7 @@ use std::alloc::Global;
 
 /// What keeps the rows of a site. An implementor owns what it keeps them in: it holds no `&mut`.
 pub trait Keeper {
-    ghost use Rattle.site_keeper.specs.Keeper.{Kept, and_batch, IfTold, RaisesEach, CountsFault, LeavesBatch};
+    ghost use Rattle.site_keeper.specs.Keeper.{Kept, and_batch, IfTold, CountsFault, LeavesBatch, StaysSteadfast};
 
     /// What it was made of and the batches that it kept since, where it tells them.
     ghost kept: { Self → Option Kept };
@@ -16,25 +16,29 @@ pub trait Keeper {
     /// How often it has failed, up to the greatest u64.
     ghost faults: { Self → ℕ };
 
+    /// Whether it tells that it never fails.
+    ghost steadfast: { Self → Bool };
+
     /// All that it holds, which stays as it is. `Failed` comes exactly where the count of faults rose in this call.
     fn load(&mut self, alloc: Global) -> Result<Stored, KeeperFault>
         ensures held { IfOk result (λ stored. IfTold (kept self.old) (λ held. stored ≡ held)) }
         ensures stays { kept self.new ≡ kept self.old }
         ensures steady { OnOk result (faults self.new ≡ faults self.old) }
         ensures cause { IfErr result (λ fault. CountsFault fault (faults self.old) (faults self.new)) }
-        ensures never_falls { faults self.old ≤ faults self.new };
+        ensures never_falls { faults self.old ≤ faults self.new }
+        ensures steadfast { StaysSteadfast (steadfast self.old) (steadfast self.new) (faults self.old) (faults self.new) };
 
-    /// Keeps a batch, each of whose counts is one more than the one that is held, where the keeper tells what it holds.
+    /// Keeps a batch: its writes are made, each count that it names is set, and its number is the head.
     ///
     /// At `OutOfMemory` nothing of it is kept, at `Failed` all or nothing. `Failed` comes exactly where the count of
     /// faults rose in this call.
     fn apply(&mut self, alloc: Global, batch: &Batch) -> Result<(), KeeperFault>
-        requires { IfTold (kept self.old) (λ held. RaisesEach held.counts batch.now.counts) }
         ensures ok { OnOk result (kept self.new ≡ and_batch (kept self.old) batch.now) }
         ensures err { IfErr result (λ fault. LeavesBatch fault (kept self.old) batch.now (kept self.new)) }
         ensures steady { OnOk result (faults self.new ≡ faults self.old) }
         ensures cause { IfErr result (λ fault. CountsFault fault (faults self.old) (faults self.new)) }
-        ensures never_falls { faults self.old ≤ faults self.new };
+        ensures never_falls { faults self.old ≤ faults self.new }
+        ensures steadfast { StaysSteadfast (steadfast self.old) (steadfast self.new) (faults self.old) (faults self.new) };
 
     /// The number of the last batch that was kept, or what the keeper was made with. All stays as it is. `Failed`
     /// comes exactly where the count of faults rose in this call.
@@ -43,7 +47,8 @@ pub trait Keeper {
         ensures stays { kept self.new ≡ kept self.old }
         ensures steady { OnOk result (faults self.new ≡ faults self.old) }
         ensures cause { IfErr result (λ fault. CountsFault fault (faults self.old) (faults self.new)) }
-        ensures never_falls { faults self.old ≤ faults self.new };
+        ensures never_falls { faults self.old ≤ faults self.new }
+        ensures steadfast { StaysSteadfast (steadfast self.old) (steadfast self.new) (faults self.old) (faults self.new) };
 
     /// How often it has failed, up to the greatest u64. It never falls.
     fn faults(&self) -> u64

@@ -1,9 +1,10 @@
 //! A keeper in memory.
 ghost use Rattle.std.specs.Prelude.{◌≡◌, ◌≤◌, ◌↔◌, [], Some, None, IsSome, OnOk, OnErr, IfOk, IfErr, IsErrOf};
-ghost use Rattle.site_keeper.specs.Keeper.{held_of, and_batch, RaisesEach, CountsFault, LeavesBatch};
+ghost use Rattle.site_keeper.specs.Keeper.{held_of, and_batch, CountsFault, LeavesBatch, StaysSteadfast};
 ghost use Rattle.site_keeper.specs.Memory.{
   Calls as CallsValue,
   fresh,
+  is_steadfast,
   up,
   next_fail,
   passed,
@@ -94,13 +95,11 @@ pub struct MemoryKeeper {
 }
 
 impl Model for MemoryKeeper {
-    ghost use Rattle.site_keeper.specs.Memory.{MemoryKeeper as MemoryKeeperValue, AllRaise};
+    ghost use Rattle.site_keeper.specs.Memory.{MemoryKeeper as MemoryKeeperValue};
 
     ghost Value = { MemoryKeeperValue };
 
     ghost view = { λ k. record { kept = record { made_of = k.made_of; batches = k.batches.items }; calls = k.calls } };
-
-    ghost invariant = { λ k. AllRaise k.made_of k.batches.items };
 }
 
 impl MemoryKeeper {
@@ -142,7 +141,6 @@ impl MemoryKeeper {
 
     /// Keeps a batch. `Err` only where memory is wanting, and then nothing of it is kept.
     fn keep(&mut self, alloc: Global, batch: &Batch) -> Result<(), AllocError>
-        requires { RaisesEach (held_of self.old.kept).counts batch.now.counts }
         ensures ok { OnOk result (self.new ≡ record self.old { kept = with_one self.old.kept batch.now }) }
         ensures err { OnErr result (self.new ≡ self.old) }
     {
@@ -157,12 +155,15 @@ impl Keeper for MemoryKeeper {
 
     ghost faults = { λ k. k.calls.faults };
 
+    ghost steadfast = { λ k. is_steadfast k.calls };
+
     fn load(&mut self, alloc: Global) -> Result<Stored, KeeperFault>
         ensures held { IfOk result (λ stored. stored ≡ held_of self.old.kept) }
         ensures stays { Some self.new.kept ≡ Some self.old.kept }
         ensures steady { OnOk result (self.new.calls.faults ≡ self.old.calls.faults) }
         ensures cause { IfErr result (λ fault. CountsFault fault self.old.calls.faults self.new.calls.faults) }
         ensures never_falls { self.old.calls.faults ≤ self.new.calls.faults }
+        ensures steadfast { StaysSteadfast (is_steadfast self.old.calls) (is_steadfast self.new.calls) self.old.calls.faults self.new.calls.faults }
         ensures exactly_listed { IsErrOf result KeeperFault.Failed ↔ IsSome (next_fail self.old.calls) }
         ensures passed { OnOk result (self.new ≡ record self.old { calls = passed self.old.calls }) }
         ensures refused { IfErr result (λ fault. self.new ≡ record self.old { calls = refused self.old.calls fault }) }
@@ -174,12 +175,12 @@ impl Keeper for MemoryKeeper {
     }
 
     fn apply(&mut self, alloc: Global, batch: &Batch) -> Result<(), KeeperFault>
-        requires { RaisesEach (held_of self.old.kept).counts batch.now.counts }
         ensures ok { OnOk result (Some self.new.kept ≡ and_batch (Some self.old.kept) batch.now) }
         ensures err { IfErr result (λ fault. LeavesBatch fault (Some self.old.kept) batch.now (Some self.new.kept)) }
         ensures steady { OnOk result (self.new.calls.faults ≡ self.old.calls.faults) }
         ensures cause { IfErr result (λ fault. CountsFault fault self.old.calls.faults self.new.calls.faults) }
         ensures never_falls { self.old.calls.faults ≤ self.new.calls.faults }
+        ensures steadfast { StaysSteadfast (is_steadfast self.old.calls) (is_steadfast self.new.calls) self.old.calls.faults self.new.calls.faults }
         ensures passed { OnOk result ((next_fail self.old.calls ≡ None) × (self.new ≡ applied self.old batch.now None)) }
         ensures refused { IfErr result (λ fault. IsRefusedAs fault self.old batch.now self.new) }
     {
@@ -202,6 +203,7 @@ impl Keeper for MemoryKeeper {
         ensures steady { OnOk result (self.new.calls.faults ≡ self.old.calls.faults) }
         ensures cause { IfErr result (λ fault. CountsFault fault self.old.calls.faults self.new.calls.faults) }
         ensures never_falls { self.old.calls.faults ≤ self.new.calls.faults }
+        ensures steadfast { StaysSteadfast (is_steadfast self.old.calls) (is_steadfast self.new.calls) self.old.calls.faults self.new.calls.faults }
         ensures exactly_listed { IsErrOf result KeeperFault.Failed ↔ IsSome (next_fail self.old.calls) }
         ensures only { IfErr result (λ fault. fault ≡ KeeperFault.Failed) }
         ensures passed { OnOk result (self.new ≡ record self.old { calls = passed self.old.calls }) }

@@ -1,19 +1,18 @@
 //! All that a keeper holds.
-ghost use Rattle.std.specs.Prelude.{◌≡◌, ◌+◌, IfOk, OnOk};
+ghost use Rattle.std.specs.Prelude.{◌≡◌, IfOk, OnOk};
 ghost use Rattle.std.specs.List.{fold};
 ghost use Rattle.content_state.specs.Replay.{written};
-ghost use Rattle.tag_counts.specs.Counts.{count_of};
-ghost use Rattle.site_keeper.specs.Keeper.{with_batch, with_count, RaisesEach};
+ghost use Rattle.site_keeper.specs.Keeper.{with_batch, with_entry};
 
 use crate::batch::Batch;
 use cacheability::Tag;
 use content_state::{Rows, Write};
 use std::alloc::{AllocError, Global};
 use std::sync::Arc;
-use tag_counts::{BumpFault, Counts};
+use tag_counts::Counts;
 
 /// All that a keeper holds of a site.
-#[derive(Drop, Debug)]
+#[derive(Drop)]
 pub struct Stored {
     /// The rows.
     pub rows: Rows,
@@ -38,7 +37,6 @@ impl Stored {
     /// Keeps a batch. `Err` only where memory is wanting, and then a part of it may be kept.
     #[tactic(auto, unfolding(crate::specs::Keeper::with_batch))]
     pub(crate) fn keep(&mut self, batch: &Batch) -> Result<(), AllocError>
-        requires { RaisesEach self.old.counts batch.now.counts }
         ensures { OnOk result (self.new ≡ with_batch self.old batch.now) }
     {
         make_writes(&mut self.rows, batch.commit.writes.as_slice())?;
@@ -71,26 +69,13 @@ fn make_write(rows: &mut Rows, write: &Write) -> Result<(), AllocError>
     Ok(())
 }
 
-// Sets counts, each of which is one more than the one that stands when its turn comes.
+// Sets counts in turn.
 fn set_counts(counts: &mut Counts, entries: &[(Tag, u64)]) -> Result<(), AllocError>
-    requires { RaisesEach counts.old entries.now }
-    ensures { OnOk result (counts.new ≡ fold with_count counts.old entries.now) }
+    ensures { OnOk result (counts.new ≡ fold with_entry counts.old entries.now) }
 {
     'entries: for entry in entries {
         let (tag, count) = *entry;
-        set_count(counts, tag, count)?;
+        counts.set(&tag, count)?;
     }
     Ok(())
-}
-
-// Sets a count that is one more than the one that stands.
-fn set_count(counts: &mut Counts, tag: Tag, count: u64) -> Result<(), AllocError>
-    requires { count ≡ count_of counts.old tag + 1 }
-    ensures { OnOk result (counts.new ≡ with_count counts.old (tag, count)) }
-{
-    match counts.bump(&tag) {
-        Ok(()) => Ok(()),
-        Err(BumpFault::Full(_)) => unreachable!(),
-        Err(BumpFault::OutOfMemory) => Err(AllocError),
-    }
 }

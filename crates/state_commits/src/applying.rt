@@ -61,8 +61,17 @@ pub fn apply(alloc: Global, state: &State, commit: &Commit) -> Result<Arc<State>
     bump_all(&mut counts, tags.as_slice())?;
     let mut rows = state.rows().duplicate(alloc)?;
     write_all(&mut rows, commit.writes.as_slice())?;
-    let after = State::new(rows, counts, state.number() + 1);
+    let after = state.after(rows, counts)?;
     Ok(Arc::new(alloc, after)?)
+}
+
+/// The first tag by its text, of those that an edit of a state invalidates, whose count is the greatest there is:
+/// 18,446,744,073,709,551,615, which cannot be raised. `Err` only where memory is wanting.
+pub fn full_tag(alloc: Global, state: &State, commit: &Commit) -> Result<Option<Tag>, AllocError>
+    ensures { IfOk result (λ tag. tag ≡ full_tag state.now commit.now) }
+{
+    let tags = tags_of_commit(alloc, state.rows(), commit)?;
+    Ok(first_full(state.counts(), tags.as_slice()))
 }
 
 /// The first of some tags whose count is the greatest there is.

@@ -20,6 +20,10 @@ sum_of counts tags = sum_by (count_of counts) tags
 abbrev pub bumped : List (Tag × ℕ) → Tag → List (Tag × ℕ)
 bumped counts tag = insert_entry tag_cmp counts tag (count_of counts tag + 1)
 
+-- the counts with that of a tag set
+abbrev pub with_count : List (Tag × ℕ) → Tag → ℕ → List (Tag × ℕ)
+with_count counts tag count = insert_entry tag_cmp counts tag count
+
 -- each tag stands once, in the order of the tags' texts
 abbrev pub IsInOrder : List (Tag × ℕ) → Type 0
 IsInOrder counts = IsStrictlySortedBy tag_cmp (keys_of counts)

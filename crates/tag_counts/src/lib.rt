@@ -48,7 +48,7 @@ impl Model for Counts {
 }
 
 impl Counts {
-    ghost use Rattle.tag_counts.specs.Counts.{count_of, sum_of, bumped, IsInOrder};
+    ghost use Rattle.tag_counts.specs.Counts.{count_of, sum_of, bumped, with_count, IsInOrder};
     ghost use Rattle.cacheability.specs.declared.tag.Tag.{Tag as TagValue};
 
     /// No tag was invalidated.
@@ -113,6 +113,18 @@ impl Counts {
             return Err(BumpFault::Full(CountFull(*tag)));
         }
         self.map.insert(*tag, count + 1)?;
+        Ok(())
+    }
+
+    /// Sets the count of a tag. `Err` only where memory is wanting, and then all counts are as they were.
+    pub fn set(&mut self, tag: &Tag, count: u64) -> Result<(), AllocError>
+        ensures ok { OnOk result (self.new ≡ with_count self.old tag.now count) }
+        ensures this { OnOk result (count_of self.new tag.now ≡ count) }
+        ensures others { OnOk result ((t : TagValue) → t ≢ tag.now → count_of self.new t ≡ count_of self.old t) }
+        ensures ordered { OnOk result (IsInOrder self.new) }
+        ensures err { OnErr result (self.new ≡ self.old) }
+    {
+        self.map.insert(*tag, count)?;
         Ok(())
     }
 

@@ -229,7 +229,7 @@ fn site(alloc: Global, visitor: &[u8], member: &[u8]) -> Result<State, AllocErro
     add_terms(alloc, &mut rows)?;
     add_session(alloc, &mut rows, b"two", 2)?;
     add_session(alloc, &mut rows, b"four", 4)?;
-    Ok(State::new(rows, Counts::new(alloc), 0))
+    State::new(alloc, rows, Counts::new(alloc), 0)
 }
 
 fn ask(alloc: Global, cookie: &[u8]) -> Result<Ask, AllocError> {

@@ -19,7 +19,7 @@ fn begun(alloc: Global) -> Result<State, AllocError> {
     for (cell, row) in starter(alloc)? {
         rows.set(cell, Arc::new(alloc, row)?)?;
     }
-    Ok(State::new(rows, Counts::new(alloc), 0))
+    State::new(alloc, rows, Counts::new(alloc), 0)
 }
 
 fn settings(alloc: Global) -> Result<Row, AllocError> {

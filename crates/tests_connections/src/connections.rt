@@ -6,9 +6,11 @@ use content_rows::{
     Text, User, starter,
 };
 use content_state::{Rows, State};
-use site_cli::{Alone, rows_of};
+use site_cli::{alone_with, rows_of};
+use site_hall::Alone;
 use site_http::serve_connection;
 use site_io::{Ended, ListClock, ListEntropy, MemorySink, MemorySource, OpenGate};
+use site_keeper::MemoryKeeper;
 use std::alloc::{AllocError, Global};
 use std::sync::Arc;
 use tag_counts::Counts;
@@ -271,15 +273,12 @@ impl From<AllocError> for NoHouse {
 }
 
 // The house of these rows, where they make a valid state.
-fn house_of(alloc: Global, rows: Rows) -> Result<Alone, NoHouse> {
-    let state = State::new(rows, Counts::new(alloc), 0);
+fn house_of(alloc: Global, rows: Rows) -> Result<Alone<MemoryKeeper>, NoHouse> {
+    let state = State::new(alloc, rows, Counts::new(alloc), 0)?;
     if !state.is_valid(alloc)? {
         return Err(NoHouse::NotValid);
     }
-    match Arc::new(alloc, state) {
-        Ok(state) => Ok(Alone::new(state)),
-        Err(_) => Err(NoHouse::OutOfMemory),
-    }
+    Ok(alone_with(alloc, &state)?)
 }
 
 // How a connection over these rows ends, and what is written, where the input comes in pieces of at most so many bytes.
@@ -629,8 +628,8 @@ fn long_connections(rt: HostRuntime) {
             131_072,
             b"",
             Ended::Closed,
-            154,
-            b"HTTP/1.1 405 Method Not Allowed\r\nContent-Type: application/json\r\nContent-Length: 17\r\nAllow: GET, POST, PATCH, DELETE\r\nX-Site-State: 0\r\n\r\n{\"code\":\"method\"}",
+            124,
+            b"HTTP/1.1 415 Unsupported Media Type\r\nContent-Type: application/json\r\nContent-Length: 16\r\nX-Site-State: 0\r\n\r\n{\"code\":\"media\"}",
         ),
         (
             b"POST /node HTTP/1.1\r\nContent-Length: 1048576\r\n\r\n",
@@ -638,8 +637,8 @@ fn long_connections(rt: HostRuntime) {
             131_072,
             FIRST,
             Ended::Closed,
-            509,
-            b"HTTP/1.1 405 ",
+            479,
+            b"HTTP/1.1 415 ",
         ),
     ];
     for (start, piece, count, end, ending, length, head) in cases {

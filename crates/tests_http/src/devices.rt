@@ -3,7 +3,8 @@ ghost use Rattle.std.specs.Prelude.{◌≤◌, IfOk};
 
 use site_io::{
     Clock, Entropy, Failed, Gate, LAST_MOMENT, ListClock, ListEntropy, MemorySink, MemorySource,
-    OpenGate, Point, Reading, Sink, Source, SystemClock, SystemEntropy, Writing, write_whole,
+    NoChance, OpenGate, Point, Reading, Seed, Sink, Source, SystemClock, SystemEntropy, Writing,
+    write_whole,
 };
 use std::alloc::{AllocError, Global};
 use std::io;
@@ -86,7 +87,7 @@ impl std::time::Clock for Still {
 
 // Chance that is known, or can't be had.
 #[derive(Drop)]
-struct Known(Option<[u8; 8]>);
+struct Known(Option<[u8; 32]>);
 
 impl RandomSource for Known {
     fn fill_bytes(&self, places: &mut [u8]) -> io::Result<()> {
@@ -186,8 +187,12 @@ fn devices_of_the_system(rt: HostRuntime) {
     assert!(rt; sink.faults() == 1);
     let moment = SystemClock::new(&rt).now();
     assert!(rt; 1_700_000_000 < moment && moment <= LAST_MOMENT);
-    let mut entropy = SystemEntropy::new(&rt);
-    assert!(rt; entropy.word() != entropy.word());
+    let seed = Seed::draw(&rt).expect(&rt, "chance");
+    let mut first = SystemEntropy::new(&seed, 0);
+    let mut second = SystemEntropy::new(&seed, 1);
+    sendable(&first);
+    assert!(rt; first.word() != second.word());
+    assert!(rt; first.word() != first.word());
     OpenGate.reach(Point::BeforeReply(1));
 }
 
@@ -274,7 +279,7 @@ fn flushes_that_are_owed(rt: HostRuntime) {
 }
 
 #[test]
-fn moments_and_words_of_the_system(rt: HostRuntime) {
+fn moments_of_the_system(rt: HostRuntime) {
     // what the clock shows, in seconds and nanoseconds, and the moment
     let moments: [(Option<(u64, u32)>, u64); 6] = [
         (Some((0, 0)), 0),
@@ -291,12 +296,89 @@ fn moments_and_words_of_the_system(rt: HostRuntime) {
         };
         assert!(rt; SystemClock::new(Still(since)).now() == moment);
     }
-    let words: [(Option<[u8; 8]>, u64); 3] = [
-        (Some([1, 2, 3, 4, 5, 6, 7, 8]), 0x0807_0605_0403_0201),
-        (Some([0xff, 0, 0, 0, 0, 0, 0, 0x80]), 0x8000_0000_0000_00ff),
-        (None, 0),
-    ];
-    for (bytes, word) in words {
-        assert!(rt; SystemEntropy::new(Known(bytes)).word() == word);
+}
+
+// The words of a stream of this seed, from one of them on.
+fn gives(seed: [u8; 32], number: u64, before: usize, words: [u64; 4]) -> Result<bool, NoChance> {
+    let mut entropy = SystemEntropy::new(&Seed::draw(&Known(Some(seed)))?, number);
+    for _ in 0..before {
+        entropy.word();
     }
+    let mut given = true;
+    for word in words {
+        given &= entropy.word() == word;
+    }
+    Ok(given)
+}
+
+// The test vectors 1 to 5 of RFC 8439, A.1, whose blocks have eight of these words; the nonce of the fifth, as a number
+// of 64 bits, is its stream.
+#[test]
+fn words_of_a_seed(rt: HostRuntime) {
+    let zero = [0; 32];
+    let mut last = zero;
+    last[31] = 1;
+    let mut second = zero;
+    second[1] = 0xff;
+    let cases: [([u8; 32], u64, usize, [u64; 4]); 5] = [
+        (
+            zero,
+            0,
+            0,
+            [
+                0x903df1a0ade0b876,
+                0x28bd8653e56a5d40,
+                0x1aed8da0b819d2bd,
+                0xc70d778bccef36a8,
+            ],
+        ),
+        (
+            zero,
+            0,
+            8,
+            [
+                0x7a385155bee7079f,
+                0x0d082d737c97ba98,
+                0x6965e348a0290fcb,
+                0xed7aee323e53c612,
+            ],
+        ),
+        (
+            last,
+            0,
+            8,
+            [
+                0x9249f8ec2452eb3a,
+                0xddd4ceb18d829d9b,
+                0x60818b01e8252083,
+                0x5aaa49c9f38422b8,
+            ],
+        ),
+        (
+            second,
+            0,
+            16,
+            [
+                0x4bc42ef1fb4dd572,
+                0x327f1394df922636,
+                0x5e269039a78dea8f,
+                0xcaf09aaea1bebbc1,
+            ],
+        ),
+        (
+            zero,
+            2 << 56,
+            0,
+            [
+                0x3736d58c374dc6c2,
+                0xcd3f93efb904e24a,
+                0x96a4dfb388228b1a,
+                0xc727ee545b76ab72,
+            ],
+        ),
+    ];
+    for (seed, number, before, words) in cases {
+        assert!(rt; gives(seed, number, before, words) == Ok(true));
+    }
+    assert!(rt; Seed::draw(&Known(None)).is_err());
 }

@@ -96,7 +96,7 @@ fn listing(
 }
 
 fn state_of_nodes(alloc: Global) -> Result<State, AllocError> {
-    Ok(State::new(rows_of_nodes(alloc)?, Counts::new(alloc), 0))
+    State::new(alloc, rows_of_nodes(alloc)?, Counts::new(alloc), 0)
 }
 
 /// Whether a listing has these nodes.
@@ -327,7 +327,7 @@ fn state_with_front(alloc: Global, front: &[u8]) -> Result<State, AllocError> {
     let mut rows = Rows::new(alloc);
     set(alloc, &mut rows, Cell::Site, settings(alloc, front)?)?;
     set(alloc, &mut rows, Cell::User(5), member(alloc)?)?;
-    Ok(State::new(rows, Counts::new(alloc), 0))
+    State::new(alloc, rows, Counts::new(alloc), 0)
 }
 
 #[test]
@@ -390,7 +390,7 @@ fn state_of_blocks(alloc: Global) -> Result<State, AllocError> {
         let row = block(alloc, region, weight, &[], false, &[])?;
         set(alloc, &mut rows, Cell::Block(name(id)?), Row::Block(row))?;
     }
-    Ok(State::new(rows, Counts::new(alloc), 0))
+    State::new(alloc, rows, Counts::new(alloc), 0)
 }
 
 #[test]

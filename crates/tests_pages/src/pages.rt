@@ -27,7 +27,7 @@ fn site(alloc: Global, with_roles: bool) -> Result<State, AllocError> {
             set(alloc, &mut rows, cell, row)?;
         }
     }
-    Ok(State::new(rows, Counts::new(alloc), 0))
+    State::new(alloc, rows, Counts::new(alloc), 0)
 }
 
 /// A request for a path.

@@ -12,6 +12,10 @@ use tag_counts::Counts;
 
 fn sendable<T: Send + Sync>(_: &T) {}
 
+fn is_sendable(state: &State) {
+    sendable(state);
+}
+
 fn name(rt: &impl Abort, bytes: &[u8]) -> Name {
     Name::new(bytes).expect(rt, "a name")
 }
@@ -149,7 +153,7 @@ fn numbers_and_rows_of_no_site(rt: HostRuntime) {
     let rows = rows_without(rt.alloc(), &Cell::Head).expect(&rt, "memory");
     assert!(rt; refusal(rt.alloc(), rows, 4_611_686_018_427_387_905).is_some());
     let wrong = rows_with(rt.alloc(), &Cell::Seq, seq(2, 0)).expect(&rt, "memory");
-    let state = State::new(wrong, Counts::new(rt.alloc()), 0);
+    let state = State::new(rt.alloc(), wrong, Counts::new(rt.alloc()), 0).expect(&rt, "memory");
     assert!(rt; !state.is_valid(rt.alloc()).expect(&rt, "memory"));
 }
 
@@ -160,7 +164,7 @@ fn a_site_as_it_begins(rt: HostRuntime) {
     let Ok(state) = State::from_rows(rt.alloc(), rows, Counts::new(rt.alloc()), 0) else {
         panic!(rt; "the rows are a site");
     };
-    sendable(&state);
+    is_sendable(&state);
     assert!(rt; state.is_valid(rt.alloc()).expect(&rt, "memory"));
     assert!(rt; state.number() == 0);
     assert!(rt; state.counts().is_empty());
@@ -180,7 +184,7 @@ fn leads(
     covering: &[Tag],
 ) -> Result<bool, AllocError> {
     let rows = rows_with(alloc, &Cell::Site, settings(alloc, front)?)?;
-    let state = State::new(rows, Counts::new(alloc), 0);
+    let state = State::new(alloc, rows, Counts::new(alloc), 0)?;
     let (route, tags) = route_of(alloc, &state, path)?;
     Ok(matches!(route, Route::Node(1)) == found && tags.as_slice() == covering)
 }

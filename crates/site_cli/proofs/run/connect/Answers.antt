@@ -1,5 +1,6 @@
 use Rattle.std.proofs.Common.{◌∙◌, ap, inl}
 use Rattle.site_cli.specs.Place.{next_list, none_given, entropy_given, PlaceView}
+use Rattle.site_hall.specs.Alone.{house_of}
 use Rattle.site_cli.proofs.Replaying.{replays}
 use Rattle.site_cli.proofs.Causes.{ended_cause}
 use Rattle.site_cli.proofs.run.connect.Goals as goal
@@ -9,18 +10,21 @@ returns-clause-does g c =
     inl (replays c.serve_connection-ended.result _ _ _
     (g.P.Clock.Clock.moments c.clock-clock.result) (g.P.Clock.Clock.moments c.serve_connection-ended.new.clock)
     (g.P.Clock.Clock.given c.clock-clock.result) (g.P.Clock.Clock.given c.serve_connection-ended.new.clock)
+    (g.P.Entropy.Entropy.words c.entropy-entropy.result) (g.P.Entropy.Entropy.words c.serve_connection-ended.new.entropy)
     (g.P.Entropy.Entropy.given c.entropy-entropy.result) (g.P.Entropy.Entropy.given c.serve_connection-ended.new.entropy)
     (g.P.Gate.Gate.reached c.gate-gate.result) (g.P.Gate.Gate.reached c.serve_connection-ended.new.gate)
-    c.new-house.result c.serve_connection-ended.new.house c.status_of.result
+    (house_of c.in-Ok.house) (house_of c.serve_connection-ended.new.house) c.status_of.result
     (record {
       list = c.clock-clock.ensures.moments;
       clock = c.clock-clock.ensures.begins;
+      chances = c.entropy-entropy.ensures.words ∙ ap (λ (v : PlaceView). next_list v.words) c.clock-clock.ensures.later;
       chance = c.entropy-entropy.ensures.begins ∙ ap (λ (v : PlaceView). none_given (next_list v.words)) c.clock-clock.ensures.later;
-      undrawn = c.serve_connection-ended.ensures.words;
       gate = c.gate-gate.ensures.begins;
       turn = c.serve_connection-ended.ensures.moments;
-      same = c.serve_connection-ended.ensures.moves.base;
-      site_is = c.new-house.ensures ∙ c.in-Ok.ensures.ok;
+      word_turn = c.serve_connection-ended.ensures.words;
+      house_is = c.in-Ok.ensures;
+      moves = c.serve_connection-ended.ensures.moves;
+      own = λ none. (c.handed-handed.ensures.is_alone.all none).handed;
       connection = c.serve_connection-ended.ensures.connection;
       place = c.gate-gate.ensures.steady ∙ c.entropy-entropy.ensures.later ∙ ap entropy_given c.clock-clock.ensures.later;
     })

@@ -1,6 +1,7 @@
 use Rattle.std.proofs.Common.{◌∙◌, List, ℕ, sym, refl, subst, arith}
-use Rattle.render_array.proofs.Moving.{moves_same, moves_on}
-use Rattle.site_http.specs.History.{history_of, newest}
+use Rattle.site_house.proofs.Moving.{moves_same, moves_on}
+use Rattle.site_house.specs.History.{newest}
+use Rattle.site_house.specs.House.{history_of}
 use Rattle.site_http.specs.Connection.{Around, CountsReads, CountsWrites}
 use Rattle.site_io.proofs.Turns.{turn_same, turn_more}
 use Rattle.site_http.proofs.Progress.{Progress, begun, spent_at, starved_first}
@@ -13,6 +14,15 @@ returns-in_default-clause-connection g c =
     let old : Around = record { left = g.S.Source.left c.args.source.now; out = record { given = g.C.Clock.given c.args.clock.now; words = g.E.Entropy.given c.args.entropy.now; points = g.G.Gate.reached c.args.gate.now; written = g.O.Sink.written c.args.sink.now; handed = house.handed; keepers = house.keepers } } in
     starved_first old (history_of house) 1000
 
+pub returns-in_default-new-clause-connection : goal.returns-in_default-new-clause-connection
+returns-in_default-new-clause-connection g c =
+    let house = g.H.House.sees c.args.house.now in
+    let old : Around = record { left = g.S.Source.left c.args.source.now; out = record { given = g.C.Clock.given c.args.clock.now; words = g.E.Entropy.given c.args.entropy.now; points = g.G.Gate.reached c.args.gate.now; written = g.O.Sink.written c.args.sink.now; handed = house.handed; keepers = house.keepers } } in
+    starved_first old (history_of house) 1000
+
+pub returns-in-Some-clause-moves : goal.returns-in-Some-clause-moves
+returns-in-Some-clause-moves g c = moves_on c.requests.invariant.moves c.in-Some.ensures.moves
+
 pub requests-init : goal.requests-init
 requests-init g c =
     let house = g.H.House.sees c.args.house.now in
@@ -21,7 +31,7 @@ requests-init g c =
       moves = moves_same house;
       progress = subst (λ (b : List ℕ). Progress old old (history_of house) 1000 (newest (history_of house)) 0 (newest (history_of house)) b) (sym c.in-Ok.ensures) (begun old (history_of house) 1000);
       moments = turn_same (g.C.Clock.moments c.args.clock.now) (g.C.Clock.given c.args.clock.now);
-      words = refl;
+      words = turn_same (g.E.Entropy.words c.args.entropy.now) (g.E.Entropy.given c.args.entropy.now);
       reading = refl;
       writing = refl;
     }
@@ -44,7 +54,7 @@ requests-preserved g c = record {
   moves = moves_on c.requests.invariant.moves c.in_default-turn.ensures.moves;
   progress = goes_in {house = g.H.House.sees c.requests.house} {house' = g.H.House.sees c.turn.new.house} c.turn.new.inbox (omega arith) c.in_default-turn.ensures.moves c.requests.invariant.progress c.in_default-turn.ensures.turned;
   moments = turn_more c.requests.invariant.moments c.in_default-turn.ensures.moments;
-  words = c.in_default-turn.ensures.words ∙ c.requests.invariant.words;
+  words = turn_more c.requests.invariant.words c.in_default-turn.ensures.words;
   reading = c.in_default-turn.ensures.reads ∙ c.requests.invariant.reading;
   writing = c.in_default-turn.ensures.writes ∙ c.requests.invariant.writing;
 }

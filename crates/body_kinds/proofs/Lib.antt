@@ -1,0 +1,4 @@
+pub mod NodesRight
+pub mod PeopleRight
+pub mod RowsRight
+pub mod Said

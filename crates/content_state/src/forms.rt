@@ -1,0 +1,144 @@
+//! The fixed forms of paths.
+ghost use Rattle.std.specs.Prelude.{◌≡◌, IfOk, Some, None};
+ghost use Rattle.std.specs.Str.{bytes_eq};
+ghost use Rattle.content_state.specs.Forms.{form_rows, form_found, named_as, named_by, IsFormOf};
+ghost use Rattle.content_state.specs.Route.{id_after};
+
+use content_rows::id_of;
+use matchit::{InsertError, Router};
+use std::alloc::{AllocError, Global};
+use std::fmt;
+use std::marker::Model;
+
+/// A fixed form of paths.
+#[derive(Clone, Copy, Debug)]
+pub enum Form {
+    /// `/node/<n>`
+    Node,
+    /// `/taxonomy/term/<t>`
+    Term,
+    /// `/user/<u>`
+    User,
+    /// `/user/login`
+    Login,
+}
+
+/// What a path names by its form.
+#[derive(Clone, Copy, Debug)]
+pub enum Named {
+    /// The node of this number.
+    Node(u32),
+    /// The taxonomy term of this number.
+    Term(u32),
+    /// The user of this number.
+    User(u32),
+    /// The login form.
+    Login,
+}
+
+/// The router of the fixed forms.
+#[derive(Drop)]
+pub struct Forms {
+    router: Router<Form>,
+}
+
+impl Model for Forms {
+    ghost use Rattle.std.specs.Prelude.{◌≡◌};
+    ghost use Rattle.matchit.specs.Router.{RouteOf};
+    ghost use Rattle.matchit.specs.Rows.{RowsOf};
+    ghost use Rattle.content_state.specs.declared.forms.Form.{Form};
+    ghost use Rattle.content_state.specs.Forms.{form_rows};
+
+    ghost Value = { RowsOf (RouteOf Form) };
+
+    ghost view = { λ f. f.router };
+
+    ghost invariant = { λ f. f.router ≡ form_rows };
+}
+
+impl fmt::Debug for Forms {
+    fn fmt<W: fmt::Write>(&self, f: &mut fmt::Formatter<W>) -> fmt::Result {
+        f.write_str("Forms")
+    }
+}
+
+impl Forms {
+    /// The router of the fixed forms. `Err` only where memory is wanting.
+    pub fn new(alloc: Global) -> Result<Forms, AllocError>
+        ensures { IfOk result (λ forms. forms ≡ form_rows) }
+    {
+        match router_of_forms(alloc) {
+            Ok(router) => Ok(Forms { router }),
+            Err(_) => Err(AllocError),
+        }
+    }
+
+    /// What a path names by its form, if it has one of the fixed forms, and a number where its form has one.
+    #[tactic(auto, using(crate::proofs::Named::named_as_found))]
+    pub fn named_by(&self, path: &[u8]) -> Option<Named>
+        ensures { result ≡ named_by path.now }
+    {
+        match self.form_of(path) {
+            Some(form) => named_as(form, path),
+            None => None,
+        }
+    }
+
+    /// The form of a path: a path that names something by a form has that one. Of another path it may be any but the login
+    /// form's.
+    #[tactic(auto, using(crate::proofs::Named::is_found, crate::proofs::Named::no_text))]
+    fn form_of(&self, path: &[u8]) -> Option<Form>
+        ensures { IsFormOf path.now result }
+    {
+        match str::from_utf8(path) {
+            Ok(text) => self.find(text),
+            Err(_) => None,
+        }
+    }
+
+    /// The form that the router finds for a path.
+    fn find(&self, path: &str) -> Option<Form>
+        ensures { result ≡ form_found path.now }
+    {
+        match self.router.at(path) {
+            Ok(found) => Some(*found.value),
+            Err(_) => None,
+        }
+    }
+}
+
+/// What is read of a path by a form.
+#[tactic(auto, unfolding(crate::specs::Route::node_front, crate::specs::Route::term_front, crate::specs::Route::user_front))]
+fn named_as(form: Form, path: &[u8]) -> Option<Named>
+    ensures { result ≡ named_as (Some form) path.now }
+{
+    match form {
+        Form::Node => Some(Named::Node(id_after(b"/node/", path)?)),
+        Form::Term => Some(Named::Term(id_after(b"/taxonomy/term/", path)?)),
+        Form::User => Some(Named::User(id_after(b"/user/", path)?)),
+        Form::Login => Some(Named::Login),
+    }
+}
+
+/// The router of a route for each form.
+fn router_of_forms(alloc: Global) -> Result<Router<Form>, InsertError>
+    ensures { IfOk result (λ router. router ≡ form_rows) }
+{
+    let mut router = Router::new(alloc);
+    router.insert("/node/{n}", Form::Node)?;
+    router.insert("/taxonomy/term/{t}", Form::Term)?;
+    router.insert("/user/{u}", Form::User)?;
+    router.insert("/user/login", Form::Login)?;
+    Ok(router)
+}
+
+/// The id that follows a front.
+fn id_after(front: &[u8], path: &[u8]) -> Option<u32>
+    ensures { result ≡ id_after front.now path.now }
+{
+    if path.starts_with(front) {
+        id_of(&path[front.len()..])
+    } else {
+        None
+    }
+}

@@ -1,0 +1,12 @@
+pub mod Accepting
+pub mod Parts
+pub mod Digests
+pub mod FieldValues
+pub mod RightRows
+pub mod NodeEdits
+pub mod TermEdits
+pub mod UserEdits
+pub mod ConfigEdits
+pub mod SessionEdits
+pub mod AllEdits
+pub mod CookieViewers

@@ -1,0 +1,5 @@
+use Rattle.edit_paths.proofs.paths.add_config.Goals as goal
+
+pub returns : goal.returns
+returns c =
+    rw (c.in_ok-add_route-5.ensures, c.in_ok-add_route-4.ensures, c.in_ok-add_route-3.ensures, c.in_ok-add_route-2.ensures, c.in_ok-add_route.ensures)

@@ -1,0 +1,3 @@
+pub mod Media
+pub mod Paired
+pub mod Routes

@@ -1,0 +1,10 @@
+pub mod Causes
+pub mod Fields
+pub mod Nodes
+pub mod Terms
+pub mod Users
+pub mod Config
+pub mod Sessions
+pub mod Verdict
+pub mod Judged
+pub mod Right

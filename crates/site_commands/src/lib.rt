@@ -1,0 +1,13 @@
+//! Edits as commands, and what becomes of each: the definitions of all that may be edited, by whom, and why not.
+#![tactic(auto)]
+
+mod answer;
+mod body;
+mod command;
+
+pub use answer::{Answer, Done, Refusal, Verdict};
+pub use body::{FieldChange, NewNode, NewTerm, NewUser, NodePatch, TermPatch, UserPatch};
+pub use command::{
+    Command, ConfigKind, Credentials, NodeChange, NodeCreation, NodeKeys, TermChange, UserChange,
+    UserCreation, UserKeys,
+};

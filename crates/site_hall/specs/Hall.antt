@@ -1,0 +1,141 @@
+-- The hall of a site: the one place where its edits are judged, kept and published, one after the other.
+use Rattle.std.specs.Prelude.{ℕ, List, [], ◌∷◌, ◌++◌, ◌≡◌, ◌+◌, ◌==◌, ◌⊎◌, Bool, true, Option, Some, None, if◌then◌else◌}
+use Rattle.content_state.specs.State.{State}
+use Rattle.content_state.specs.Replay.{step, replay}
+use Rattle.content_state.specs.declared.ask.Ask.{Ask}
+use Rattle.content_state.specs.declared.commit.Commit.{Commit}
+use Rattle.site_commands.specs.Causes.{Accepted, Refused}
+use Rattle.site_commands.specs.Judged.{judged}
+use Rattle.site_commands.specs.declared.answer.Answer.{Answer}
+use Rattle.site_commands.specs.declared.answer.Answer.TheVariants as answer
+use Rattle.site_commands.specs.declared.answer.Done.{Done}
+use Rattle.site_commands.specs.declared.answer.Refusal.{Refusal}
+use Rattle.site_commands.specs.declared.command.Command.{Command}
+use Rattle.site_keeper.specs.Batch.{Batch}
+use Rattle.site_keeper.specs.Keeper.{Kept, IfTold, and_batch}
+use Rattle.site_keeper.specs.Steps.{stored_of, batch_of}
+use Rattle.site_house.specs.History.{newest_of}
+use Rattle.site_house.specs.House.{AreValid, CountRose}
+
+-- all that contracts see of a hall
+pub record HallView : Type 0 where
+  -- the state that was loaded, and the edits that were published since, the first one first
+  pub base : State
+  pub log : List Commit
+  -- an edit that the keeper failed to keep, or kept and didn't say so: the next edit settles which
+  pub pending : Option Commit
+  -- what the keeper told when the hall was made, and what it tells now, where it tells
+  pub opened : Option Kept
+  pub kept : Option Kept
+  -- how often the keeper has failed, up to the greatest u64, and whether it tells that it never fails
+  pub faults : ℕ
+  pub steadfast : Bool
+
+-- the number of the newest state
+abbrev pub number_of : HallView → ℕ
+number_of hall = newest_of hall.base hall.log
+
+-- ---- what the keeper holds
+
+-- the batches of the edits of a log, one after the other
+abbrev pub batches_of : State → List Commit → List Batch
+batches_of state [] = []
+batches_of state (commit ∷ commits) = batch_of state commit ∷ batches_of (step state commit) commits
+
+-- what is told once these batches more are kept
+abbrev pub and_batches : Option Kept → List Batch → Option Kept
+and_batches kept [] = kept
+and_batches kept (batch ∷ batches) = and_batches (and_batch kept batch) batches
+
+-- the keeper has kept the edits of this log since the hall was made, and no others
+abbrev pub HasKept : HallView → List Commit → Type 0
+HasKept hall log = hall.kept ≡ and_batches hall.opened (batches_of hall.base log)
+
+-- the edits that were published and the one that is pending
+abbrev pub with_pending : List Commit → Option Commit → List Commit
+with_pending log None = log
+with_pending log (Some commit) = log ++ commit ∷ []
+
+-- What always holds of a hall: each state that its edits make of the loaded one is valid, that of the pending edit
+-- too; where the keeper told what was loaded, it has kept just the published edits, or the pending one besides.
+pub record IsHall (hall : HallView) : Type 0 where
+  pub valid : AreValid hall.base (with_pending hall.log hall.pending)
+  pub keeps : HasKept hall hall.log ⊎ HasKept hall (with_pending hall.log hall.pending)
+  pub loaded : IfTold hall.opened (λ held. held ≡ stored_of hall.base)
+
+-- A keeper that tells that it never fails goes on to tell it, and its count of faults stays.
+pub record StaysSteadfast (old new : HallView) : Type 0 where
+  pub tells : new.steadfast ≡ old.steadfast
+  pub stays : old.steadfast ≡ true → new.faults ≡ old.faults
+
+-- ---- what becomes of an edit
+
+-- The hall once the keeper has told its number: the pending edit is published exactly where the number is that of the
+-- state that it makes, and else forgotten.
+abbrev pub settled_by : HallView → ℕ → Option Commit → HallView
+settled_by hall head None = hall
+settled_by hall head (Some commit) = record hall {
+  log = if head == number_of hall + 1 then hall.log ++ commit ∷ [] else hall.log;
+  pending = None;
+}
+
+-- the pending edit is settled, by the number that the keeper holds
+pub record Settles (old new : HallView) : Type 0 where
+  pub head : ℕ
+  pub held_is : IfTold old.kept (λ held. head ≡ held.head)
+  pub settled : new ≡ settled_by old head old.pending
+
+-- the judgement of an edit on the newest state of a hall
+abbrev pub IsAcceptedOn : HallView → Ask → Option (List ℕ) → Command → ℕ → ℕ → Commit → Done → Type 0
+IsAcceptedOn hall ask csrf command now pass commit done = judged hall.base hall.log ask csrf command now pass ≡ Accepted commit done
+
+-- An edit is accepted: it is judged once what was pending is settled; it is kept, and stands last in the log.
+pub record Accepts (old new : HallView) (ask : Ask) (csrf : Option (List ℕ)) (command : Command) (now pass : ℕ) (done : Done) (number : ℕ) : Type 0 where
+  pub settled : HallView
+  pub settles : Settles old settled
+  pub commit : Commit
+  pub accepted : IsAcceptedOn settled ask csrf command now pass commit done
+  pub published : new ≡ record settled {
+    log = settled.log ++ commit ∷ [];
+    kept = and_batch settled.kept (batch_of (replay settled.base settled.log) commit);
+  }
+  pub number_is : number ≡ number_of new
+
+-- An edit is refused, once what was pending is settled. Nothing else changes.
+pub record Refuses (old new : HallView) (ask : Ask) (csrf : Option (List ℕ)) (command : Command) (now pass : ℕ) (refusal : Refusal) (number : ℕ) : Type 0 where
+  pub settles : Settles old new
+  pub refused : judged new.base new.log ask csrf command now pass ≡ Refused refusal
+  pub number_is : number ≡ number_of new
+
+-- the keeper failed to tell its number, with an edit pending: that stays so, and nothing changes but its count of faults
+pub record FailsHead (old new : HallView) : Type 0 where
+  pub pending : Commit
+  pub was_pending : old.pending ≡ Some pending
+  pub stays : new ≡ record old { faults = new.faults }
+
+-- the keeper failed to keep an accepted edit, or kept it and didn't say so: it is pending
+pub record FailsApply (old new : HallView) (ask : Ask) (csrf : Option (List ℕ)) (command : Command) (now pass : ℕ) : Type 0 where
+  pub settled : HallView
+  pub settles : Settles old settled
+  pub commit : Commit
+  pub done : Done
+  pub accepted : IsAcceptedOn settled ask csrf command now pass commit done
+  pub kept_or_not :
+      (new.kept ≡ settled.kept) ⊎ (new.kept ≡ and_batch settled.kept (batch_of (replay settled.base settled.log) commit))
+  pub stays : new ≡ record settled { pending = Some commit; kept = new.kept; faults = new.faults }
+
+-- the keeper failed, and its count of faults rose
+pub record Fails (old new : HallView) (ask : Ask) (csrf : Option (List ℕ)) (command : Command) (now pass : ℕ) : Type 0 where
+  pub where_it_failed : FailsHead old new ⊎ FailsApply old new ask csrf command now pass
+  pub rose : CountRose old.faults new.faults
+
+-- memory was wanting: nothing changes, or what was pending is settled, and nothing else changes
+abbrev pub Starves : HallView → HallView → Type 0
+Starves old new = (new ≡ old) ⊎ Settles old new
+
+-- what becomes of an edit, by the answer
+abbrev pub Answers : Answer → HallView → HallView → Ask → Option (List ℕ) → Command → ℕ → ℕ → Type 0
+Answers (answer.Done done number) old new ask csrf command now pass = Accepts old new ask csrf command now pass done number
+Answers (answer.Refused refusal number) old new ask csrf command now pass = Refuses old new ask csrf command now pass refusal number
+Answers answer.Keeper old new ask csrf command now pass = Fails old new ask csrf command now pass
+Answers answer.OutOfMemory old new ask csrf command now pass = Starves old new

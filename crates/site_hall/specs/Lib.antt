@@ -1,0 +1,9 @@
+pub mod Log
+pub mod ReadyEdit
+pub mod Hall
+pub mod Within
+pub mod Opened
+pub mod Stopped
+pub mod Ready
+pub mod Alone
+pub mod Handed

@@ -1,0 +1,299 @@
+//! The hall of a site.
+ghost use Rattle.std.specs.Prelude.{◌≡◌, ◌≤◌, ◌<◌, ◌^◌, [], length, Some, None, is_some, IfOk, OnOk, IfErr};
+ghost use Rattle.std.specs.Arc.{arc_value};
+ghost use Rattle.std.specs.Option.{option_copied};
+ghost use Rattle.content_rows.specs.Kinds.{IsMoment};
+ghost use Rattle.content_state.specs.Replay.{replay};
+ghost use Rattle.content_state.specs.SiteRules.{AreValidRows, IsRefusal};
+ghost use Rattle.site_commands.specs.Right.{IsRight};
+ghost use Rattle.site_keeper.specs.Keeper.{IfTold};
+ghost use Rattle.site_hall.specs.Hall.{IsHall, StaysSteadfast, Settles, Answers, number_of, settled_by};
+ghost use Rattle.site_hall.specs.Opened.{opened_with, IsBack};
+ghost use Rattle.site_hall.specs.Ready.{IsReady, IsReadyAfter, MayBeNext, LeavesPending, Stops, IsUnready, published, LeavesReady};
+
+use crate::edit::Made;
+use crate::judging::judged;
+use crate::log::Log;
+use crate::making::{Ready, made_ready};
+use crate::stop::Stop;
+use content_state::{Ask, Refusal, Refused, State};
+use edit_laws::{verdicts_keep_valid, viewers_are_there};
+use site_commands::{Answer, Command, Verdict};
+use site_keeper::{Batch, Keeper, KeeperFault, Stored};
+use std::alloc::{AllocError, Global};
+use std::marker::Model;
+use std::sync::Arc;
+
+/// The hall of a site: its edits are judged on the newest state, kept by the keeper of the rows, and then published, one
+/// after the other. Contracts see the state that was loaded, the edits that were published since, an edit that the keeper
+/// failed to keep, or kept and didn't say so, and what the keeper tells.
+#[derive(Drop)]
+pub struct Hall<K: Keeper> {
+    log: Log,
+    pending: Option<Made>,
+    keeper: K,
+}
+
+impl<K: Keeper> Model for Hall<K> {
+    ghost use Rattle.site_hall.specs.Hall.{HallView};
+
+    ghost Value = { HallView };
+
+    ghost use Rattle.site_hall.specs.Within.{view_of, IsWhole};
+
+    ghost view = { λ h. view_of h.log h.pending (K.kept h.keeper) (K.faults h.keeper) (K.steadfast h.keeper) };
+
+    ghost invariant = { λ h. IsWhole h.log h.pending (K.kept h.keeper) (K.faults h.keeper) (K.steadfast h.keeper) };
+}
+
+/// Why there is no hall of what a keeper holds. The keeper comes back, and what was to be loaded, unless memory was wanting
+/// once that was found to be a site.
+#[derive(Drop)]
+pub struct NoHall<K> {
+    pub keeper: K,
+    pub stored: Option<Stored>,
+    pub why: Refusal,
+}
+
+impl<K: Keeper> Hall<K> {
+    /// The hall of what a keeper holds: rows, each of which is right by itself, counts and a number. They are refused where
+    /// they are no site, and where memory is wanting, as by `State::from_rows`. No edit is published yet, and none is
+    /// pending.
+    pub fn new(alloc: Global, keeper: K, stored: Stored) -> Result<Hall<K>, NoHall<K>>
+        requires told { IfTold (K.kept keeper) (λ held. held ≡ stored) }
+        requires rows { AreValidRows stored.rows }
+        ensures opened { IfOk result (λ hall. hall ≡ opened_with stored (K.kept keeper) (K.faults keeper) (K.steadfast keeper)) }
+        ensures is_hall { IfOk result (λ hall. IsHall hall) }
+        ensures refused { IfErr result (λ none. IsRefusal stored.rows stored.head none.why) }
+        ensures keeper_back { IfErr result (λ none. none.keeper ≡ keeper) }
+        ensures stored_back { IfErr result (λ none. IsBack none.why none.stored stored) }
+    {
+        let Stored { rows, counts, head } = stored;
+        let base = match State::from_rows(alloc, rows, counts, head) {
+            Ok(base) => base,
+            Err(Refused { rows, counts, why }) => {
+                let stored = Some(Stored { rows, counts, head });
+                return Err(NoHall {
+                    keeper,
+                    stored,
+                    why,
+                });
+            }
+        };
+        match Log::new(alloc, base) {
+            Ok(log) => Ok(Hall {
+                log,
+                pending: None,
+                keeper,
+            }),
+            Err(_) => Err(NoHall {
+                keeper,
+                stored: None,
+                why: Refusal::OutOfMemory,
+            }),
+        }
+    }
+
+    /// The newest state: that of all edits that were published. It is valid. `Err` only where memory is wanting.
+    pub fn snapshot(&self, _alloc: Global) -> Result<Arc<State>, AllocError>
+        ensures { IfOk result (λ state. arc_value state ≡ replay self.now.base self.now.log) }
+    {
+        Arc::try_clone(self.log.newest())
+    }
+
+    /// Makes an edit, which bears the number of the caller's pass. Where an edit is pending, the keeper is first asked for
+    /// its number: the pending edit is published exactly where that is the number of the state that it makes, and else
+    /// forgotten. Then the edit is judged on the newest state, for the viewer whom the cookie of the request names there at
+    /// this moment, in seconds since 1970, with the value that was sent to guard the forms of a session. An accepted one is
+    /// kept, and then published.
+    ///
+    /// `Done` and `Refused` tell the number of the newest state. `Keeper` only where the keeper failed in this call: at
+    /// its number nothing changes; at the edit that is pending then. `OutOfMemory` where memory is wanting: nothing of the
+    /// edit is kept.
+    pub fn commit(
+        &mut self,
+        alloc: Global,
+        ask: &Ask,
+        csrf: Option<&[u8]>,
+        command: &Command,
+        now: u64,
+        pass: u32,
+    ) -> Answer
+        requires right { IsRight command.now }
+        requires moment { IsMoment now }
+        ensures answers { Answers result self.old self.new ask.now (option_copied csrf.entry) command.now now pass }
+        ensures is_hall { IsHall self.new }
+        ensures never_falls { self.old.faults ≤ self.new.faults }
+        ensures steadfast { StaysSteadfast self.old self.new }
+    {
+        match self.prepare(alloc, ask, csrf, command, now, pass) {
+            Ok(ready) => {
+                let done = ready.done;
+                match self.keep(alloc, ready) {
+                    Ok(()) => Answer::Done(done, self.number()),
+                    Err(KeeperFault::Failed) => Answer::Keeper,
+                    Err(KeeperFault::OutOfMemory) => Answer::OutOfMemory,
+                }
+            }
+            Err(Stop::Refused(refusal)) => Answer::Refused(refusal, self.number()),
+            Err(Stop::Failed) => Answer::Keeper,
+            Err(Stop::OutOfMemory) => Answer::OutOfMemory,
+        }
+    }
+
+    /// How often the keeper has failed, up to the greatest u64. It never falls.
+    pub fn faults(&self) -> u64
+        ensures { result ≡ self.now.faults }
+    {
+        self.keeper.faults()
+    }
+
+    /// Whether an edit is pending: the keeper failed to keep it, or kept it and didn't say so.
+    pub fn pending(&self) -> bool
+        ensures { result ≡ is_some self.now.pending }
+    {
+        self.pending.is_some()
+    }
+
+    /// The keeper, as it is.
+    pub fn into_keeper(self) -> K
+        ensures kept { K.kept result ≡ self.kept }
+        ensures faults { K.faults result ≡ self.faults }
+    {
+        let Hall {
+            log: _,
+            pending: _,
+            keeper,
+        } = self;
+        keeper
+    }
+
+    /// The number of the newest state.
+    pub(crate) fn number(&self) -> u64
+        ensures { result ≡ number_of self.now }
+    {
+        self.log.number()
+    }
+
+    /// How many edits were published.
+    pub(crate) fn len(&self) -> usize
+        ensures len { result ≡ length self.now.log }
+        ensures is_hall { IsHall self.now }
+    {
+        self.log.len()
+    }
+
+    /// Settles what is pending, judges an edit, and makes what it takes to keep and to publish it.
+    pub(crate) fn prepare(
+        &mut self,
+        alloc: Global,
+        ask: &Ask,
+        csrf: Option<&[u8]>,
+        command: &Command,
+        now: u64,
+        pass: u32,
+    ) -> Result<Ready, Stop>
+        requires right { IsRight command.now }
+        requires moment { IsMoment now }
+        ensures ready { IfOk result (λ ready. IsReadyAfter self.old self.new ask.now (option_copied csrf.entry) command.now now pass ready) }
+        ensures stops { IfErr result (λ stop. Stops stop self.old self.new ask.now (option_copied csrf.entry) command.now now pass) }
+        ensures is_hall { IsHall self.new }
+        ensures never_falls { self.old.faults ≤ self.new.faults }
+        ensures steadfast { StaysSteadfast self.old self.new }
+    {
+        self.settle(alloc)?;
+        self.ready(alloc, ask, csrf, command, now, pass)
+    }
+
+    /// Settles what is pending, if anything is. `Err` where the keeper failed to tell its number, or memory is wanting.
+    fn settle(&mut self, alloc: Global) -> Result<(), KeeperFault>
+        ensures settles { OnOk result (Settles self.old self.new) }
+        ensures none_pending { OnOk result (self.new.pending ≡ None) }
+        ensures leaves { IfErr result (λ fault. LeavesPending fault self.old self.new) }
+        ensures is_hall { IsHall self.new }
+        ensures never_falls { self.old.faults ≤ self.new.faults }
+        ensures steadfast { StaysSteadfast self.old self.new }
+    {
+        if self.pending.is_none() {
+            return Ok(());
+        }
+        let head = self.keeper.head(alloc)?;
+        self.settle_by(head);
+        Ok(())
+    }
+
+    /// Publishes what is pending where it makes the state of this number, and else forgets it.
+    fn settle_by(&mut self, head: u64)
+        requires { IfTold self.old.kept (λ held. head ≡ held.head) }
+        ensures settled { self.new ≡ settled_by self.old head self.old.pending }
+        ensures is_hall { IsHall self.new }
+    {
+        let Some(made) = self.pending.take() else {
+            return;
+        };
+        if head != self.log.number() + 1 {
+            return;
+        }
+        self.log.publish(made);
+    }
+
+    /// Judges an edit on the newest state, and makes what it takes to keep and to publish it.
+    fn ready(
+        &self,
+        alloc: Global,
+        ask: &Ask,
+        csrf: Option<&[u8]>,
+        command: &Command,
+        now: u64,
+        pass: u32,
+    ) -> Result<Ready, Stop>
+        requires right { IsRight command.now }
+        requires moment { IsMoment now }
+        requires none_pending { self.now.pending ≡ None }
+        ensures ready { IfOk result (λ ready. IsReady self.now ask.now (option_copied csrf.entry) command.now now pass ready) }
+        ensures unready { IfErr result (λ stop. IsUnready stop self.now ask.now (option_copied csrf.entry) command.now now pass) }
+    {
+        match judged(alloc, &self.log, ask, csrf, command, now, pass)? {
+            Verdict::Refused(refusal) => Err(Stop::Refused(refusal)),
+            Verdict::Commit(commit, done) => {
+                verdicts_keep_valid();
+                viewers_are_there();
+                Ok(made_ready(alloc, self.log.newest(), commit, done)?)
+            }
+        }
+    }
+
+    /// Keeps an edit, and then publishes it, for which all was made before. Where the keeper failed, the edit is pending; where
+    /// memory is wanting, nothing changes.
+    pub(crate) fn keep(&mut self, alloc: Global, ready: Ready) -> Result<(), KeeperFault>
+        requires { MayBeNext self.old ready }
+        ensures published { OnOk result (self.new ≡ published self.old ready.batch) }
+        ensures leaves { IfErr result (λ fault. LeavesReady fault self.old ready.batch self.new) }
+        ensures is_hall { IsHall self.new }
+        ensures never_falls { self.old.faults ≤ self.new.faults }
+        ensures steadfast { StaysSteadfast self.old self.new }
+    {
+        self.log.reserve()?;
+        let Ready {
+            batch,
+            done: _,
+            state,
+        } = ready;
+        let answer = self.keeper.apply(alloc, &batch);
+        let Batch { commit, .. } = batch;
+        let made = Made { commit, state };
+        match answer {
+            Ok(()) => {
+                self.log.publish(made);
+                Ok(())
+            }
+            Err(fault) => match fault {
+                KeeperFault::Failed => {
+                    self.pending = Some(made);
+                    Err(KeeperFault::Failed)
+                }
+                KeeperFault::OutOfMemory => Err(KeeperFault::OutOfMemory),
+            },
+        }
+    }
+}

@@ -1,0 +1,14 @@
+//! The hall of a site: the one place where its edits are judged, kept and published, one after the other; and a caller
+//! that has a hall for itself.
+#![tactic(auto)]
+
+mod alone;
+mod edit;
+mod hall;
+mod judging;
+mod log;
+mod making;
+mod stop;
+
+pub use alone::Alone;
+pub use hall::{Hall, NoHall};

@@ -1,0 +1,7 @@
+pub mod Rows
+pub mod Together
+pub mod After
+pub mod Holding
+pub mod Kept
+pub mod Valid
+pub mod Raised

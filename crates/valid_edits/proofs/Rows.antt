@@ -1,0 +1,70 @@
+-- The rows of a state as a map: an entry that passes a test is found at its cell, and what is found passes.
+use Rattle.std.proofs.Common.{◌≡◌, ◌⊎◌, ◌∙◌, ℕ, List, [], ◌∷◌, true, false, refl, sym, ap, inl, inr}
+use Rattle.std.specs.Prelude.{Bool, Option, Some, None, cond, ◌||◌, option_map, find}
+use Rattle.std.specs.List.{list_any}
+use Rattle.std.proofs.lemmas.Bool.{cases_Bool, both_ways, or_parts}
+use Rattle.std.proofs.lemmas.List.Folds.{Any-from_list_any, list_any-from_Any}
+use Rattle.std.proofs.lemmas.Slice.Eq.{bytes_eq-Decides}
+use Rattle.content_rows.specs.CellOrder.{cell_cmp}
+use Rattle.content_rows.proofs.CellLemmas.{cell_cmp_exact, cell_cmp_total}
+use Rattle.content_rows.specs.declared.cell.Cell.{Cell}
+use Rattle.content_rows.specs.declared.row.Row.{Row}
+use Rattle.content_state.specs.Rows.{row_at}
+use Rattle.content_state.specs.SiteRules.{InOrder, is_text}
+use Rattle.state_commits.proofs.Entries.{same_or_not}
+use Rattle.state_commits.proofs.Owners.{is_found, is_held}
+
+-- a test that is both true and false
+pub clash : {P : Type 0} {b : Bool} → b ≡ true → b ≡ false → P
+clash if_true if_false = absurd (both_ways _ if_false if_true)
+
+pub one_cell_or_two : (d c : Cell) → (d ≡ c) ⊎ (d ≡ c → ⊥)
+one_cell_or_two d c = same_or_not cell_cmp cell_cmp_total cell_cmp_exact d c
+
+-- a row that is found, and passes a test
+pub record PassesAt (p : Cell × Row → Bool) (rows : List (Cell × Row)) : Type 0 where
+  pub cell : Cell
+  pub row : Row
+  pub at : row_at rows cell ≡ Some row
+  pub passes : p (cell, row) ≡ true
+
+pub some_passes : (p : Cell × Row → Bool) (rows : List (Cell × Row)) → InOrder rows → list_any p rows ≡ true → PassesAt p rows
+some_passes p rows sorted any =
+    let e = Any-from_list_any p rows any in
+    record {
+      cell = e.1.0;
+      row = e.1.1;
+      at = is_found rows e.1.0 e.1.1 sorted (e.0, e.2, e.3);
+      passes = e.4;
+    }
+
+pub it_passes : (p : Cell × Row → Bool) (rows : List (Cell × Row)) (c : Cell) (r : Row) → row_at rows c ≡ Some r → p (c, r) ≡ true → list_any p rows ≡ true
+it_passes p rows c r at passes =
+    let e = is_held rows c r at in list_any-from_Any p rows (e.0, (c, r), e.1, e.2, passes)
+
+-- none that is found is none that passes
+pub none_found : {X : Type 0} (p : X → Bool) (xs : List X) → find p xs ≡ None → list_any p xs ≡ false
+none_found p [] h = refl
+none_found p (x ∷ xs) h = elim (cases_Bool (p x)) as (λ _. list_any p (x ∷ xs) ≡ false) [
+  | inl passes ↦ let e : Some x ≡ None = sym (ap (λ b. cond b (Some x) (find p xs)) passes) ∙ h in cc
+  | inr fails ↦ ap (λ b. b || list_any p xs) fails ∙ none_found p xs (sym (ap (λ b. cond b (Some x) (find p xs)) fails) ∙ h)
+]
+
+pub find_none : {X : Type 0} (p : X → Bool) (xs : List X) → list_any p xs ≡ false → find p xs ≡ None
+find_none p [] h = refl
+find_none p (x ∷ xs) h =
+    let parts = or_parts (p x) (list_any p xs) h in
+    ap (λ b. cond b (Some x) (find p xs)) parts.0 ∙ find_none p xs parts.1
+
+pub no_map : {X Y : Type 0} (f : X → Y) (o : Option X) → option_map f o ≡ None → o ≡ None
+no_map f None h = refl
+no_map f (Some x) h = cc
+
+-- a text and the one that a row has
+pub text_is : (text : List ℕ) (own : Option (List ℕ)) → is_text text own ≡ true → own ≡ Some text
+text_is text None h = cc
+text_is text (Some own) h = ap Some ((bytes_eq-Decides own text).0 h)
+
+pub is_text_of : (text : List ℕ) (own : Option (List ℕ)) → own ≡ Some text → is_text text own ≡ true
+is_text_of text None h = cc
+is_text_of text (Some own) h = let same : own ≡ text = cc in (bytes_eq-Decides own text).1 same

@@ -1,0 +1,422 @@
+-- The rules of a site, said of the map from cells to rows, in which no order of rows is left.
+use Rattle.std.proofs.Common.{◌≡◌, ◌<◌, ◌≤◌, inl, inr, ◌∙◌, ℕ, List, [], ◌∷◌, true, false, refl, sym, ap, subst, arith}
+use Rattle.std.specs.Prelude.{Bool, Option, Some, None, ◌||◌, ◌&&◌, not, ◌==◌, is_none, is_some, option_and_then, if◌then◌else◌}
+use Rattle.std.specs.Ordering.{is_lt, ordering_reverse}
+use Rattle.std.specs.Str.{bytes_eq}
+use Rattle.std.specs.Cmp.{tied_itself}
+use Rattle.std.specs.declared.cmp.Ordering.{Ordering}
+use Rattle.std.specs.declared.cmp.Ordering.TheVariants.{Less, Equal, Greater}
+use Rattle.std.proofs.lemmas.Bool.{cases_Bool, false_from_ne_true, and_parts, and_left, and_right, or_from, or_right, leb-true, leb-false, le-leb}
+use Rattle.std.proofs.lemmas.List.Elements.{All-contains, All-contains_itself, All-weaker}
+use Rattle.std.proofs.lemmas.Slice.Eq.{bytes_eq-Decides}
+use Rattle.content_rows.specs.CellOrder.{cell_cmp}
+use Rattle.content_rows.specs.Permission.{anonymous, authenticated}
+use Rattle.content_rows.specs.ValidRow.{IsValidRow}
+use Rattle.content_rows.proofs.CellLemmas.{cell_cmp_exact, cell_cmp_total}
+use Rattle.content_rows.specs.declared.cell.Cell.{Cell}
+use Rattle.content_rows.specs.declared.cell.Cell.TheVariants as cell
+use Rattle.content_rows.specs.declared.row.Row.{Row}
+use Rattle.content_rows.specs.declared.row.Row.TheVariants as row
+use Rattle.content_rows.specs.declared.row.Seq.{Seq}
+use Rattle.content_rows.specs.declared.row.User.{User}
+use Rattle.content_rows.specs.declared.row.Term.{Term}
+use Rattle.content_rows.specs.declared.row.Node.{Node}
+use Rattle.content_rows.specs.declared.row.Listing.{Listing}
+use Rattle.content_rows.specs.declared.row.Session.{Session}
+use Rattle.content_state.specs.Rows.{row_at, as_site, as_seq, as_type, as_role, as_user, as_term, as_node, as_listing, as_session, site_of, seq_of, type_of, role_of, user_of, term_of, node_of, listing_of, session_of}
+use Rattle.content_state.specs.declared.site_rules.SiteRule.{SiteRule}
+use Rattle.content_state.specs.declared.site_rules.SiteField.{SiteField}
+use Rattle.content_state.specs.declared.site_rules.SiteRule.TheVariants as rule
+use Rattle.content_state.specs.declared.site_rules.SiteField.TheVariants as field
+use Rattle.content_state.specs.declared.site_rules.Numbered.{Numbered}
+use Rattle.content_state.specs.declared.site_rules.Numbered.TheVariants as numbered
+use Rattle.content_state.specs.declared.site_rules.Unique.{Unique}
+use Rattle.content_state.specs.declared.site_rules.Unique.TheVariants as unique
+use Rattle.content_state.specs.SiteRules.{first_broken, is_id_from, has_id_from, text_of, is_text, taken, seq_tests, user_tests, term_tests, node_tests, listing_tests, session_tests, seq_fault, user_fault, term_fault, node_fault, listing_fault, session_fault, InOrder, AreValidRows, MeetsSiteRules}
+use Rattle.state_commits.proofs.Owners.{is_found, is_held}
+use Rattle.valid_edits.specs.Fits.{next_id, is_absent_user, is_locked_role}
+use Rattle.valid_edits.proofs.Rows.{clash, some_passes, it_passes, text_is, is_text_of}
+
+-- a cell has a row
+abbrev pub IsThere : (Cell → Option Row) → Cell → Type 0
+IsThere at c = is_some (at c) ≡ true
+
+-- an id is below the one of its kind that is to be given next
+abbrev pub IsBelow : Seq → Cell → Type 0
+IsBelow seq (cell.Node n) = n < seq.node
+IsBelow seq (cell.Term n) = n < seq.term
+IsBelow seq (cell.User n) = n < seq.user
+IsBelow seq _ = Unit {0}
+
+-- what a row names is there
+abbrev pub NamesThere : (Cell → Option Row) → Row → Type 0
+NamesThere at (row.Node r) = IsThere at (cell.NodeType r.node_type) × ((r.uid == 0) ≡ false → IsThere at (cell.User r.uid))
+NamesThere at (row.Session r) = IsThere at (cell.User r.uid)
+NamesThere at _ = Unit {0}
+
+-- the rows are each right by itself, and all of them are together
+pub record IsTogether (at : Cell → Option Row) : Type 0 where
+  pub right : (c : Cell) (r : Row) → at c ≡ Some r → IsValidRow c r
+  pub site : IsThere at cell.Site
+  pub seq : Seq
+  pub seq_at : at cell.Seq ≡ Some (row.Seq seq)
+  pub visitors : IsThere at (cell.Role anonymous)
+  pub members : IsThere at (cell.Role authenticated)
+  pub given : (c : Cell) (r : Row) → at c ≡ Some r → IsBelow seq c
+  pub named : (c : Cell) (r : Row) → at c ≡ Some r → NamesThere at r
+  pub alone : (what : Unique) (c d : Cell) (r q : Row) (t : List ℕ) → at c ≡ Some r → at d ≡ Some q → text_of what r ≡ Some t → text_of what q ≡ Some t → c ≡ d
+
+-- ---- rows of a kind
+
+-- what is found of a kind is a row that is there
+pub there_of : {X : Type 0} (pick : Row → Option X) (o : Option Row) → is_none (option_and_then pick o) ≡ false → is_some o ≡ true
+there_of pick None h = cc
+there_of pick (Some r) h = refl
+
+-- a row that is there is found as its kind
+picked : {X : Type 0} (pick : Row → Option X) (o : Option Row) → ((r : Row) → o ≡ Some r → is_none (pick r) ≡ false) → is_some o ≡ true → is_none (option_and_then pick o) ≡ false
+picked pick None kind h = cc
+picked pick (Some r) kind h = kind r refl
+
+site_kind : (r : Row) → IsValidRow cell.Site r → is_none (as_site r) ≡ false
+site_kind (row.Site r) h = refl
+site_kind _ h = absurd h
+
+type_kind : (name : List ℕ) (r : Row) → IsValidRow (cell.NodeType name) r → is_none (as_type r) ≡ false
+type_kind name (row.NodeType r) h = refl
+type_kind name _ h = absurd h
+
+role_kind : (name : List ℕ) (r : Row) → IsValidRow (cell.Role name) r → is_none (as_role r) ≡ false
+role_kind name (row.Role r) h = refl
+role_kind name _ h = absurd h
+
+user_kind : (id : ℕ) (r : Row) → IsValidRow (cell.User id) r → is_none (as_user r) ≡ false
+user_kind id (row.User r) h = refl
+user_kind id _ h = absurd h
+
+pub is_seq : (o : Option Row) (r : Seq) → option_and_then as_seq o ≡ Some r → o ≡ Some (row.Seq r)
+is_seq None r h = cc
+is_seq (Some (row.Seq q)) r h = cc
+is_seq (Some _) r h = cc
+
+pub is_user : (o : Option Row) (r : User) → option_and_then as_user o ≡ Some r → o ≡ Some (row.User r)
+is_user None r h = cc
+is_user (Some (row.User q)) r h = cc
+is_user (Some _) r h = cc
+
+pub is_term : (o : Option Row) (r : Term) → option_and_then as_term o ≡ Some r → o ≡ Some (row.Term r)
+is_term None r h = cc
+is_term (Some (row.Term q)) r h = cc
+is_term (Some _) r h = cc
+
+pub is_node : (o : Option Row) (r : Node) → option_and_then as_node o ≡ Some r → o ≡ Some (row.Node r)
+is_node None r h = cc
+is_node (Some (row.Node q)) r h = cc
+is_node (Some _) r h = cc
+
+pub is_listing : (o : Option Row) (r : Listing) → option_and_then as_listing o ≡ Some r → o ≡ Some (row.Listing r)
+is_listing None r h = cc
+is_listing (Some (row.Listing q)) r h = cc
+is_listing (Some _) r h = cc
+
+pub is_session : (o : Option Row) (r : Session) → option_and_then as_session o ≡ Some r → o ≡ Some (row.Session r)
+is_session None r h = cc
+is_session (Some (row.Session q)) r h = cc
+is_session (Some _) r h = cc
+
+-- ---- tests
+
+abbrev Tests : Type 0
+Tests = List (Bool × SiteRule × SiteField)
+
+abbrev NoneBroken : Tests → Type 0
+NoneBroken [] = Unit {0}
+NoneBroken (r ∷ rs) = (r.0 ≡ false) × NoneBroken rs
+
+not_broken : (rs : Tests) → first_broken rs ≡ None → NoneBroken rs
+not_broken [] h = tt
+not_broken ((true, what, by) ∷ rs) h = cc
+not_broken ((false, what, by) ∷ rs) h = (refl, not_broken rs h)
+
+none_broken : (rs : Tests) → NoneBroken rs → first_broken rs ≡ None
+none_broken [] h = refl
+none_broken (r ∷ rs) h = ap (λ b. if b then Some (r.1, r.2) else first_broken rs) h.0 ∙ none_broken rs h.1
+
+-- the settings are to be there, and so are the two roles that every viewer or every user has
+abbrev site_tests : List (Cell × Row) → Tests
+site_tests rows = (is_none (site_of rows), rule.Missing, field.Cell) ∷ []
+
+abbrev role_tests : List (Cell × Row) → List ℕ → Tests
+role_tests rows name = (is_locked_role name && is_none (role_of rows name), rule.Missing, field.Cell) ∷ []
+
+-- ---- ids
+
+-- an id that isn't below the next one, by its kind
+id_from : (kind : Numbered) (seq : Seq) (c : Cell) → is_id_from kind (next_id kind seq) c ≡ true → IsBelow seq c → ⊥
+id_from numbered.Node seq (cell.Node n) h below = let le = leb-true seq.node n h in omega arith
+id_from numbered.Term seq (cell.Term n) h below = let le = leb-true seq.term n h in omega arith
+id_from numbered.User seq (cell.User n) h below = let le = leb-true seq.user n h in omega arith
+id_from _ seq _ h below = cc
+
+-- an id from a number on is one from each lesser number on
+from_less : (kind : Numbered) (low next : ℕ) (c : Cell) → low ≤ next → is_id_from kind next c ≡ true → is_id_from kind low c ≡ true
+from_less numbered.Node low next (cell.Node n) le h = let more = leb-true next n h in le-leb low n (omega arith)
+from_less numbered.Term low next (cell.Term n) le h = let more = leb-true next n h in le-leb low n (omega arith)
+from_less numbered.User low next (cell.User n) le h = let more = leb-true next n h in le-leb low n (omega arith)
+from_less _ low next _ le h = cc
+
+-- where no id of any kind is from the next one on, each is below it
+pub record NoneFrom (seq : Seq) (c : Cell) : Type 0 where
+  pub node : is_id_from numbered.Node seq.node c ≡ false
+  pub term : is_id_from numbered.Term seq.term c ≡ false
+  pub user : is_id_from numbered.User seq.user c ≡ false
+
+pub below_next : (seq : Seq) (c : Cell) → NoneFrom seq c → IsBelow seq c
+below_next seq (cell.Node n) none = leb-false seq.node n none.node
+below_next seq (cell.Term n) none = leb-false seq.term n none.term
+below_next seq (cell.User n) none = leb-false seq.user n none.user
+below_next seq _ none = tt
+
+not_from : (kind : Numbered) (next : ℕ) (rows : List (Cell × Row)) (c : Cell) (r : Row) → has_id_from rows kind next ≡ false → row_at rows c ≡ Some r → is_id_from kind next c ≡ false
+not_from kind next rows c r none at = false_from_ne_true _ (λ from. clash (it_passes (λ e. is_id_from kind next e.0) rows c r at from) none)
+
+pub none_from : (seq : Seq) (rows : List (Cell × Row)) → has_id_from rows numbered.Node seq.node ≡ false → has_id_from rows numbered.Term seq.term ≡ false → has_id_from rows numbered.User seq.user ≡ false
+    → (c : Cell) (r : Row) → row_at rows c ≡ Some r → NoneFrom seq c
+none_from seq rows node term user c r at = record {
+  node = not_from numbered.Node seq.node rows c r node at;
+  term = not_from numbered.Term seq.term rows c r term at;
+  user = not_from numbered.User seq.user rows c r user at;
+}
+
+-- ---- the cell of a row by its kind
+
+node_cell : (d : Cell) (r : Node) → IsValidRow d (row.Node r) → (n : ℕ) × (d ≡ cell.Node n)
+node_cell (cell.Node n) r h = (n, refl)
+node_cell _ r h = absurd h
+
+user_cell : (d : Cell) (r : User) → IsValidRow d (row.User r) → (n : ℕ) × (d ≡ cell.User n)
+user_cell (cell.User n) r h = (n, refl)
+user_cell _ r h = absurd h
+
+term_cell : (d : Cell) (r : Term) → IsValidRow d (row.Term r) → (n : ℕ) × (d ≡ cell.Term n)
+term_cell (cell.Term n) r h = (n, refl)
+term_cell _ r h = absurd h
+
+listing_cell : (d : Cell) (r : Listing) → IsValidRow d (row.Listing r) → (n : List ℕ) × (d ≡ cell.Listing n)
+listing_cell (cell.Listing n) r h = (n, refl)
+listing_cell _ r h = absurd h
+
+session_cell : (d : Cell) (r : Session) → IsValidRow d (row.Session r) → (token : List ℕ) × (d ≡ cell.Session token)
+session_cell (cell.Session token) r h = (token, refl)
+session_cell _ r h = absurd h
+
+-- ---- rows in order
+
+module _ (rows : List (Cell × Row)) (sorted : InOrder rows) where
+  -- no row before has the text
+  abbrev IsUntaken : Cell → Unique → Option (List ℕ) → Type 0
+  IsUntaken c what text = taken rows c what text ≡ false
+
+  -- ---- from the rules to the map
+
+  module _ (valid : AreValidRows rows) (meets : MeetsSiteRules rows) where
+    right_at : (c : Cell) (r : Row) → row_at rows c ≡ Some r → IsValidRow c r
+    right_at c r at = All-contains (λ e. IsValidRow e.0 e.1) rows (c, r) valid (is_held rows c r at)
+
+    user_tested : (id : ℕ) (r : User) → row_at rows (cell.User id) ≡ Some (row.User r) → NoneBroken (user_tests rows (cell.User id) r)
+    user_tested id r at = not_broken (user_tests rows (cell.User id) r) (sym (ap (λ (o : Option Row). user_fault rows (cell.User id) (option_and_then as_user o)) at) ∙ meets (cell.User id))
+
+    term_tested : (id : ℕ) (r : Term) → row_at rows (cell.Term id) ≡ Some (row.Term r) → NoneBroken (term_tests rows (cell.Term id) r)
+    term_tested id r at = not_broken (term_tests rows (cell.Term id) r) (sym (ap (λ (o : Option Row). term_fault rows (cell.Term id) (option_and_then as_term o)) at) ∙ meets (cell.Term id))
+
+    node_tested : (id : ℕ) (r : Node) → row_at rows (cell.Node id) ≡ Some (row.Node r) → NoneBroken (node_tests rows (cell.Node id) r)
+    node_tested id r at = not_broken (node_tests rows (cell.Node id) r) (sym (ap (λ (o : Option Row). node_fault rows (cell.Node id) (option_and_then as_node o)) at) ∙ meets (cell.Node id))
+
+    listing_tested : (name : List ℕ) (r : Listing) → row_at rows (cell.Listing name) ≡ Some (row.Listing r) → NoneBroken (listing_tests rows (cell.Listing name) r)
+    listing_tested name r at = not_broken (listing_tests rows (cell.Listing name) r) (sym (ap (λ (o : Option Row). listing_fault rows (cell.Listing name) (option_and_then as_listing o)) at) ∙ meets (cell.Listing name))
+
+    session_tested : (token : List ℕ) (r : Session) → row_at rows (cell.Session token) ≡ Some (row.Session r) → NoneBroken (session_tests rows r)
+    session_tested token r at = not_broken (session_tests rows r) (sym (ap (λ (o : Option Row). session_fault rows (option_and_then as_session o)) at) ∙ meets (cell.Session token))
+
+    -- a text that no two rows may have is tested where it stands
+    untaken : (what : Unique) (d : Cell) (r : Row) (t : List ℕ) → row_at rows d ≡ Some r → text_of what r ≡ Some t → IsUntaken d what (Some t)
+    untaken unique.NodeUuid d (row.Node r) t at is =
+        let k = node_cell d r (right_at d (row.Node r) at) in
+        let own = (node_tested k.0 r (subst (λ c. row_at rows c ≡ Some (row.Node r)) k.1 at)).1.1.0 in
+        subst (λ o. IsUntaken d unique.NodeUuid o) is (subst (λ c. IsUntaken c unique.NodeUuid (Some r.uuid)) (sym k.1) own)
+    untaken unique.TermUuid d (row.Term r) t at is =
+        let k = term_cell d r (right_at d (row.Term r) at) in
+        let own = (term_tested k.0 r (subst (λ c. row_at rows c ≡ Some (row.Term r)) k.1 at)).0 in
+        subst (λ o. IsUntaken d unique.TermUuid o) is (subst (λ c. IsUntaken c unique.TermUuid (Some r.uuid)) (sym k.1) own)
+    untaken unique.UserUuid d (row.User r) t at is =
+        let k = user_cell d r (right_at d (row.User r) at) in
+        let own = (user_tested k.0 r (subst (λ c. row_at rows c ≡ Some (row.User r)) k.1 at)).0 in
+        subst (λ o. IsUntaken d unique.UserUuid o) is (subst (λ c. IsUntaken c unique.UserUuid (Some r.uuid)) (sym k.1) own)
+    untaken unique.UserName d (row.User r) t at is =
+        let k = user_cell d r (right_at d (row.User r) at) in
+        let own = (user_tested k.0 r (subst (λ c. row_at rows c ≡ Some (row.User r)) k.1 at)).1.0 in
+        subst (λ o. IsUntaken d unique.UserName o) is (subst (λ c. IsUntaken c unique.UserName (Some r.name)) (sym k.1) own)
+    untaken unique.Path d (row.Node r) t at is =
+        let k = node_cell d r (right_at d (row.Node r) at) in
+        let own = (node_tested k.0 r (subst (λ c. row_at rows c ≡ Some (row.Node r)) k.1 at)).1.1.1.0 in
+        subst (λ o. IsUntaken d unique.Path o) is (subst (λ c. IsUntaken c unique.Path r.path) (sym k.1) own)
+    untaken unique.Path d (row.Listing r) t at is =
+        let k = listing_cell d r (right_at d (row.Listing r) at) in
+        let own = (listing_tested k.0 r (subst (λ c. row_at rows c ≡ Some (row.Listing r)) k.1 at)).0 in
+        subst (λ o. IsUntaken d unique.Path o) is (subst (λ c. IsUntaken c unique.Path r.path) (sym k.1) own)
+    untaken _ d _ t at is = cc
+
+    -- a row that stands before has another text
+    not_before : (what : Unique) (c d : Cell) (r q : Row) (t : List ℕ) → row_at rows c ≡ Some r → row_at rows d ≡ Some q → text_of what r ≡ Some t → text_of what q ≡ Some t → cell_cmp c d ≡ Less → ⊥
+    not_before what c d r q t at_c at_d of_c of_d less =
+        let here : (is_lt (cell_cmp c d) && is_text t (text_of what r)) ≡ true = ap (λ o. is_lt o && is_text t (text_of what r)) less ∙ is_text_of t (text_of what r) of_c in
+        clash (it_passes (λ e. is_lt (cell_cmp e.0 d) && is_text t (text_of what e.1)) rows c r at_c here) (untaken what d q t at_d of_d)
+
+    same_by : (what : Unique) (c d : Cell) (r q : Row) (t : List ℕ) → row_at rows c ≡ Some r → row_at rows d ≡ Some q → text_of what r ≡ Some t → text_of what q ≡ Some t → (o : Ordering) → cell_cmp c d ≡ o → c ≡ d
+    same_by what c d r q t at_c at_d of_c of_d Less is = absurd (not_before what c d r q t at_c at_d of_c of_d is)
+    same_by what c d r q t at_c at_d of_c of_d Equal is = cell_cmp_exact c d is
+    same_by what c d r q t at_c at_d of_c of_d Greater is = absurd (not_before what d c q r t at_d at_c of_d of_c (cell_cmp_total.antisymm d c ∙ ap ordering_reverse is))
+
+    -- the ids that are next
+    seq_parts : (o : Option Seq) → seq_fault rows o ≡ None → (seq : Seq) × (o ≡ Some seq) × NoneBroken (seq_tests rows seq)
+    seq_parts None h = cc
+    seq_parts (Some seq) h = (seq, refl, not_broken (seq_tests rows seq) h)
+
+    role_there : (name : List ℕ) → is_locked_role name ≡ true → IsThere (row_at rows) (cell.Role name)
+    role_there name locked =
+        let one = (not_broken (role_tests rows name) (meets (cell.Role name))).0 in
+        there_of as_role (row_at rows (cell.Role name)) (sym (ap (λ b. b && is_none (role_of rows name)) locked) ∙ one)
+
+    owner_there : (uid : ℕ) → is_absent_user rows uid ≡ false → (uid == 0) ≡ false → IsThere (row_at rows) (cell.User uid)
+    owner_there uid present other = there_of as_user (row_at rows (cell.User uid)) (sym (ap (λ b. not b && is_none (user_of rows uid)) other) ∙ present)
+
+    names_there : (c : Cell) (r : Row) → row_at rows c ≡ Some r → NamesThere (row_at rows) r
+    names_there c (row.Node r) at =
+        let k = node_cell c r (right_at c (row.Node r) at) in
+        let tested = node_tested k.0 r (subst (λ d. row_at rows d ≡ Some (row.Node r)) k.1 at) in
+        (there_of as_type (row_at rows (cell.NodeType r.node_type)) tested.0, owner_there r.uid tested.1.0)
+    names_there c (row.Session r) at =
+        let k = session_cell c r (right_at c (row.Session r) at) in
+        let tested = session_tested k.0 r (subst (λ d. row_at rows d ≡ Some (row.Session r)) k.1 at) in
+        there_of as_user (row_at rows (cell.User r.uid)) tested.0
+    names_there c _ at = tt
+
+    pub together : IsTogether (row_at rows)
+    together =
+        let next = seq_parts (seq_of rows) (meets cell.Seq) in
+        record {
+          right = right_at;
+          site = there_of as_site (row_at rows cell.Site) (not_broken (site_tests rows) (meets cell.Site)).0;
+          seq = next.0;
+          seq_at = is_seq (row_at rows cell.Seq) next.0 next.1;
+          visitors = role_there anonymous (ap (λ b. b || bytes_eq anonymous authenticated) ((bytes_eq-Decides anonymous anonymous).1 refl));
+          members = role_there authenticated (or_right (bytes_eq authenticated anonymous) (bytes_eq authenticated authenticated) ((bytes_eq-Decides authenticated authenticated).1 refl));
+          given = λ c r at. below_next next.0 c (none_from next.0 rows next.2.0 next.2.1.0 next.2.1.1.0 c r at);
+          named = names_there;
+          alone = λ what c d r q t at_c at_d of_c of_d. same_by what c d r q t at_c at_d of_c of_d (cell_cmp c d) refl;
+        }
+
+  -- ---- from the map to the rules
+
+  module _ (all : IsTogether (row_at rows)) where
+    pub right_rows : AreValidRows rows
+    right_rows = All-weaker _ (λ e. IsValidRow e.0 e.1) (λ e held. all.right e.0 e.1 (is_found rows e.0 e.1 sorted held)) rows (All-contains_itself rows)
+
+    own_text : (what : Unique) (c : Cell) (r : Row) (t : List ℕ) → row_at rows c ≡ Some r → text_of what r ≡ Some t → IsUntaken c what (Some t)
+    own_text what c r t at is = false_from_ne_true _ (λ found.
+        let e = some_passes (λ e. is_lt (cell_cmp e.0 c) && is_text t (text_of what e.1)) rows sorted found in
+        let parts = and_parts (is_lt (cell_cmp e.cell c)) (is_text t (text_of what e.row)) e.passes in
+        let same : e.cell ≡ c = all.alone what e.cell c e.row r t e.at at (text_is t (text_of what e.row) parts.1) is in
+        let less : is_lt (cell_cmp c c) ≡ true = subst (λ d. is_lt (cell_cmp d c) ≡ true) same parts.0 in
+        clash less (ap is_lt (tied_itself cell_cmp_total c)))
+
+    own_path : (c : Cell) (r : Row) (o : Option (List ℕ)) → row_at rows c ≡ Some r → text_of unique.Path r ≡ o → IsUntaken c unique.Path o
+    own_path c r None at is = refl
+    own_path c r (Some t) at is = own_text unique.Path c r t at is
+
+    pub no_id_from : (kind : Numbered) (next : ℕ) → next_id kind all.seq ≤ next → has_id_from rows kind next ≡ false
+    no_id_from kind next le = false_from_ne_true _ (λ found.
+        let e = some_passes (λ e. is_id_from kind next e.0) rows sorted found in
+        id_from kind all.seq e.cell (from_less kind (next_id kind all.seq) next e.cell le e.passes) (all.given e.cell e.row e.at))
+
+    pub type_found : (name : List ℕ) → IsThere (row_at rows) (cell.NodeType name) → is_none (type_of rows name) ≡ false
+    type_found name there = picked as_type (row_at rows (cell.NodeType name)) (λ r at. type_kind name r (all.right (cell.NodeType name) r at)) there
+
+    role_found : (name : List ℕ) → IsThere (row_at rows) (cell.Role name) → is_none (role_of rows name) ≡ false
+    role_found name there = picked as_role (row_at rows (cell.Role name)) (λ r at. role_kind name r (all.right (cell.Role name) r at)) there
+
+    pub user_found : (id : ℕ) → IsThere (row_at rows) (cell.User id) → is_none (user_of rows id) ≡ false
+    user_found id there = picked as_user (row_at rows (cell.User id)) (λ r at. user_kind id r (all.right (cell.User id) r at)) there
+
+    pub owner_found : (uid : ℕ) → ((uid == 0) ≡ false → IsThere (row_at rows) (cell.User uid)) → is_absent_user rows uid ≡ false
+    owner_found uid there = elim (cases_Bool (uid == 0)) as (λ _. is_absent_user rows uid ≡ false) [
+      | inl nobody ↦ and_left _ (is_none (user_of rows uid)) (ap not nobody)
+      | inr other ↦ and_right (not (uid == 0)) _ (user_found uid (there other))
+    ]
+
+    role_rule : (name : List ℕ) → (is_locked_role name && is_none (role_of rows name)) ≡ false
+    role_rule name = elim (cases_Bool (bytes_eq name anonymous)) as (λ _. (is_locked_role name && is_none (role_of rows name)) ≡ false) [
+      | inl here ↦ and_right _ (is_none (role_of rows name)) (subst (λ n. is_none (role_of rows n) ≡ false) (sym ((bytes_eq-Decides name anonymous).0 here)) (role_found anonymous all.visitors))
+      | inr other ↦ elim (cases_Bool (bytes_eq name authenticated)) as (λ _. (is_locked_role name && is_none (role_of rows name)) ≡ false) [
+        | inl here ↦ and_right _ (is_none (role_of rows name)) (subst (λ n. is_none (role_of rows n) ≡ false) (sym ((bytes_eq-Decides name authenticated).0 here)) (role_found authenticated all.members))
+        | inr neither ↦ and_left _ (is_none (role_of rows name)) (or_from _ _ other neither)
+      ]
+    ]
+
+    seq_rule : (o : Option Seq) → o ≡ Some all.seq → seq_fault rows o ≡ None
+    seq_rule None is = cc
+    seq_rule (Some seq) is =
+        let same : all.seq ≡ seq = cc in
+        subst (λ s. first_broken (seq_tests rows s) ≡ None) same (none_broken (seq_tests rows all.seq) (
+          no_id_from numbered.Node all.seq.node (omega arith),
+          (no_id_from numbered.Term all.seq.term (omega arith), (no_id_from numbered.User all.seq.user (omega arith), tt)),
+        ))
+
+    user_rule : (id : ℕ) (o : Option User) → user_of rows id ≡ o → user_fault rows (cell.User id) o ≡ None
+    user_rule id None is = refl
+    user_rule id (Some r) is =
+        let at = is_user (row_at rows (cell.User id)) r is in
+        none_broken (user_tests rows (cell.User id) r) (
+          own_text unique.UserUuid (cell.User id) (row.User r) r.uuid at refl,
+          (own_text unique.UserName (cell.User id) (row.User r) r.name at refl, tt),
+        )
+
+    term_rule : (id : ℕ) (o : Option Term) → term_of rows id ≡ o → term_fault rows (cell.Term id) o ≡ None
+    term_rule id None is = refl
+    term_rule id (Some r) is =
+        none_broken (term_tests rows (cell.Term id) r) (own_text unique.TermUuid (cell.Term id) (row.Term r) r.uuid (is_term (row_at rows (cell.Term id)) r is) refl, tt)
+
+    node_rule : (id : ℕ) (o : Option Node) → node_of rows id ≡ o → node_fault rows (cell.Node id) o ≡ None
+    node_rule id None is = refl
+    node_rule id (Some r) is =
+        let at = is_node (row_at rows (cell.Node id)) r is in
+        let named : NamesThere (row_at rows) (row.Node r) = all.named (cell.Node id) (row.Node r) at in
+        none_broken (node_tests rows (cell.Node id) r) (
+          type_found r.node_type named.0,
+          (owner_found r.uid named.1, (own_text unique.NodeUuid (cell.Node id) (row.Node r) r.uuid at refl, (own_path (cell.Node id) (row.Node r) r.path at refl, tt))),
+        )
+
+    listing_rule : (name : List ℕ) (o : Option Listing) → listing_of rows name ≡ o → listing_fault rows (cell.Listing name) o ≡ None
+    listing_rule name None is = refl
+    listing_rule name (Some r) is =
+        none_broken (listing_tests rows (cell.Listing name) r) (own_path (cell.Listing name) (row.Listing r) r.path (is_listing (row_at rows (cell.Listing name)) r is) refl, tt)
+
+    session_rule : (token : List ℕ) (o : Option Session) → session_of rows token ≡ o → session_fault rows o ≡ None
+    session_rule token None is = refl
+    session_rule token (Some r) is =
+        none_broken (session_tests rows r) (user_found r.uid (all.named (cell.Session token) (row.Session r) (is_session (row_at rows (cell.Session token)) r is)), tt)
+
+    pub rules : MeetsSiteRules rows
+    rules cell.Site =
+        none_broken (site_tests rows) (picked as_site (row_at rows cell.Site) (λ r at. site_kind r (all.right cell.Site r at)) all.site, tt)
+    rules cell.Seq = seq_rule (seq_of rows) (ap (option_and_then as_seq) all.seq_at)
+    rules (cell.NodeType name) = refl
+    rules (cell.Role name) = none_broken (role_tests rows name) (role_rule name, tt)
+    rules (cell.User id) = user_rule id (user_of rows id) refl
+    rules (cell.Term id) = term_rule id (term_of rows id) refl
+    rules (cell.Node id) = node_rule id (node_of rows id) refl
+    rules (cell.Menu name) = refl
+    rules (cell.Listing name) = listing_rule name (listing_of rows name) refl
+    rules (cell.Block name) = refl
+    rules (cell.Session token) = session_rule token (session_of rows token) refl
+    rules cell.Head = refl

@@ -1,0 +1,150 @@
+-- What a valid state tells of its rows: of those that are there, that they keep what is their own, and of ids that are to
+-- be given next, that no row has them.
+use Rattle.std.proofs.Common.{◌≡◌, ◌<◌, ◌≤◌, ◌∙◌, ℕ, List, refl, sym, ap, subst, arith}
+use Rattle.std.specs.Prelude.{false, Option, Some, None, is_none, option_and_then}
+use Rattle.content_rows.specs.ValidRow.{IsValidRow}
+use Rattle.content_rows.specs.declared.cell.Cell.{Cell}
+use Rattle.content_rows.specs.declared.cell.Cell.TheVariants as cell
+use Rattle.content_rows.specs.declared.row.Row.{Row}
+use Rattle.content_rows.specs.declared.row.Row.TheVariants as row
+use Rattle.content_rows.specs.declared.row.Seq.{Seq}
+use Rattle.content_rows.specs.declared.row.User.{User}
+use Rattle.content_rows.specs.declared.row.Term.{Term}
+use Rattle.content_rows.specs.declared.row.Node.{Node}
+use Rattle.content_rows.specs.declared.row.Session.{Session}
+use Rattle.content_state.specs.State.{State}
+use Rattle.content_state.specs.declared.site_rules.Numbered.{Numbered}
+use Rattle.content_state.specs.declared.site_rules.Numbered.TheVariants as numbered
+use Rattle.content_state.specs.declared.site_rules.Unique.{Unique}
+use Rattle.content_state.specs.declared.site_rules.Unique.TheVariants as unique
+use Rattle.content_state.specs.Rows.{row_at, as_seq, seq_of, type_of, user_of, term_of, node_of, session_of}
+use Rattle.content_state.specs.SiteRules.{text_of, has_id_from, IsValidState}
+use Rattle.valid_edits.specs.Holders.{holder, path_holder}
+use Rattle.valid_edits.specs.Fits.{next_id, IsGiven, is_absent_user, SeqFits, UserFits, TermFits, NodeFits}
+use Rattle.valid_edits.proofs.Together.{IsBelow, NamesThere, IsTogether, is_user, is_term, is_node, is_session, no_id_from, type_found, user_found, owner_found}
+use Rattle.valid_edits.proofs.Holding.{no_holder}
+use Rattle.valid_edits.proofs.Kept.{valid_together}
+
+module _ (state : State) (valid : IsValidState state) where
+  all : IsTogether (row_at state.rows)
+  all = valid_together state valid
+
+  -- each row is right by itself
+  pub right_at : (c : Cell) (r : Row) → row_at state.rows c ≡ Some r → IsValidRow c r
+  right_at c r at = all.right c r at
+
+  -- ---- what is a row's own
+
+  -- a row that is there has no other holder of its own text
+  pub own_holder : (what : Unique) (c : Cell) (r : Row) (text : List ℕ) → row_at state.rows c ≡ Some r → text_of what r ≡ Some text → holder state.rows c what text ≡ None
+  own_holder what c r text at is = no_holder state.rows c what text valid.in_order (λ d q at_d of_d. all.alone what d c q r text at_d at of_d is)
+
+  pub own_path_holder : (c : Cell) (r : Row) (path : Option (List ℕ)) → row_at state.rows c ≡ Some r → text_of unique.Path r ≡ path → path_holder state.rows c path ≡ None
+  own_path_holder c r None at is = refl
+  own_path_holder c r (Some path) at is = own_holder unique.Path c r path at is
+
+  -- ---- the ids that are next
+
+  next_is : (seq : Seq) → seq_of state.rows ≡ Some seq → all.seq ≡ seq
+  next_is seq is = one_seq all.seq seq (sym (ap (option_and_then as_seq) all.seq_at) ∙ is)
+    where
+      one_seq : (a b : Seq) → Some a ≡ Some b → a ≡ b
+      one_seq a b h = cc
+
+  -- they are there
+  pub seq_there : (seq : Seq) × (seq_of state.rows ≡ Some seq)
+  seq_there = (all.seq, ap (option_and_then as_seq) all.seq_at)
+
+  -- no row has the id that is to be given next, nor a greater one
+  no_id : (kind : Numbered) (seq : Seq) → seq_of state.rows ≡ Some seq → (next : ℕ) → next_id kind seq ≤ next → has_id_from state.rows kind next ≡ false
+  no_id kind seq is next le =
+      no_id_from state.rows valid.in_order all kind next (subst (λ s. next_id kind s ≤ next) (sym (next_is seq is)) le)
+
+  pub no_node_id : (seq : Seq) → seq_of state.rows ≡ Some seq → (next : ℕ) → seq.node ≤ next → has_id_from state.rows numbered.Node next ≡ false
+  no_node_id seq is next le = no_id numbered.Node seq is next le
+
+  pub no_term_id : (seq : Seq) → seq_of state.rows ≡ Some seq → (next : ℕ) → seq.term ≤ next → has_id_from state.rows numbered.Term next ≡ false
+  no_term_id seq is next le = no_id numbered.Term seq is next le
+
+  pub no_user_id : (seq : Seq) → seq_of state.rows ≡ Some seq → (next : ℕ) → seq.user ≤ next → has_id_from state.rows numbered.User next ≡ false
+  no_user_id seq is next le = no_id numbered.User seq is next le
+
+  -- so ids to come fit that are no less
+  pub raised_seq_fits : (seq next : Seq) → seq_of state.rows ≡ Some seq → seq.node ≤ next.node → seq.term ≤ next.term → seq.user ≤ next.user → SeqFits state.rows next
+  raised_seq_fits seq next is node term user = record {
+    node = no_node_id seq is next.node node;
+    term = no_term_id seq is next.term term;
+    user = no_user_id seq is next.user user;
+  }
+
+  -- where an id is no less than the next one, no row has it
+  not_there : (c : Cell) → (IsBelow all.seq c → ⊥) → row_at state.rows c ≡ None
+  not_there c above = go (row_at state.rows c) refl
+    where
+      go : (o : Option Row) → row_at state.rows c ≡ o → o ≡ None
+      go None at = refl
+      go (Some r) at = absurd (above (all.given c r at))
+
+  pub next_node_free : (seq : Seq) → seq_of state.rows ≡ Some seq → row_at state.rows (cell.Node seq.node) ≡ None
+  next_node_free seq is = not_there (cell.Node seq.node) (λ below. let same = ap (λ s. s.node) (next_is seq is) in omega arith)
+
+  pub next_term_free : (seq : Seq) → seq_of state.rows ≡ Some seq → row_at state.rows (cell.Term seq.term) ≡ None
+  next_term_free seq is = not_there (cell.Term seq.term) (λ below. let same = ap (λ s. s.term) (next_is seq is) in omega arith)
+
+  pub next_user_free : (seq : Seq) → seq_of state.rows ≡ Some seq → row_at state.rows (cell.User seq.user) ≡ None
+  next_user_free seq is = not_there (cell.User seq.user) (λ below. let same = ap (λ s. s.user) (next_is seq is) in omega arith)
+
+  -- ---- rows that are there
+
+  -- their ids were given
+  given_below : (kind : Numbered) (id : ℕ) → id < next_id kind all.seq → IsGiven state.rows kind id
+  given_below kind id below = record { seq = all.seq; there = ap (option_and_then as_seq) all.seq_at; below = below }
+
+  pub user_given : (id : ℕ) (user : User) → user_of state.rows id ≡ Some user → IsGiven state.rows numbered.User id
+  user_given id user is = given_below numbered.User id (all.given (cell.User id) (row.User user) (is_user (row_at state.rows (cell.User id)) user is))
+
+  pub term_given : (id : ℕ) (term : Term) → term_of state.rows id ≡ Some term → IsGiven state.rows numbered.Term id
+  term_given id term is = given_below numbered.Term id (all.given (cell.Term id) (row.Term term) (is_term (row_at state.rows (cell.Term id)) term is))
+
+  pub node_given : (id : ℕ) (node : Node) → node_of state.rows id ≡ Some node → IsGiven state.rows numbered.Node id
+  node_given id node is = given_below numbered.Node id (all.given (cell.Node id) (row.Node node) (is_node (row_at state.rows (cell.Node id)) node is))
+
+  -- what they name is there
+  node_names : (id : ℕ) (node : Node) → node_of state.rows id ≡ Some node → NamesThere (row_at state.rows) (row.Node node)
+  node_names id node is = all.named (cell.Node id) (row.Node node) (is_node (row_at state.rows (cell.Node id)) node is)
+
+  pub node_type_there : (id : ℕ) (node : Node) → node_of state.rows id ≡ Some node → is_none (type_of state.rows node.node_type) ≡ false
+  node_type_there id node is = type_found state.rows valid.in_order all node.node_type (node_names id node is).0
+
+  pub owner_present : (id : ℕ) (node : Node) → node_of state.rows id ≡ Some node → is_absent_user state.rows node.uid ≡ false
+  owner_present id node is = owner_found state.rows valid.in_order all node.uid (node_names id node is).1
+
+  pub session_user_there : (token : List ℕ) (session : Session) → session_of state.rows token ≡ Some session → is_none (user_of state.rows session.uid) ≡ false
+  session_user_there token session is =
+      user_found state.rows valid.in_order all session.uid (all.named (cell.Session token) (row.Session session) (is_session (row_at state.rows (cell.Session token)) session is))
+
+  -- ---- rows that are there, changed
+
+  pub changed_user_fits : (id : ℕ) (old new : User) → user_of state.rows id ≡ Some old → old.uuid ≡ new.uuid
+      → holder state.rows (cell.User id) unique.UserName new.name ≡ None → UserFits state.rows id new
+  changed_user_fits id old new is same name = record {
+    given = user_given id old is;
+    uuid = own_holder unique.UserUuid (cell.User id) (row.User old) new.uuid (is_user (row_at state.rows (cell.User id)) old is) (ap Some same);
+    name = name;
+  }
+
+  pub changed_term_fits : (id : ℕ) (old new : Term) → term_of state.rows id ≡ Some old → old.uuid ≡ new.uuid → TermFits state.rows id new
+  changed_term_fits id old new is same = record {
+    given = term_given id old is;
+    uuid = own_holder unique.TermUuid (cell.Term id) (row.Term old) new.uuid (is_term (row_at state.rows (cell.Term id)) old is) (ap Some same);
+  }
+
+  pub changed_node_fits : (id : ℕ) (old new : Node) → node_of state.rows id ≡ Some old → old.uuid ≡ new.uuid → old.node_type ≡ new.node_type
+      → is_absent_user state.rows new.uid ≡ false → path_holder state.rows (cell.Node id) new.path ≡ None → NodeFits state.rows id new
+  changed_node_fits id old new is same same_type owner path = record {
+    given = node_given id old is;
+    node_type = subst (λ name. is_none (type_of state.rows name) ≡ false) same_type (node_type_there id old is);
+    owner = owner;
+    uuid = own_holder unique.NodeUuid (cell.Node id) (row.Node old) new.uuid (is_node (row_at state.rows (cell.Node id)) old is) (ap Some same);
+    path = path;
+  }

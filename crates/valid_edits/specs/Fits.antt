@@ -1,0 +1,107 @@
+-- What is to be checked of the writes of an edit, so that the state after it is valid.
+use Rattle.std.specs.Prelude.{ℕ, List, [], ◌∷◌, ◌≡◌, ◌<◌, ◌==◌, Bool, false, not, ◌&&◌, ◌||◌, Option, Some, None, is_none}
+use Rattle.std.specs.Str.{bytes_eq}
+use Rattle.content_rows.specs.Permission.{anonymous, authenticated}
+use Rattle.content_rows.specs.ValidRow.{IsValidRow}
+use Rattle.content_rows.specs.declared.cell.Cell.{Cell}
+use Rattle.content_rows.specs.declared.cell.Cell.TheVariants as cell
+use Rattle.content_rows.specs.declared.row.Row.{Row}
+use Rattle.content_rows.specs.declared.row.Row.TheVariants as row
+use Rattle.content_rows.specs.declared.row.Seq.{Seq}
+use Rattle.content_rows.specs.declared.row.User.{User}
+use Rattle.content_rows.specs.declared.row.Term.{Term}
+use Rattle.content_rows.specs.declared.row.Node.{Node}
+use Rattle.content_state.specs.State.{State}
+use Rattle.content_state.specs.Write.{Write}
+use Rattle.content_state.specs.declared.commit.Commit.{Commit}
+use Rattle.content_state.specs.declared.site_rules.Numbered.{Numbered}
+use Rattle.content_state.specs.declared.site_rules.Numbered.TheVariants as numbered
+use Rattle.content_state.specs.declared.site_rules.Unique.TheVariants as unique
+use Rattle.content_state.specs.Rows.{seq_of, type_of, user_of}
+use Rattle.content_state.specs.Replay.{written, step}
+use Rattle.content_state.specs.SiteRules.{has_id_from, IsValidState}
+use Rattle.valid_edits.specs.Holders.{holder, path_holder, is_used}
+
+-- the id of a kind that is to be given next
+abbrev pub next_id : Numbered → Seq → ℕ
+next_id numbered.Node seq = seq.node
+next_id numbered.Term seq = seq.term
+next_id numbered.User seq = seq.user
+
+-- the id was given: it is below the one of its kind that is to be given next
+pub record IsGiven (rows : List (Cell × Row)) (kind : Numbered) (id : ℕ) : Type 0 where
+  pub seq : Seq
+  pub there : seq_of rows ≡ Some seq
+  pub below : id < next_id kind seq
+
+-- whether a user is neither 0, which is nobody, nor there
+abbrev pub is_absent_user : List (Cell × Row) → ℕ → Bool
+is_absent_user rows uid = not (uid == 0) && is_none (user_of rows uid)
+
+-- whether a role is one of the two that every viewer or every user has
+abbrev pub is_locked_role : List ℕ → Bool
+is_locked_role name = bytes_eq name anonymous || bytes_eq name authenticated
+
+-- the ids that are to be given next are above all ids of their kinds
+pub record SeqFits (rows : List (Cell × Row)) (seq : Seq) : Type 0 where
+  pub node : has_id_from rows numbered.Node seq.node ≡ false
+  pub term : has_id_from rows numbered.Term seq.term ≡ false
+  pub user : has_id_from rows numbered.User seq.user ≡ false
+
+-- the user's id was given, and no other row has its uuid or its name
+pub record UserFits (rows : List (Cell × Row)) (id : ℕ) (user : User) : Type 0 where
+  pub given : IsGiven rows numbered.User id
+  pub uuid : holder rows (cell.User id) unique.UserUuid user.uuid ≡ None
+  pub name : holder rows (cell.User id) unique.UserName user.name ≡ None
+
+-- the term's id was given, and no other row has its uuid
+pub record TermFits (rows : List (Cell × Row)) (id : ℕ) (term : Term) : Type 0 where
+  pub given : IsGiven rows numbered.Term id
+  pub uuid : holder rows (cell.Term id) unique.TermUuid term.uuid ≡ None
+
+-- the node's id was given, its type is there, its user is 0 or there, and no other row has its uuid or its path
+pub record NodeFits (rows : List (Cell × Row)) (id : ℕ) (node : Node) : Type 0 where
+  pub given : IsGiven rows numbered.Node id
+  pub node_type : is_none (type_of rows node.node_type) ≡ false
+  pub owner : is_absent_user rows node.uid ≡ false
+  pub uuid : holder rows (cell.Node id) unique.NodeUuid node.uuid ≡ None
+  pub path : path_holder rows (cell.Node id) node.path ≡ None
+
+-- What is to be checked of a row that is set, besides that it is right by itself: of a listing that no other row has
+-- its path, of a session that its user is there, and of the other kinds nothing.
+abbrev pub Fits : List (Cell × Row) → Cell → Row → Type 0
+Fits rows cell.Seq (row.Seq seq) = SeqFits rows seq
+Fits rows (cell.User id) (row.User user) = UserFits rows id user
+Fits rows (cell.Term id) (row.Term term) = TermFits rows id term
+Fits rows (cell.Node id) (row.Node node) = NodeFits rows id node
+Fits rows (cell.Listing name) (row.Listing listing) = path_holder rows (cell.Listing name) listing.path ≡ None
+Fits rows (cell.Session token) (row.Session session) = is_none (user_of rows session.uid) ≡ false
+Fits rows _ _ = Unit {0}
+
+-- What is to be checked of a cell whose row is removed. The settings, the ids that are next and the users stay, and so
+-- do the two roles that every viewer or every user has, and a type that a node has.
+-- https://api.drupal.org/api/drupal/core%21modules%21user%21src%21RoleAccessControlHandler.php/class/RoleAccessControlHandler/10
+-- https://api.drupal.org/api/drupal/core%21modules%21node%21src%21Form%21NodeTypeDeleteConfirm.php/class/NodeTypeDeleteConfirm/10
+abbrev pub MayGo : List (Cell × Row) → Cell → Type 0
+MayGo rows cell.Site = ⊥
+MayGo rows cell.Seq = ⊥
+MayGo rows (cell.User id) = ⊥
+MayGo rows (cell.Role name) = is_locked_role name ≡ false
+MayGo rows (cell.NodeType name) = is_used rows name ≡ false
+MayGo rows _ = Unit {0}
+
+-- what is to be checked of a write: the row is right by itself and fits, or none is set and the one there may go
+abbrev pub FitsOrMayGo : List (Cell × Row) → Cell → Option Row → Type 0
+FitsOrMayGo rows c None = MayGo rows c
+FitsOrMayGo rows c (Some r) = IsValidRow c r × Fits rows c r
+
+-- the same of each of some writes, on the rows that the writes before it leave
+abbrev pub AllFit : List (Cell × Row) → List Write → Type 0
+AllFit rows [] = Unit {0}
+AllFit rows (w ∷ ws) = FitsOrMayGo rows w.cell w.row × AllFit (written rows w) ws
+
+-- a valid state stays valid under an edit whose writes fit
+abbrev pub KeepsValid : Type 0
+KeepsValid =
+    (state : State) (commit : Commit) → IsValidState state → AllFit state.rows commit.writes
+    → IsValidState (step state commit)

@@ -1,0 +1,37 @@
+-- Who else has a text that no two rows may have, and whether nodes have a type.
+use Rattle.std.specs.Prelude.{ℕ, List, Bool, false, not, ◌&&◌, Option, Some, None, option_map}
+use Rattle.std.specs.List.{find, list_any}
+use Rattle.std.specs.Ordering.{is_eq}
+use Rattle.std.specs.Str.{bytes_eq}
+use Rattle.content_rows.specs.CellOrder.{cell_cmp}
+use Rattle.content_rows.specs.declared.cell.Cell.{Cell}
+use Rattle.content_rows.specs.declared.row.Row.{Row}
+use Rattle.content_rows.specs.declared.row.Row.TheVariants as row
+use Rattle.content_state.specs.SiteRules.{is_text, text_of}
+use Rattle.content_state.specs.declared.site_rules.Unique.{Unique}
+use Rattle.content_state.specs.declared.site_rules.Unique.TheVariants as unique
+
+-- whether an entry is of another cell and its row has the text
+abbrev pub is_other_with : Cell → Unique → List ℕ → (Cell × Row) → Bool
+is_other_with c what text e = not (is_eq (cell_cmp e.0 c)) && is_text text (text_of what e.1)
+
+-- the first other cell, in cell order, whose row has the text
+abbrev pub holder : List (Cell × Row) → Cell → Unique → List ℕ → Option Cell
+holder rows c what text = option_map (λ e. e.0) (find (is_other_with c what text) rows)
+
+-- the first other cell whose row has the path; no path has no holder
+abbrev pub path_holder : List (Cell × Row) → Cell → Option (List ℕ) → Option Cell
+path_holder rows c None = None
+path_holder rows c (Some path) = holder rows c unique.Path path
+
+-- whether a row is a node of the type
+abbrev pub is_node_of : List ℕ → Row → Bool
+is_node_of node_type (row.Node r) = bytes_eq r.node_type node_type
+is_node_of node_type _ = false
+
+abbrev pub is_of_type : List ℕ → (Cell × Row) → Bool
+is_of_type node_type e = is_node_of node_type e.1
+
+-- whether a node has the type
+abbrev pub is_used : List (Cell × Row) → List ℕ → Bool
+is_used rows node_type = list_any (is_of_type node_type) rows
