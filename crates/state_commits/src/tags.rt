@@ -40,8 +40,9 @@ fn add_all(tags: &mut OrderedSet<Tag>, more: &[Tag]) -> Result<(), AllocError>
     Ok(())
 }
 
-/// The tags that a write to these rows invalidates.
-fn tags_of_write(alloc: Global, rows: &Rows, write: &Write) -> Result<Vec<Tag>, AllocError>
+/// The tags that a write to these rows invalidates, each once, in the order in which their counts are raised. Only want of
+/// memory refuses.
+pub fn tags_of_write(alloc: Global, rows: &Rows, write: &Write) -> Result<Vec<Tag>, AllocError>
     ensures { IfOk result (λ tags. tags.items ≡ tags_of_write rows.now write.now) }
 {
     let new = match &write.row {

@@ -3,7 +3,7 @@
 ghost use Rattle.std.specs.Prelude.{IfOk};
 ghost use Rattle.site_commands.specs.Right.{IsRight};
 
-use crate::site::{GUARD, Title, ask, edited, full_hall, hall, newest, retitled};
+use crate::site::{GUARD, Title, full_hall, hall, newest, retitled, sent};
 use cacheability::Tag;
 use content_rows::{Cell, Row};
 use site_commands::{Answer, Command, Done, Refusal};
@@ -11,87 +11,240 @@ use site_hall::Hall;
 use site_keeper::{Fail, Keeper, MemoryKeeper};
 use std::alloc::{AllocError, Global};
 
-// Whether the first edit fails and is pending, and a second one, made of this version, makes this version and this number.
-fn settles(
-    alloc: Global,
-    fails: &[Fail],
-    sent: u32,
-    made: u32,
+/// An edit of the site.
+#[derive(Clone, Copy, Debug)]
+enum Edit {
+    /// The first node gets a title, in place of the one of this version.
+    Title(Title, u32),
+    /// The node of this id is removed.
+    Remove(u32),
+    /// All that caches hold is to be made anew.
+    Rebuild,
+}
+
+/// What is answered to an edit.
+#[derive(Clone, Copy, Debug, PartialEq)]
+enum Told {
+    /// The first node is in this version, in the state of this number.
+    Changed(u32, u64),
+    /// It is done, in the state of this number.
+    Saved(u64),
+    Keeper,
+    Csrf,
+    NoTarget,
+    Stale(u32),
+    /// The count of the first node's tag is full.
+    Full,
+    Other,
+}
+
+/// What is seen of an edit, and of the hall after it.
+#[derive(Clone, Copy, Debug, PartialEq)]
+struct Seen {
+    told: Told,
+    pending: bool,
+    faults: u64,
     number: u64,
-) -> Result<bool, AllocError> {
-    let mut hall = hall(alloc, fails)?;
-    let first = retitled(alloc, Title::A, 1)?;
-    let failed = edited(alloc, &mut hall, &first)?;
-    let pending = hall.pending();
-    let (before, _) = newest(alloc, &hall)?;
-    let second = retitled(alloc, Title::B, sent)?;
-    let answer = edited(alloc, &mut hall, &second)?;
-    let (after, title) = newest(alloc, &hall)?;
-    Ok(
-        matches!(failed, Answer::Keeper)
-            && pending
-            && before == 0
-            && matches!(answer, Answer::Done(Done::NodeChanged(1, vid), told) if vid == made && told == number)
-            && !hall.pending()
-            && hall.faults() == 1
-            && after == number
-            && title.as_slice() == b"B".as_slice(),
-    )
+    /// The first letter of the first node's title; none where the node isn't there.
+    title: Option<u8>,
+}
+
+/// An edit with the guard that is sent, and what is to be seen then.
+type Step = (Edit, Option<&'static [u8]>, Seen);
+
+fn command(alloc: Global, edit: Edit) -> Result<Command, AllocError>
+    ensures { IfOk result IsRight }
+{
+    match edit {
+        Edit::Title(title, vid) => retitled(alloc, title, vid),
+        Edit::Remove(nid) => Ok(Command::RemoveNode(Some(nid))),
+        Edit::Rebuild => Ok(Command::Rebuild),
+    }
+}
+
+fn done(done: &Done, number: u64) -> Told {
+    match done {
+        Done::NodeChanged(1, vid) => Told::Changed(*vid, number),
+        Done::Saved => Told::Saved(number),
+        _ => Told::Other,
+    }
+}
+
+fn refused(refusal: &Refusal) -> Told {
+    match refusal {
+        Refusal::Csrf => Told::Csrf,
+        Refusal::NoTarget => Told::NoTarget,
+        Refusal::Stale(vid) => Told::Stale(*vid),
+        Refusal::CountFull(Tag::Node(1)) => Told::Full,
+        _ => Told::Other,
+    }
+}
+
+fn told_of(answer: &Answer) -> Told {
+    match answer {
+        Answer::Done(what, number) => done(what, *number),
+        Answer::Refused(refusal, _) => refused(refusal),
+        Answer::Keeper => Told::Keeper,
+        Answer::OutOfMemory => Told::Other,
+    }
+}
+
+fn answered(
+    alloc: Global,
+    hall: &mut Hall<MemoryKeeper>,
+    edit: Edit,
+    guard: Option<&[u8]>,
+) -> Result<Told, AllocError> {
+    let command = command(alloc, edit)?;
+    let answer = sent(alloc, hall, &command, guard)?;
+    Ok(told_of(&answer))
+}
+
+fn look(
+    alloc: Global,
+    hall: &mut Hall<MemoryKeeper>,
+    edit: Edit,
+    guard: Option<&[u8]>,
+) -> Result<Seen, AllocError> {
+    let told = answered(alloc, hall, edit, guard)?;
+    let (number, title) = newest(alloc, hall)?;
+    Ok(Seen {
+        told,
+        pending: hall.pending(),
+        faults: hall.faults(),
+        number,
+        title,
+    })
+}
+
+// The first of these steps after which something else is seen, with that.
+fn differs(
+    alloc: Global,
+    hall: &mut Hall<MemoryKeeper>,
+    steps: &[Step],
+) -> Result<Option<(Edit, Seen)>, AllocError> {
+    for &(edit, guard, expected) in steps {
+        let seen = look(alloc, hall, edit, guard)?;
+        if seen != expected {
+            return Ok(Some((edit, seen)));
+        }
+    }
+    Ok(None)
+}
+
+// What differs where the keeper's calls with these numbers fail, and whether it keeps what it was given then.
+fn differs_where(
+    alloc: Global,
+    failing: &[u64],
+    kept: bool,
+    steps: &[Step],
+) -> Result<Option<(Edit, Seen)>, AllocError> {
+    let mut fails = Vec::new(alloc);
+    for &call in failing {
+        fails.push(Fail { call, kept })?;
+    }
+    let mut hall = hall(alloc, fails.as_slice())?;
+    differs(alloc, &mut hall, steps)
+}
+
+fn shows(told: Told, number: u64, title: u8) -> Seen {
+    Seen {
+        told,
+        pending: false,
+        faults: 0,
+        number,
+        title: Some(title),
+    }
+}
+
+fn fails(faults: u64) -> Seen {
+    Seen {
+        told: Told::Keeper,
+        pending: true,
+        faults,
+        number: 0,
+        title: Some(b'F'),
+    }
 }
 
 #[test]
 fn the_next_edit_settles_what_is_pending(rt: HostRuntime) {
     let alloc = rt.alloc();
     for (kept, sent, made, number) in [(true, 2, 3, 2), (false, 1, 2, 1)] {
-        let fails = [Fail { call: 1, kept }];
-        let right = settles(alloc, &fails, sent, made, number).expect(&rt, "memory");
-        assert!(rt; right, "kept: {kept}");
+        let after = Seen {
+            faults: 1,
+            ..shows(Told::Changed(made, number), number, b'B')
+        };
+        let steps = [
+            (Edit::Title(Title::A, 1), Some(GUARD), fails(1)),
+            (Edit::Title(Title::B, sent), Some(GUARD), after),
+        ];
+        let differs = differs_where(alloc, &[1], kept, &steps).expect(&rt, "memory");
+        assert!(rt; differs.is_none(), "kept: {kept}, {differs:?}");
     }
-}
-
-// Whether edits fail so often while the keeper's calls with these numbers do, and one is pending all the while; and whether
-// the next one then makes this number.
-fn stays_pending(alloc: Global, failing: &[u64], number: u64) -> Result<bool, AllocError> {
-    let mut fails = Vec::new(alloc);
-    for &call in failing {
-        fails.push(Fail { call, kept: true })?;
-    }
-    let mut hall = hall(alloc, fails.as_slice())?;
-    let mut right = true;
-    for _ in failing {
-        let answer = edited(alloc, &mut hall, &Command::Rebuild)?;
-        let (before, _) = newest(alloc, &hall)?;
-        right &= matches!(answer, Answer::Keeper) && hall.pending() && before == 0;
-    }
-    let answer = edited(alloc, &mut hall, &Command::Rebuild)?;
-    let told = matches!(answer, Answer::Done(Done::Saved, told) if told == number);
-    Ok(right && told && !hall.pending() && hall.faults() == failing.len() as u64)
 }
 
 #[test]
 fn an_edit_stays_pending_while_the_keeper_fails(rt: HostRuntime) {
     let alloc = rt.alloc();
-    let table: [&[u64]; 3] = [&[1], &[1, 2], &[1, 2, 3]];
-    for failing in table {
-        let right = stays_pending(alloc, failing, 2).expect(&rt, "memory");
-        assert!(rt; right, "failing: {failing:?}");
+    let rebuild = |seen| (Edit::Rebuild, Some(GUARD), seen);
+    let settled = |faults| Seen {
+        faults,
+        ..shows(Told::Saved(2), 2, b'F')
+    };
+    let once = [rebuild(fails(1)), rebuild(settled(1))];
+    let thrice = [
+        rebuild(fails(1)),
+        rebuild(fails(2)),
+        rebuild(fails(3)),
+        rebuild(settled(3)),
+    ];
+    let table: [(&[u64], &[Step]); 2] = [(&[1], &once), (&[1, 2, 3], &thrice)];
+    for (failing, steps) in table {
+        let differs = differs_where(alloc, failing, true, steps).expect(&rt, "memory");
+        assert!(rt; differs.is_none(), "failing: {failing:?}, {differs:?}");
     }
 }
 
-// Whether so many edits after one another make the numbers from 1.
-fn are_numbered(
-    alloc: Global,
-    hall: &mut Hall<MemoryKeeper>,
-    count: u32,
-) -> Result<bool, AllocError> {
-    let mut right = true;
-    for vid in 1..=count {
-        let command = retitled(alloc, Title::B, vid)?;
-        let answer = edited(alloc, hall, &command)?;
-        right &=
-            matches!(answer, Answer::Done(Done::NodeChanged(1, made), told) if made == vid.saturating_add(1) && told == u64::from(vid));
-    }
-    Ok(right)
+#[test]
+fn refused_edits_leave_all(rt: HostRuntime) {
+    let alloc = rt.alloc();
+    let other: Option<&'static [u8]> = Some(b"9f86d081884c7d659a2feaa0c55ad015");
+    let refused = |told| shows(told, 0, b'F');
+    let removed = Seen {
+        title: None,
+        ..shows(Told::Saved(1), 1, b'F')
+    };
+    let steps = [
+        (Edit::Title(Title::A, 1), None, refused(Told::Csrf)),
+        (Edit::Title(Title::A, 1), other, refused(Told::Csrf)),
+        (
+            Edit::Title(Title::A, 9),
+            Some(GUARD),
+            refused(Told::Stale(1)),
+        ),
+        (Edit::Remove(9), Some(GUARD), refused(Told::NoTarget)),
+        (Edit::Remove(9), None, refused(Told::Csrf)),
+        (Edit::Remove(1), Some(GUARD), removed),
+    ];
+    let differs = differs_where(alloc, &[], true, &steps).expect(&rt, "memory");
+    assert!(rt; differs.is_none(), "{differs:?}");
+}
+
+fn full_differs(alloc: Global, steps: &[Step]) -> Result<Option<(Edit, Seen)>, AllocError> {
+    let mut hall = full_hall(alloc)?;
+    differs(alloc, &mut hall, steps)
+}
+
+#[test]
+fn a_count_cannot_be_raised(rt: HostRuntime) {
+    let steps = [(
+        Edit::Title(Title::A, 1),
+        Some(GUARD),
+        shows(Told::Full, 0, b'F'),
+    )];
+    let differs = full_differs(rt.alloc(), &steps).expect(&rt, "memory");
+    assert!(rt; differs.is_none(), "{differs:?}");
 }
 
 // The number that a hall's keeper holds, and the version of the first node there.
@@ -106,112 +259,30 @@ fn held(alloc: Global, hall: Hall<MemoryKeeper>) -> Option<(u64, u32)> {
     }
 }
 
-// Whether so many edits are made, and kept.
-fn are_kept(alloc: Global, count: u32) -> Result<bool, AllocError> {
+// What is held after these edits.
+fn held_after(alloc: Global, edits: &[Edit]) -> Result<Option<(u64, u32)>, AllocError> {
     let mut hall = hall(alloc, &[])?;
-    let numbered = are_numbered(alloc, &mut hall, count)?;
-    let (number, _) = newest(alloc, &hall)?;
-    let kept = held(alloc, hall) == Some((u64::from(count), count.saturating_add(1)));
-    Ok(numbered && number == u64::from(count) && kept)
+    for &edit in edits {
+        answered(alloc, &mut hall, edit, Some(GUARD))?;
+    }
+    Ok(held(alloc, hall))
 }
 
 #[test]
 fn accepted_edits_are_kept(rt: HostRuntime) {
     let alloc = rt.alloc();
-    for count in [0, 1, 3] {
-        let right = are_kept(alloc, count).expect(&rt, "memory");
-        assert!(rt; right, "count: {count}");
-    }
-}
-
-/// Edits that are refused.
-#[derive(Clone, Copy, Debug)]
-enum Case {
-    Unguarded,
-    WrongGuard,
-    Stale,
-    NoNode,
-    NoNodeUnguarded,
-}
-
-fn sent(case: Case) -> Option<&'static [u8]> {
-    match case {
-        Case::Unguarded | Case::NoNodeUnguarded => None,
-        Case::WrongGuard => Some(b"9f86d081884c7d659a2feaa0c55ad015"),
-        Case::Stale | Case::NoNode => Some(GUARD),
-    }
-}
-
-fn asked(alloc: Global, case: Case) -> Result<Command, AllocError>
-    ensures { IfOk result (λ command. IsRight command) }
-{
-    match case {
-        Case::Unguarded | Case::WrongGuard => retitled(alloc, Title::A, 1),
-        Case::Stale => retitled(alloc, Title::A, 9),
-        Case::NoNode | Case::NoNodeUnguarded => Ok(Command::RemoveNode(Some(9))),
-    }
-}
-
-fn is_refused_as(case: Case, refusal: &Refusal) -> bool {
-    match case {
-        Case::Unguarded | Case::WrongGuard | Case::NoNodeUnguarded => {
-            matches!(refusal, Refusal::Csrf)
-        }
-        Case::Stale => matches!(refusal, Refusal::Stale(1)),
-        Case::NoNode => matches!(refusal, Refusal::NoTarget),
-    }
-}
-
-// Whether the edit is refused so, and the next one is the first of the log.
-fn leaves_all(alloc: Global, case: Case) -> Result<bool, AllocError> {
-    let mut hall = hall(alloc, &[])?;
-    let ask = ask(alloc)?;
-    let command = asked(alloc, case)?;
-    let refused = match hall.commit(alloc, &ask, sent(case), &command, 1_000, 7) {
-        Answer::Refused(refusal, 0) => is_refused_as(case, &refusal),
-        _ => false,
-    };
-    let (number, title) = newest(alloc, &hall)?;
-    let next = edited(alloc, &mut hall, &Command::RemoveNode(Some(1)))?;
-    Ok(
-        refused
-            && number == 0
-            && title.as_slice() == b"First".as_slice()
-            && !hall.pending()
-            && matches!(next, Answer::Done(Done::Saved, 1)),
-    )
-}
-
-#[test]
-fn refused_edits_leave_all(rt: HostRuntime) {
-    let alloc = rt.alloc();
-    let cases = [
-        Case::Unguarded,
-        Case::WrongGuard,
-        Case::Stale,
-        Case::NoNode,
-        Case::NoNodeUnguarded,
+    let edits = [
+        Edit::Title(Title::A, 1),
+        Edit::Title(Title::B, 2),
+        Edit::Title(Title::A, 3),
     ];
-    for case in cases {
-        let right = leaves_all(alloc, case).expect(&rt, "memory");
-        assert!(rt; right, "{case:?}");
+    let table: [(&[Edit], (u64, u32)); 3] = [
+        (&[], (0, 1)),
+        (&edits[..1], (1, 2)),
+        (&edits, (3, 4)),
+    ];
+    for (edits, kept) in table {
+        let held = held_after(alloc, edits).expect(&rt, "memory");
+        assert!(rt; held == Some(kept), "kept: {kept:?}, {held:?}");
     }
-}
-
-// Whether an edit of the first node is refused, since the count of its tag cannot be raised, and nothing changes.
-fn finds_a_full_count(alloc: Global) -> Result<bool, AllocError> {
-    let mut hall = full_hall(alloc)?;
-    let command = retitled(alloc, Title::A, 1)?;
-    let answer = edited(alloc, &mut hall, &command)?;
-    let (number, title) = newest(alloc, &hall)?;
-    let refused = match &answer {
-        Answer::Refused(Refusal::CountFull(Tag::Node(1)), 0) => true,
-        _ => false,
-    };
-    Ok(refused && number == 0 && title.as_slice() == b"First".as_slice())
-}
-
-#[test]
-fn a_count_cannot_be_raised(rt: HostRuntime) {
-    assert!(rt; finds_a_full_count(rt.alloc()) == Ok(true));
 }

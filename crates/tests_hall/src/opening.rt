@@ -3,7 +3,7 @@
 use crate::site::{GUARD, Title, ask, hall, retitled, stored};
 use content_rows::Cell;
 use content_state::{NotASite, Refusal, SiteField, SiteRule};
-use site_commands::{Answer, Done};
+use site_commands::Answer;
 use site_hall::{Alone, Hall, NoHall};
 use site_house::House;
 use site_keeper::{Fail, MemoryKeeper};
@@ -45,55 +45,50 @@ fn a_number_is_too_great(rt: HostRuntime) {
     }
 }
 
-// The answer to an edit through any house.
+// The number that an edit through any house makes, if it is done, and the number that the house shows then.
 fn edited<H: House>(
     alloc: Global,
     house: &mut H,
     title: Title,
     vid: u32,
-) -> Result<Answer, AllocError> {
+) -> Result<(Option<u64>, u64), AllocError> {
     let ask = ask(alloc)?;
     let command = retitled(alloc, title, vid)?;
-    Ok(house.commit(alloc, &ask, Some(GUARD), &command, 1_000))
+    let made = match house.commit(alloc, &ask, Some(GUARD), &command, 1_000) {
+        Answer::Done(_, number) => Some(number),
+        _ => None,
+    };
+    Ok((made, house.snapshot(alloc)?.number()))
 }
 
-// Whether a caller's first edit fails where it is to, and its house shows the next one then.
-fn is_a_house(alloc: Global, fails: &[Fail], sent: u32, number: u64) -> Result<bool, AllocError> {
+/// What a caller sees of two edits after one another: what each made, and the house's number then; and its faults.
+type Seen = ((Option<u64>, u64), (Option<u64>, u64), u64);
+
+// What is seen where these calls of the keeper fail.
+fn look(alloc: Global, fails: &[Fail], vid: u32) -> Result<Option<Seen>, AllocError> {
     let hall = hall(alloc, fails)?;
     if hall.pending() {
-        return Ok(false);
+        return Ok(None);
     }
     let mut house = Alone::new(alloc, hall);
     let first = edited(alloc, &mut house, Title::A, 1)?;
-    let before = house.snapshot(alloc)?.number();
-    let second = edited(alloc, &mut house, Title::B, sent)?;
-    let after = house.snapshot(alloc)?.number();
-    let faults = house.faults();
-    let failed = matches!(first, Answer::Keeper) && before == 0;
-    let done = matches!(first, Answer::Done(Done::NodeChanged(1, 2), 1)) && before == 1;
-    Ok(
-        (if fails.is_empty() { done } else { failed })
-            && matches!(second, Answer::Done(Done::NodeChanged(1, _), told) if told == number)
-            && after == number
-            && faults == fails.len() as u64
-            && !house.into_hall().pending(),
-    )
+    let second = edited(alloc, &mut house, Title::B, vid)?;
+    Ok(Some((first, second, house.faults())))
 }
 
 #[test]
 fn a_caller_has_a_hall_for_itself(rt: HostRuntime) {
     let alloc = rt.alloc();
-    let kept = [Fail {
-        call: 1,
-        kept: true,
-    }];
-    let forgotten = [Fail {
-        call: 1,
-        kept: false,
-    }];
-    let table: [(&[Fail], u32, u64); 3] = [(&[], 2, 2), (&kept, 2, 2), (&forgotten, 1, 1)];
-    for (fails, sent, number) in table {
-        let right = is_a_house(alloc, fails, sent, number).expect(&rt, "memory");
-        assert!(rt; right, "sent: {sent}, number: {number}");
+    let fail = |kept| [Fail { call: 1, kept }];
+    let kept = fail(true);
+    let forgotten = fail(false);
+    let table: [(&[Fail], u32, Seen); 3] = [
+        (&[], 2, ((Some(1), 1), (Some(2), 2), 0)),
+        (&kept, 2, ((None, 0), (Some(2), 2), 1)),
+        (&forgotten, 1, ((None, 0), (Some(1), 1), 1)),
+    ];
+    for (fails, vid, expected) in table {
+        let seen = look(alloc, fails, vid).expect(&rt, "memory");
+        assert!(rt; seen == Some(expected), "{seen:?}");
     }
 }

@@ -79,7 +79,7 @@ fn hall_of(alloc: Global, stored: Stored, fails: &[Fail]) -> Result<Hall<MemoryK
 }
 
 /// The titles that the first node is to get.
-#[derive(Clone, Copy)]
+#[derive(Clone, Copy, Debug)]
 pub enum Title {
     A,
     B,
@@ -152,23 +152,25 @@ pub fn ask(alloc: Global) -> Result<Ask, AllocError> {
     })
 }
 
-/// What becomes of an edit of that session, in the pass 7.
-pub fn edited(
+/// What becomes of an edit of that session with this guard, in the pass 7.
+pub fn sent(
     alloc: Global,
     hall: &mut Hall<MemoryKeeper>,
     command: &Command,
+    guard: Option<&[u8]>,
 ) -> Result<Answer, AllocError>
     requires { IsRight command.now }
 {
     let ask = ask(alloc)?;
-    Ok(hall.commit(alloc, &ask, Some(GUARD), command, NOW, 7))
+    Ok(hall.commit(alloc, &ask, guard, command, NOW, 7))
 }
 
-/// The number of the newest state, and the title that the first node has there.
-pub fn newest(alloc: Global, hall: &Hall<MemoryKeeper>) -> Result<(u64, Text), AllocError> {
+/// The number of the newest state, and the first letter of the title that the first node has there.
+pub fn newest(alloc: Global, hall: &Hall<MemoryKeeper>) -> Result<(u64, Option<u8>), AllocError> {
     let state = hall.snapshot(alloc)?;
-    match state.node(1).0 {
-        Some(node) => Ok((state.number(), Text::copied(alloc, node.title.as_slice())?)),
-        None => Ok((state.number(), Text::copied(alloc, b"")?)),
-    }
+    let title = match state.node(1).0 {
+        Some(node) => node.title.as_slice().first().copied(),
+        None => None,
+    };
+    Ok((state.number(), title))
 }
