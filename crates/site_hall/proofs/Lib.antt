@@ -1,7 +1,6 @@
 pub mod Logs
 pub mod Batches
 pub mod Verdicts
-pub mod Counting
 pub mod Halls
 pub mod Readiness
 pub mod Sublists
