@@ -1,11 +1,11 @@
 //! What goes between threads.
 
 use crate::hall::Hall;
-use site_keeper::Keeper;
+use site_keeper::MemoryKeeper;
 
 fn needs_send<T: Send + Drop>(_: T) {}
 
-/// A hall may be sent to another thread, where its keeper may.
-pub fn halls_go_between_threads<K: Keeper + Send + Drop>(hall: Hall<K>) {
+/// A hall over a keeper in memory may be sent to another thread.
+pub fn halls_go_between_threads(hall: Hall<MemoryKeeper>) {
     needs_send(hall);
 }
