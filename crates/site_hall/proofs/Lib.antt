@@ -1,8 +1,8 @@
 pub mod Logs
 pub mod Batches
 pub mod Verdicts
-pub mod Counting
 pub mod Halls
 pub mod Readiness
 pub mod Sublists
 pub mod Callers
+pub mod Crossing

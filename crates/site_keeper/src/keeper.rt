@@ -8,7 +8,8 @@ use std::alloc::Global;
 
 /// What keeps the rows of a site. An implementor owns what it keeps them in: it holds no `&mut`.
 pub trait Keeper {
-    ghost use Rattle.site_keeper.specs.Keeper.{Kept, and_batch, IfTold, CountsFault, LeavesBatch, StaysSteadfast};
+    ghost use Rattle.content_state.specs.SiteRules.{AreValidRows};
+    ghost use Rattle.site_keeper.specs.Keeper.{Kept, with_batch, and_batch, IfTold, CountsFault, LeavesBatch, StaysSteadfast};
 
     /// What it was made of and the batches that it kept since, where it tells them.
     ghost kept: { Self → Option Kept };
@@ -19,20 +20,24 @@ pub trait Keeper {
     /// Whether it tells that it never fails.
     ghost steadfast: { Self → Bool };
 
-    /// All that it holds, which stays as it is. `Failed` comes exactly where the count of faults rose in this call.
+    /// All that it holds, which stays as it is. Each of the rows is right by itself. `Failed` comes exactly where the count of
+    /// faults rose in this call.
     fn load(&mut self, alloc: Global) -> Result<Stored, KeeperFault>
         ensures held { IfOk result (λ stored. IfTold (kept self.old) (λ held. stored ≡ held)) }
+        ensures right { IfOk result (λ stored. AreValidRows stored.rows) }
         ensures stays { kept self.new ≡ kept self.old }
         ensures steady { OnOk result (faults self.new ≡ faults self.old) }
         ensures cause { IfErr result (λ fault. CountsFault fault (faults self.old) (faults self.new)) }
         ensures never_falls { faults self.old ≤ faults self.new }
         ensures steadfast { StaysSteadfast (steadfast self.old) (steadfast self.new) (faults self.old) (faults self.new) };
 
-    /// Keeps a batch: its writes are made, each count that it names is set, and its number is the head.
+    /// Keeps a batch: its writes are made, each count that it names is set, and its number is the head. The rows that are
+    /// held then are to be right, each by itself.
     ///
     /// At `OutOfMemory` nothing of it is kept, at `Failed` all or nothing. `Failed` comes exactly where the count of
     /// faults rose in this call.
     fn apply(&mut self, alloc: Global, batch: &Batch) -> Result<(), KeeperFault>
+        requires right { IfTold (kept self.old) (λ held. AreValidRows (with_batch held batch.now).rows) }
         ensures ok { OnOk result (kept self.new ≡ and_batch (kept self.old) batch.now) }
         ensures err { IfErr result (λ fault. LeavesBatch fault (kept self.old) batch.now (kept self.new)) }
         ensures steady { OnOk result (faults self.new ≡ faults self.old) }

@@ -8,6 +8,7 @@ mod batch;
 mod fault;
 mod keeper;
 mod laws;
+mod making;
 mod memory;
 mod stored;
 
@@ -15,5 +16,6 @@ pub use batch::Batch;
 pub use fault::KeeperFault;
 pub use keeper::Keeper;
 pub use laws::batches_keep_steps;
+pub use making::batch_over;
 pub use memory::{Fail, MemoryKeeper};
 pub use stored::Stored;

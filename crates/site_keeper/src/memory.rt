@@ -1,6 +1,7 @@
 //! A keeper in memory.
 ghost use Rattle.std.specs.Prelude.{◌≡◌, ◌≤◌, ◌↔◌, [], Some, None, IsSome, OnOk, OnErr, IfOk, IfErr, IsErrOf};
-ghost use Rattle.site_keeper.specs.Keeper.{held_of, and_batch, CountsFault, LeavesBatch, StaysSteadfast};
+ghost use Rattle.content_state.specs.SiteRules.{AreValidRows};
+ghost use Rattle.site_keeper.specs.Keeper.{held_of, with_batch, and_batch, CountsFault, LeavesBatch, StaysSteadfast};
 ghost use Rattle.site_keeper.specs.Memory.{
   Calls as CallsValue,
   fresh,
@@ -86,7 +87,7 @@ impl Calls {
 }
 
 /// A keeper in memory, some of whose calls are to fail. It tells what it was made of and the batches that it kept since,
-/// in order.
+/// in order. The rows that it holds are right, each by itself.
 #[derive(Drop)]
 pub struct MemoryKeeper {
     made_of: Stored,
@@ -95,20 +96,25 @@ pub struct MemoryKeeper {
 }
 
 impl Model for MemoryKeeper {
+    ghost use Rattle.content_state.specs.SiteRules.{AreValidRows};
+    ghost use Rattle.site_keeper.specs.Keeper.{held_of};
     ghost use Rattle.site_keeper.specs.Memory.{MemoryKeeper as MemoryKeeperValue};
 
     ghost Value = { MemoryKeeperValue };
 
     ghost view = { λ k. record { kept = record { made_of = k.made_of; batches = k.batches.items }; calls = k.calls } };
+
+    ghost invariant = { λ k. AreValidRows (held_of (record { made_of = k.made_of; batches = k.batches.items })).rows };
 }
 
 impl MemoryKeeper {
-    /// Holds this. The calls with these numbers are to fail, counting all of its calls from 1; the count stays at the
-    /// greatest u64. Of a number that is listed twice the first counts.
+    /// Holds this, whose rows are right, each by itself. The calls with these numbers are to fail, counting all of its
+    /// calls from 1; the count stays at the greatest u64. Of a number that is listed twice the first counts.
     ///
     /// An `apply` that is to fail and to keep its batch takes memory, as one that isn't, and answers `OutOfMemory`
     /// where that is wanting. The other calls that are to fail take none.
     pub fn new(alloc: Global, stored: Stored, fails: Vec<Fail>) -> MemoryKeeper
+        requires { AreValidRows stored.rows }
         ensures { result ≡ record { kept = made_of stored; calls = fresh fails.items } }
     {
         MemoryKeeper {
@@ -120,7 +126,8 @@ impl MemoryKeeper {
 
     /// All that it holds. `Err` only where memory is wanting.
     fn held(&self, alloc: Global) -> Result<Stored, AllocError>
-        ensures { IfOk result (λ stored. stored ≡ held_of self.now.kept) }
+        ensures held { IfOk result (λ stored. stored ≡ held_of self.now.kept) }
+        ensures right { IfOk result (λ stored. AreValidRows stored.rows) }
     {
         let mut stored = self.made_of.duplicate(alloc)?;
         'batches: for batch in &self.batches {
@@ -141,6 +148,7 @@ impl MemoryKeeper {
 
     /// Keeps a batch. `Err` only where memory is wanting, and then nothing of it is kept.
     fn keep(&mut self, alloc: Global, batch: &Batch) -> Result<(), AllocError>
+        requires { AreValidRows (with_batch (held_of self.old.kept) batch.now).rows }
         ensures ok { OnOk result (self.new ≡ record self.old { kept = with_one self.old.kept batch.now }) }
         ensures err { OnErr result (self.new ≡ self.old) }
     {
@@ -159,6 +167,7 @@ impl Keeper for MemoryKeeper {
 
     fn load(&mut self, alloc: Global) -> Result<Stored, KeeperFault>
         ensures held { IfOk result (λ stored. stored ≡ held_of self.old.kept) }
+        ensures right { IfOk result (λ stored. AreValidRows stored.rows) }
         ensures stays { Some self.new.kept ≡ Some self.old.kept }
         ensures steady { OnOk result (self.new.calls.faults ≡ self.old.calls.faults) }
         ensures cause { IfErr result (λ fault. CountsFault fault self.old.calls.faults self.new.calls.faults) }
@@ -175,6 +184,7 @@ impl Keeper for MemoryKeeper {
     }
 
     fn apply(&mut self, alloc: Global, batch: &Batch) -> Result<(), KeeperFault>
+        requires right { AreValidRows (with_batch (held_of self.old.kept) batch.now).rows }
         ensures ok { OnOk result (Some self.new.kept ≡ and_batch (Some self.old.kept) batch.now) }
         ensures err { IfErr result (λ fault. LeavesBatch fault (Some self.old.kept) batch.now (Some self.new.kept)) }
         ensures steady { OnOk result (self.new.calls.faults ≡ self.old.calls.faults) }

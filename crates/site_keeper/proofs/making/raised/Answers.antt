@@ -1,6 +1,6 @@
 use Rattle.std.proofs.Common.{arith}
-use Rattle.site_hall.proofs.Counting.{has_room}
-use Rattle.site_hall.proofs.making.raised.Goals as goal
+use Rattle.site_keeper.proofs.Counting.{has_room}
+use Rattle.site_keeper.proofs.making.raised.Goals as goal
 
 pub overflow_add-count : goal.overflow_add-count
 overflow_add-count c =

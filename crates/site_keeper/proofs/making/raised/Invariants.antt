@@ -1,6 +1,6 @@
 use Rattle.std.proofs.Common.{◌≡◌, take}
 use Rattle.site_keeper.specs.Steps.{raised}
-use Rattle.site_hall.proofs.making.raised.Given as goal
+use Rattle.site_keeper.proofs.making.raised.Given as goal
 
 -- the tags so far have their entries
 abbrev pub invariant-tags : goal.invariant-tags
