@@ -1,6 +1,8 @@
 -- What a fault says of the source or of the sink.
 use Rattle.std.specs.Prelude.{ℕ, ◌≡◌}
 use Rattle.std.specs.declared.alloc.AllocError.{AllocError}
+use Rattle.content_state.specs.declared.site_rules.Refusal.{Refusal}
+use Rattle.content_state.specs.declared.site_rules.Refusal.TheVariants as refusal
 use Rattle.site_io.specs.Told.{Rose}
 use Rattle.site_io.specs.declared.device.Failed.{Failed}
 use Rattle.site_files.specs.declared.fault.ReadFault.{ReadFault}
@@ -29,6 +31,11 @@ IsImportCause old new _ = new ≡ old
 abbrev pub IsExportCause : ℕ → ℕ → ExportFault → Type 0
 IsExportCause old new unwritten.Sink = Rose old new
 IsExportCause old new unwritten.OutOfMemory = new ≡ old
+
+-- why rows are no site
+abbrev pub fault_of : Refusal → ImportFault
+fault_of (refusal.NoSite f) = why.Cell f
+fault_of refusal.OutOfMemory = why.OutOfMemory
 
 -- a fault of a file that was read is the same fault of its import
 abbrev pub import_fault_of : ReadFault → ImportFault

@@ -1,12 +1,14 @@
 -- What an import answers, by the bytes of the file.
-use Rattle.std.specs.Prelude.{ℕ, List, ◌≡◌, Option, Some, Ok, Err, length}
+use Rattle.std.specs.Prelude.{ℕ, List, ◌≡◌, Option, Some, None, Ok, Err, length}
 use Rattle.std.specs.Arc.{arc_value}
 use Rattle.content_rows.specs.declared.cell.Cell.{Cell}
 use Rattle.content_rows.specs.declared.row.Row.{Row}
-use Rattle.content_state.specs.Replay.{step}
-use Rattle.content_state.specs.SiteRules.{IsNoSite, MeetsSiteRules}
+use Rattle.content_state.specs.Replay.{step, IsCommit}
+use Rattle.content_state.specs.SiteRules.{IsNoSite, IsValidState, MeetsSiteRules}
 use Rattle.content_state.specs.State.{State}
+use Rattle.content_state.specs.Write.{Write}
 use Rattle.content_state.specs.declared.site_rules.NotASite.{NotASite}
+use Rattle.state_commits.specs.Apply.{full_tag}
 use Rattle.site_files.specs.Rows.{rows_of, IsToldBy}
 use Rattle.site_import.specs.Changes.{commit_of, merged, writes_of}
 use Rattle.site_import.specs.Full.{first_full_cell}
@@ -22,6 +24,23 @@ pub record IsImport (base : State) (bytes : List ℕ) (imported : Imported) : Ty
   pub count : imported.rows ≡ length file
   pub commit : arc_value imported.commit ≡ commit_of base.rows file
   pub rows : (step base (arc_value imported.commit)).rows ≡ merged base.rows file
+
+-- the edit of the rows of a file, with what it leads to
+pub record IsEdit (base : State) (file : List (Cell × Row)) (imported : Imported) : Type 0 where
+  pub count : imported.rows ≡ length file
+  pub commit : arc_value imported.commit ≡ commit_of base.rows file
+  pub rows : (step base (arc_value imported.commit)).rows ≡ merged base.rows file
+  pub valid : IsValidState (step base (arc_value imported.commit))
+  pub distinct : IsCommit (arc_value imported.commit)
+  pub none_full : full_tag base (arc_value imported.commit) ≡ None
+
+-- why an edit of some writes may not stand: the rows after it are no site, or they are, but it cannot raise a count
+abbrev pub IsJudgement : State → List (Cell × Row) → List Write → ImportFault → Type 0
+IsJudgement base rows writes (why.Line n f) = ⊥
+IsJudgement base rows writes (why.Cell f) = IsNoSite rows 0 f
+IsJudgement base rows writes (why.Full c) = MeetsSiteRules rows × (first_full_cell base writes ≡ Some c)
+IsJudgement base rows writes why.Source = ⊥
+IsJudgement base rows writes why.OutOfMemory = Unit {0}
 
 -- all lines are rows, but with them the stored rows are no site
 pub record MakesNoSite (base : State) (bytes : List ℕ) (fault : NotASite) : Type 0 where

@@ -1,11 +1,9 @@
 //! What the rows of a file change where some rows stand.
-ghost use Rattle.std.specs.Prelude.{◌≡◌, ◌++◌, [], false, Some, All, IfOk, OnOk, fold};
+ghost use Rattle.std.specs.Prelude.{◌≡◌, All, IfOk, OnOk, fold};
 ghost use Rattle.std.specs.Map.{keys_of};
-ghost use Rattle.std.specs.Option.{option_copied};
 ghost use Rattle.content_rows.specs.ValidRow.{IsValidRow};
 ghost use Rattle.content_state.specs.Replay.{written};
-ghost use Rattle.content_state.specs.Rows.{row_at};
-ghost use Rattle.content_state.specs.SiteRules.{AreValidRows};
+ghost use Rattle.content_state.specs.SiteRules.{AreValidRows, InOrder};
 ghost use Rattle.site_import.specs.Changes.{is_change, writes_of, KeepsUnchanged};
 
 use crate::line::is_same;
@@ -32,7 +30,8 @@ fn is_change(alloc: Global, base: &Rows, cell: &Cell, row: &Row) -> Result<bool,
 
 /// The cells of rows, in their order. `Err` only where memory is wanting.
 pub(crate) fn cells_of(alloc: Global, rows: &Rows) -> Result<Vec<Cell>, AllocError>
-    ensures { IfOk result (λ cells. cells.items ≡ keys_of rows.now) }
+    ensures same { IfOk result (λ cells. cells.items ≡ keys_of rows.now) }
+    ensures ordered { InOrder rows.now }
 {
     let mut cells = Vec::new(alloc);
     'rows: for (cell, _) in rows.iter() {

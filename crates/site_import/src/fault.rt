@@ -1,6 +1,7 @@
 //! Why a file was not imported, and why one was not written.
 ghost use Rattle.std.specs.Prelude.{◌≡◌};
 ghost use Rattle.site_import.specs.Faults.{export_memory, import_memory, import_read, sink_failed};
+ghost use Rattle.site_import.specs.declared.fault.ExportFault.TheVariants as unwritten;
 ghost use Rattle.site_import.specs.declared.fault.ImportFault.TheVariants as why;
 
 use content_rows::Cell;
@@ -71,6 +72,14 @@ impl From<AllocError> for ExportFault {
     ghost from_gives = { export_memory };
 
     fn from(_: AllocError) -> ExportFault {
+        ExportFault::OutOfMemory
+    }
+}
+
+impl<T: Drop> From<AllocFailed<T>> for ExportFault {
+    ghost from_gives = { λ _ e. e ≡ unwritten.OutOfMemory };
+
+    fn from(_: AllocFailed<T>) -> ExportFault {
         ExportFault::OutOfMemory
     }
 }

@@ -1,14 +1,15 @@
 //! Imports of files of rows.
-ghost use Rattle.std.specs.Prelude.{◌≡◌, ◌×◌, [], None, All, IfOk, IfErr, OnOk, fold, length};
+ghost use Rattle.std.specs.Prelude.{◌≡◌, None, IfOk, IfErr, OnOk};
 ghost use Rattle.std.specs.Arc.{arc_value};
 ghost use Rattle.content_state.specs.Replay.{step, IsCommit};
-ghost use Rattle.content_state.specs.SiteRules.{AreValidRows, IsValidState};
+ghost use Rattle.content_state.specs.SiteRules.{AreValidRows, IsValidState, MeetsSiteRules};
 ghost use Rattle.state_commits.specs.Apply.{full_tag};
 ghost use Rattle.site_files.specs.Rows.{IsToldBy};
-ghost use Rattle.site_import.specs.Changes.{commit_of, edit_of, merged, writes_of};
-ghost use Rattle.site_import.specs.Faults.{IsImportCause};
+ghost use Rattle.site_import.specs.Changes.{merged, writes_of};
+ghost use Rattle.site_import.specs.Full.{first_full_cell};
+ghost use Rattle.site_import.specs.Faults.{fault_of, IsImportCause};
 ghost use Rattle.site_import.specs.Ground.{ground, HasValidRows};
-ghost use Rattle.site_import.specs.Imports.{IsEdit, IsEditFault, IsImport, IsImportFault};
+ghost use Rattle.site_import.specs.Imports.{IsEdit, IsImport, IsImportFault, IsJudgement};
 
 use crate::changes::{cells_of, rows_after, take_writes};
 use crate::fault::ImportFault;
@@ -93,10 +94,10 @@ fn edit_onto(alloc: Global, base: &State, file: Rows) -> Result<Imported, Import
     requires base { AreValidRows base.now.rows }
     requires file { AreValidRows file }
     ensures edit { IfOk result (λ i. IsEdit base.now file i) }
-    ensures fault { IfErr result (IsEditFault base.now file) }
+    ensures fault { IfErr result (IsJudgement base.now (merged base.now.rows file) (writes_of base.now.rows file)) }
 {
+    base.stands_in_order();
     let mut left = file;
-    left.stands_in_order();
     let cells = cells_of(alloc, &left)?;
     let writes = take_writes(alloc, base.rows(), &mut left, cells.as_slice())?;
     let rows = rows_after(alloc, base.rows(), writes.as_slice())?;
@@ -115,6 +116,9 @@ fn edit_onto(alloc: Global, base: &State, file: Rows) -> Result<Imported, Import
 /// Whether an edit of these writes may stand: the rows after it are a site, and it can raise its counts.
 fn judge(alloc: Global, base: &State, rows: Rows, writes: &[Write]) -> Result<(), ImportFault>
     requires { AreValidRows rows }
+    ensures site { OnOk result (MeetsSiteRules rows) }
+    ensures none_full { OnOk result (first_full_cell base.now writes.now ≡ None) }
+    ensures fault { IfErr result (IsJudgement base.now rows writes.now) }
 {
     if let Err(refused) = State::from_rows(alloc, rows, Counts::new(alloc), 0) {
         return Err(no_site(refused.why));
@@ -126,7 +130,9 @@ fn judge(alloc: Global, base: &State, rows: Rows, writes: &[Write]) -> Result<()
 }
 
 /// Why rows are no site.
-fn no_site(why: Refusal) -> ImportFault {
+fn no_site(why: Refusal) -> ImportFault
+    ensures { result ≡ fault_of why }
+{
     match why {
         Refusal::NoSite(fault) => ImportFault::Cell(fault),
         Refusal::OutOfMemory => ImportFault::OutOfMemory,
