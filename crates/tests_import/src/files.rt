@@ -33,6 +33,7 @@ enum Found {
 }
 
 /// A file, and what an import of it finds.
+#[derive(Drop)]
 struct Case<'a> {
     /// Its lines.
     lines: &'a [&'a [u8]],
