@@ -1,0 +1,7 @@
+pub mod ComingBack
+pub mod Fulls
+pub mod LineEnds
+pub mod LineTells
+pub mod Merging
+pub mod Order
+pub mod Plain
