@@ -53,7 +53,10 @@ no_write : (o : Option Write) → option_map (λ w. w.cell) o ≡ None → o ≡
 no_write None h = refl
 no_write (Some w) h = absurd cc
 
-none_held : (g : Tag) → Contains {Tag} [] g → ⊥
+abbrev no_tags : List Tag
+no_tags = []
+
+none_held : (g : Tag) → Contains no_tags g → ⊥
 none_held g held = let few = held.1 in omega arith
 
 pub no_full_tag : (state : State) (writes : List Write) → first_full_cell state writes ≡ None → full_tag state (edit_of writes) ≡ None

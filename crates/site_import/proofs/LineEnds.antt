@@ -1,5 +1,5 @@
 -- Compact JSON has no line end in it.
-use Rattle.std.proofs.Common.{◌≡◌, ◌≢◌, ◌≤◌, ◌+◌, ℕ, zero, suc, ◌/◌, ◌%◌, ◌==◌, pos, negsuc, List, [], ◌∷◌, ◌++◌, Bool, true, false, not, cond, ◌&&◌, decimal, refl, sym, ap, subst, ◌∙◌, arith, flat_map}
+use Rattle.std.proofs.Common.{◌≡◌, ◌≢◌, ◌≤◌, ◌+◌, ℕ, zero, suc, ◌/◌, ◌%◌, ◌==◌, pos, negsuc, List, [], ◌∷◌, ◌++◌, Bool, true, false, not, cond, ◌&&◌, ◌||◌, nat_lt, decimal, refl, sym, ap, subst, ◌∙◌, arith, flat_map}
 use Rattle.std.proofs.lemmas.Bool.{eqb-true, ne_eqb}
 use Rattle.std.proofs.lemmas.List.Folds.{list_all-append}
 use Rattle.std.specs.Fmt.{digits, digits_onto, digit_glyph, signed_decimal}
@@ -54,14 +54,18 @@ decimal_inside n = digits_inside 64 n [] refl
 number_inside : (n : Num) → IsOneLine (number_text n)
 number_inside (unsigned n) = decimal_inside n
 number_inside (negative (pos n)) = decimal_inside n
-number_inside (negative (negsuc n)) = one 45 (decimal (suc n)) refl (decimal_inside (suc n))
+number_inside (negative (negsuc n)) = decimal_inside (suc n)
 number_inside (float x) = refl
 
 -- ---- strings
 
 letter_inside : (x : ℕ) → IsInside x → IsInside (escape_letter x)
 letter_inside x inside =
-    either_byte _ x _ inside (either_byte _ 98 _ refl (either_byte _ 102 _ refl (either_byte _ 110 _ refl (either_byte _ 114 _ refl (either_byte _ 116 0 refl refl)))))
+    either_byte ((x == 34) || (x == 92)) x (cond (x == 8) 98 (cond (x == 12) 102 (cond (x == 10) 110 (cond (x == 13) 114 (cond (x == 9) 116 0))))) inside
+    (either_byte (x == 8) 98 (cond (x == 12) 102 (cond (x == 10) 110 (cond (x == 13) 114 (cond (x == 9) 116 0)))) refl
+    (either_byte (x == 12) 102 (cond (x == 10) 110 (cond (x == 13) 114 (cond (x == 9) 116 0))) refl
+    (either_byte (x == 10) 110 (cond (x == 13) 114 (cond (x == 9) 116 0)) refl
+    (either_byte (x == 13) 114 (cond (x == 9) 116 0) refl (either_byte (x == 9) 116 0 refl refl)))))
 
 char_inside : (d : ℕ) → IsInside (digit_char d)
 char_inside d = glyph_inside _ d
@@ -71,15 +75,17 @@ unfolding escape_byte
 escape_at x true is = subst (λ y. IsOneLine (escape_byte y)) (sym (eqb-true x 10 is)) refl
 escape_at x false is =
     let inside : IsInside x = ap not is in
-    either _ _ _ (one 92 _ refl (one (escape_letter x) [] (letter_inside x inside) refl))
-    (either _ _ _ (one 92 _ refl (one 117 _ refl (one 48 _ refl (one 48 _ refl (one _ _ (char_inside (x / 16)) (one _ [] (char_inside (x % 16)) refl)))))) (one x [] inside refl))
+    let high = digit_char (x / 16) in
+    let low = digit_char (x % 16) in
+    either (nat_lt 0 (escape_letter x)) (92 ∷ escape_letter x ∷ []) (cond (nat_lt x 32) (92 ∷ 117 ∷ 48 ∷ 48 ∷ high ∷ low ∷ []) (x ∷ [])) (one (escape_letter x) [] (letter_inside x inside) refl)
+    (either (nat_lt x 32) (92 ∷ 117 ∷ 48 ∷ 48 ∷ high ∷ low ∷ []) (x ∷ []) (one high (low ∷ []) (char_inside (x / 16)) (one low [] (char_inside (x % 16)) refl)) (one x [] inside refl))
 
 escape_inside : (s : List ℕ) → IsOneLine (escape s)
 escape_inside [] = refl
 escape_inside (x ∷ s) = joined (escape_byte x) (escape s) (escape_at x (x == 10) refl) (escape_inside s)
 
 quoted_inside : (s : List ℕ) → IsOneLine (quoted s)
-quoted_inside s = one 34 _ refl (joined (escape s) (34 ∷ []) (escape_inside s) refl)
+quoted_inside s = joined (escape s) (34 ∷ []) (escape_inside s) refl
 
 -- ---- values
 
@@ -94,16 +100,17 @@ mutual
   text_inside (boolean false) = refl
   text_inside (number n) = number_inside n
   text_inside (string s) = quoted_inside s
-  text_inside (array ds) = one 91 _ refl (items_inside false ds)
-  text_inside (object ms) = one 123 _ refl (members_inside false ms)
+  text_inside (array ds) = items_inside false ds
+  text_inside (object ms) = members_inside false ms
 
   items_inside : (later : Bool) (ds : Items) → IsOneLine (items_text later ds)
   items_inside later no_items = refl
   items_inside later (item d ds) =
-      joined (comma_if later) _ (comma_inside later) (joined (compact_text d) _ (text_inside d) (items_inside true ds))
+      joined (comma_if later) (compact_text d ++ items_text true ds) (comma_inside later) (joined (compact_text d) (items_text true ds) (text_inside d) (items_inside true ds))
 
   members_inside : (later : Bool) (ms : Members) → IsOneLine (members_text later ms)
   members_inside later no_members = refl
   members_inside later (member k d ms) =
-      joined (comma_if later) _ (comma_inside later)
-      (joined (quoted k) _ (quoted_inside k) (one 58 _ refl (joined (compact_text d) _ (text_inside d) (members_inside true ms))))
+      let tail = compact_text d ++ members_text true ms in
+      joined (comma_if later) (quoted k ++ 58 ∷ tail) (comma_inside later)
+      (joined (quoted k) (58 ∷ tail) (quoted_inside k) (joined (compact_text d) (members_text true ms) (text_inside d) (members_inside true ms)))
