@@ -1,4 +1,5 @@
 pub mod ComingBack
+pub mod Editing
 pub mod Left
 pub mod Fulls
 pub mod LineEnds

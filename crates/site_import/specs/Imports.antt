@@ -34,6 +34,12 @@ pub record IsEdit (base : State) (file : List (Cell × Row)) (imported : Importe
   pub distinct : IsCommit (arc_value imported.commit)
   pub none_full : full_tag base (arc_value imported.commit) ≡ None
 
+-- why rows are no site; want of memory says nothing
+abbrev pub IsNoSiteFault : List (Cell × Row) → ImportFault → Type 0
+IsNoSiteFault rows (why.Cell f) = IsNoSite rows 0 f
+IsNoSiteFault rows why.OutOfMemory = Unit {0}
+IsNoSiteFault rows _ = ⊥
+
 -- why an edit of some writes may not stand: the rows after it are no site, or they are, but it cannot raise a count
 abbrev pub IsJudgement : State → List (Cell × Row) → List Write → ImportFault → Type 0
 IsJudgement base rows writes (why.Line n f) = ⊥

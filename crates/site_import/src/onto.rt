@@ -9,7 +9,7 @@ ghost use Rattle.site_import.specs.Changes.{merged, writes_of};
 ghost use Rattle.site_import.specs.Full.{first_full_cell};
 ghost use Rattle.site_import.specs.Faults.{fault_of, IsImportCause};
 ghost use Rattle.site_import.specs.Ground.{ground, HasValidRows};
-ghost use Rattle.site_import.specs.Imports.{IsEdit, IsImport, IsImportFault, IsJudgement};
+ghost use Rattle.site_import.specs.Imports.{IsEdit, IsImport, IsImportFault, IsJudgement, IsNoSiteFault};
 
 use crate::changes::{cells_of, rows_after, take_writes};
 use crate::fault::ImportFault;
@@ -120,12 +120,22 @@ fn judge(alloc: Global, base: &State, rows: Rows, writes: &[Write]) -> Result<()
     ensures none_full { OnOk result (first_full_cell base.now writes.now ≡ None) }
     ensures fault { IfErr result (IsJudgement base.now rows writes.now) }
 {
-    if let Err(refused) = State::from_rows(alloc, rows, Counts::new(alloc), 0) {
-        return Err(no_site(refused.why));
-    }
+    meets_site_rules(alloc, rows)?;
     match first_full_cell(alloc, base, writes)? {
         Some(cell) => Err(ImportFault::Full(cell)),
         None => Ok(()),
+    }
+}
+
+/// Whether rows are those of a site.
+fn meets_site_rules(alloc: Global, rows: Rows) -> Result<(), ImportFault>
+    requires { AreValidRows rows }
+    ensures site { OnOk result (MeetsSiteRules rows) }
+    ensures fault { IfErr result (IsNoSiteFault rows) }
+{
+    match State::from_rows(alloc, rows, Counts::new(alloc), 0) {
+        Ok(_) => Ok(()),
+        Err(refused) => Err(no_site(refused.why)),
     }
 }
 
