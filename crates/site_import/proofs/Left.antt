@@ -1,5 +1,5 @@
 -- Loops over rows, each of which leaves one row less.
-use Rattle.std.proofs.Common.{◌≡◌, ◌≤◌, ◌+◌, ◌++◌, List, [], ◌∷◌, ℕ, Bool, true, false, cond, Option, Some, None, refl, sym, ap, subst, ◌∙◌, arith, All, length, take, map, filter, flat_map, append_assoc, append-nil, length-append}
+use Rattle.std.proofs.Common.{◌≡◌, ◌≤◌, ◌+◌, ◌++◌, List, [], ◌∷◌, ℕ, suc, Bool, true, false, cond, Option, Some, None, refl, sym, ap, subst, ◌∙◌, arith, All, length, take, map, filter, flat_map, append_assoc, append-nil, length-append}
 use Rattle.std.proofs.lemmas.List.Elements.{All-head, All-tail, All-cons, All-nil}
 use Rattle.std.proofs.lemmas.List.{take-append-le}
 use Rattle.std.specs.Map.{keys_of}
@@ -116,8 +116,9 @@ all_written old now whole left is w = w.told ∙ ap (after old) (sym (w.whole_is
 
 -- a front of what is left is written, so a front of all is
 take_past : (xs ys zs : List ℕ) (n : ℕ) → n ≤ length ys → xs ++ take n ys ≡ take (length xs + n) (xs ++ (ys ++ zs))
-take_past [] ys zs n few = sym (take-append-le n ys zs few)
-take_past (x ∷ xs) ys zs n few = ap (λ l. x ∷ l) (take_past xs ys zs n few)
+take_past [] ys zs n few = sym (take-append-le n ys zs few) ∙ ap (λ k. take k (ys ++ zs)) {x = n} {y = 0 + n} (omega arith)
+take_past (x ∷ xs) ys zs n few =
+    ap (λ l. x ∷ l) (take_past xs ys zs n few) ∙ ap (λ k. take k (x ∷ xs ++ (ys ++ zs))) {x = suc (length xs + n)} {y = suc (length xs) + n} (omega arith)
 
 pub front_written : (old now later : Option (List ℕ)) (whole left rest : Stored) (e : Cell × Row) → left ≡ e ∷ rest → AddsFront now later (ended_line e) → WrittenSoFar old now whole left → AddsFront old later (export_text whole)
 front_written old now later whole left rest e is front w =

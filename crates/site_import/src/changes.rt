@@ -55,7 +55,7 @@ pub(crate) fn take_writes(
     let mut writes = Vec::new(alloc);
     'cells: for cell in cells {
         let Some(row) = file.remove(cell) else {
-            return Err(AllocError);
+            unreachable!();
         };
         if is_change(alloc, base, cell, row.as_ref())? {
             writes.push(Write {

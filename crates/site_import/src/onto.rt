@@ -53,11 +53,11 @@ pub fn import<S: Source>(
     onto: Onto<'_>,
 ) -> Result<Imported, ImportFault>
     requires { HasValidRows onto }
-    ensures told { IfOk result (λ i. IsToldBy (S.left source.old) (λ bytes. IsImport (ground onto) bytes i)) }
-    ensures valid { IfOk result (λ i. IsValidState (step (ground onto) (arc_value i.commit))) }
+    ensures told { IfOk result (λ i. IsToldBy (S.left source.old) (λ bytes. IsImport (ground onto.entry) bytes i)) }
+    ensures valid { IfOk result (λ i. IsValidState (step (ground onto.entry) (arc_value i.commit))) }
     ensures distinct { IfOk result (λ i. IsCommit (arc_value i.commit)) }
-    ensures none_full { IfOk result (λ i. full_tag (ground onto) (arc_value i.commit) ≡ None) }
-    ensures fault { IfErr result (IsImportFault (ground onto) (S.left source.old)) }
+    ensures none_full { IfOk result (λ i. full_tag (ground onto.entry) (arc_value i.commit) ≡ None) }
+    ensures fault { IfErr result (IsImportFault (ground onto.entry) (S.left source.old)) }
     ensures cause { IfErr result (IsImportCause (S.faults source.old) (S.faults source.new)) }
     ensures steady { OnOk result (S.faults source.new ≡ S.faults source.old) }
 {
