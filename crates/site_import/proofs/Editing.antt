@@ -1,13 +1,14 @@
 -- The edit of a file, and why there is none.
-use Rattle.std.proofs.Common.{◌≡◌, List, ℕ, Option, Some, None, Ok, Err, sym, ap, subst, ◌∙◌, All, length, map}
+use Rattle.std.proofs.Common.{◌≡◌, List, ℕ, Option, Some, None, Ok, Err, sym, ap, subst, ◌∙◌, All, length, map, fold, length-map}
 use Rattle.std.specs.Arc.{arc_value}
 use Rattle.std.specs.List.{IsDistinct}
+use Rattle.std.specs.Map.{keys_of}
 use Rattle.std.specs.Ordering.{eq_by_cmp}
 use Rattle.content_rows.specs.CellOrder.{cell_cmp}
 use Rattle.content_rows.specs.declared.cell.Cell.{Cell}
 use Rattle.content_rows.specs.declared.row.Row.{Row}
 use Rattle.tag_counts.specs.Counts.{IsInOrder}
-use Rattle.content_state.specs.Replay.{step}
+use Rattle.content_state.specs.Replay.{step, written}
 use Rattle.content_state.specs.SiteRules.{AreValidRows, InOrder, MeetsSiteRules}
 use Rattle.content_state.specs.State.{State}
 use Rattle.content_state.specs.Write.{Write}
@@ -60,6 +61,15 @@ edit_made base file imported sorted counted in_order base_valid valid keeps toge
       };
       none_full = ap (full_tag base) is ∙ no_full_tag base (writes_of base.rows file) none;
     }
+
+pub rows_made : (base file rows : Stored) (made writes : List Write) → InOrder base → InOrder file → All (KeepsUnchanged base) file → rows ≡ fold written base made → made ≡ writes → writes ≡ writes_of base file → rows ≡ merged base file
+rows_made base file rows made writes sorted in_order keeps is same all = is ∙ ap (fold written base) (same ∙ all) ∙ edit_merges base file sorted in_order keeps
+
+pub made_valid : (base file rows : Stored) → AreValidRows base → AreValidRows file → rows ≡ merged base file → AreValidRows rows
+made_valid base file rows base_valid valid is = subst AreValidRows (sym is) (merged_valid base file base_valid valid)
+
+pub as_many : (file : Stored) (cells : List Cell) (count : ℕ) → cells ≡ keys_of file → count ≡ length cells → count ≡ length file
+as_many file cells count same is = is ∙ ap length same ∙ length-map file (λ (e : Cell × Row). e.0)
 
 -- ---- why there is none
 

@@ -1,5 +1,5 @@
 -- Loops over rows, each of which leaves one row less.
-use Rattle.std.proofs.Common.{◌≡◌, ◌≤◌, ◌+◌, ◌++◌, List, [], ◌∷◌, ℕ, suc, Bool, true, false, cond, Option, Some, None, refl, sym, ap, subst, ◌∙◌, arith, All, length, take, map, filter, flat_map, append_assoc, append-nil, length-append}
+use Rattle.std.proofs.Common.{◌≡◌, ◌≤◌, ◌+◌, ◌++◌, List, [], ◌∷◌, ℕ, suc, Bool, true, false, cond, Option, Some, None, Result, Ok, Err, OnErr, refl, sym, ap, subst, ◌∙◌, arith, All, length, take, map, filter, flat_map, append_assoc, append-nil, length-append}
 use Rattle.std.proofs.lemmas.List.Elements.{All-head, All-tail, All-cons, All-nil}
 use Rattle.std.proofs.lemmas.List.{take-append-le}
 use Rattle.std.specs.Map.{keys_of}
@@ -128,3 +128,7 @@ front_written old now later whole left rest e is front w =
       told = front.told ∙ ap (λ t. after t (take front.count (ended_line e))) w.told ∙ after_after old w.so_far (take front.count (ended_line e))
           ∙ ap (after old) (take_past w.so_far (ended_line e) (export_text rest) front.count front.within ∙ sym (ap (take (length w.so_far + front.count)) all));
     }
+
+pub on_err : {X E : Type 0} {P : Type 0} (r : Result X E) → P → OnErr r P
+on_err (Ok x) p = tt
+on_err (Err e) p = p

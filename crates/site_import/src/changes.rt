@@ -8,18 +8,23 @@ ghost use Rattle.site_import.specs.Changes.{is_change, writes_of, KeepsUnchanged
 
 use crate::line::is_same;
 use content_rows::{Cell, Row};
-use content_state::{Rows, Write};
+use content_state::{Rows, State, Write};
 use std::alloc::{AllocError, Global};
 use std::sync::Arc;
 
-/// Whether a row changes what stands in its cell. `Err` only where memory is wanting.
+/// Whether a row changes what a state has in its cell. `Err` only where memory is wanting.
 ///
 /// A right row that changes nothing there stands there already.
-fn is_change(alloc: Global, base: &Rows, cell: &Cell, row: &Row) -> Result<bool, AllocError>
-    ensures changed { IfOk result (λ changed. changed ≡ is_change base.now (cell.now, row.now)) }
-    ensures kept { OnOk result (AreValidRows base.now → IsValidRow cell.now row.now → KeepsUnchanged base.now (cell.now, row.now)) }
+fn is_change(
+    alloc: Global,
+    base: &State,
+    cell: &Cell,
+    row: &Row,
+) -> Result<bool, AllocError>
+    ensures changed { IfOk result (λ changed. changed ≡ is_change base.now.rows (cell.now, row.now)) }
+    ensures kept { OnOk result (AreValidRows base.now.rows → IsValidRow cell.now row.now → KeepsUnchanged base.now.rows (cell.now, row.now)) }
 {
-    match base.get(*cell) {
+    match base.rows().get(*cell) {
         Some(old) => {
             let same = is_same(alloc, cell, old, row)?;
             Ok(!same)
@@ -44,13 +49,13 @@ pub(crate) fn cells_of(alloc: Global, rows: &Rows) -> Result<Vec<Cell>, AllocErr
 /// stands in their cells. `Err` only where memory is wanting.
 pub(crate) fn take_writes(
     alloc: Global,
-    base: &Rows,
+    base: &State,
     file: &mut Rows,
     cells: &[Cell],
 ) -> Result<Vec<Write>, AllocError>
     requires cells { keys_of file.old ≡ cells.now }
-    ensures writes { IfOk result (λ writes. writes.items ≡ writes_of base.now file.old) }
-    ensures kept { OnOk result (AreValidRows base.now → AreValidRows file.old → All (KeepsUnchanged base.now) file.old) }
+    ensures writes { IfOk result (λ writes. writes.items ≡ writes_of base.now.rows file.old) }
+    ensures kept { OnOk result (AreValidRows base.now.rows → AreValidRows file.old → All (KeepsUnchanged base.now.rows) file.old) }
 {
     let mut writes = Vec::new(alloc);
     'cells: for cell in cells {
@@ -67,11 +72,11 @@ pub(crate) fn take_writes(
     Ok(writes)
 }
 
-/// The rows after some writes, each of which sets a row. `Err` only where memory is wanting.
-pub(crate) fn rows_after(alloc: Global, base: &Rows, writes: &[Write]) -> Result<Rows, AllocError>
-    ensures { IfOk result (λ rows. rows ≡ fold written base.now writes.now) }
+/// The rows of a state after some writes. `Err` only where memory is wanting.
+pub(crate) fn rows_after(alloc: Global, base: &State, writes: &[Write]) -> Result<Rows, AllocError>
+    ensures { IfOk result (λ rows. rows ≡ fold written base.now.rows writes.now) }
 {
-    let mut rows = base.duplicate(alloc)?;
+    let mut rows = base.rows().duplicate(alloc)?;
     'writes: for write in writes {
         make_write(&mut rows, write)?;
     }

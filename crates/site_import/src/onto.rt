@@ -85,22 +85,21 @@ fn import_onto<S: Source>(
     ensures cause { IfErr result (IsImportCause (S.faults source.old) (S.faults source.new)) }
     ensures steady { OnOk result (S.faults source.new ≡ S.faults source.old) }
 {
-    let file = read_rows(alloc, source)?;
-    edit_onto(alloc, base, file)
+    let mut file = read_rows(alloc, source)?;
+    edit_onto(alloc, base, &mut file)
 }
 
-/// The edit that puts the rows of a file where they change what is stored, and how many they are.
-fn edit_onto(alloc: Global, base: &State, file: Rows) -> Result<Imported, ImportFault>
+/// The edit that puts the rows of a file where they change what is stored, and how many they are. It takes the rows.
+fn edit_onto(alloc: Global, base: &State, file: &mut Rows) -> Result<Imported, ImportFault>
     requires base { AreValidRows base.now.rows }
-    requires file { AreValidRows file }
-    ensures edit { IfOk result (λ i. IsEdit base.now file i) }
-    ensures fault { IfErr result (IsJudgement base.now (merged base.now.rows file) (writes_of base.now.rows file)) }
+    requires file { AreValidRows file.old }
+    ensures edit { IfOk result (λ i. IsEdit base.now file.old i) }
+    ensures fault { IfErr result (IsJudgement base.now (merged base.now.rows file.old) (writes_of base.now.rows file.old)) }
 {
     base.stands_in_order();
-    let mut left = file;
-    let cells = cells_of(alloc, &left)?;
-    let writes = take_writes(alloc, base.rows(), &mut left, cells.as_slice())?;
-    let rows = rows_after(alloc, base.rows(), writes.as_slice())?;
+    let cells = cells_of(alloc, file)?;
+    let writes = take_writes(alloc, base, file, cells.as_slice())?;
+    let rows = rows_after(alloc, base, writes.as_slice())?;
     judge(alloc, base, rows, writes.as_slice())?;
     let commit = Commit {
         writes: Items::from_vec(writes),

@@ -9,6 +9,6 @@ use Rattle.site_import.proofs.changes.take_writes.Given as goal
 abbrev pub invariant-cells : goal.invariant-cells
 invariant-cells l = record {
   cells : keys_of l.file ≡ drop l.cell-index l.cells;
-  writes : l.writes.items ++ writes_of l.base l.file ≡ writes_of l.base l.fn.file;
-  kept : KeptSoFar l.base l.fn.file l.file;
+  writes : l.writes.items ++ writes_of l.base.rows l.file ≡ writes_of l.base.rows l.fn.file;
+  kept : KeptSoFar l.base.rows l.fn.file l.file;
 }
