@@ -1,5 +1,7 @@
 -- The edit of a file, and why there is none.
-use Rattle.std.proofs.Common.{◌≡◌, List, ℕ, Option, Some, None, Ok, Err, sym, ap, subst, ◌∙◌, All, length, map, fold, length-map}
+use Rattle.std.proofs.Common.{◌≡◌, List, ℕ, Option, Some, None, Ok, Err, sym, ap, subst, ◌∙◌, All, length, map, fold, [], refl}
+use Rattle.std.proofs.lemmas.List.{length-map}
+use Rattle.cacheability.specs.declared.tag.Tag.{Tag}
 use Rattle.std.specs.Arc.{arc_value}
 use Rattle.std.specs.List.{IsDistinct}
 use Rattle.std.specs.Map.{keys_of}
@@ -23,7 +25,7 @@ use Rattle.site_files.specs.Faults.{IsCause}
 use Rattle.site_files.specs.Rows.{rows_of, IsToldBy, IsFileFault}
 use Rattle.site_files.specs.declared.fault.ReadFault.{ReadFault}
 use Rattle.site_files.specs.declared.fault.ReadFault.TheVariants as read
-use Rattle.site_import.specs.Changes.{commit_of, merged, writes_of, KeepsUnchanged}
+use Rattle.site_import.specs.Changes.{commit_of, edit_of, merged, writes_of, KeepsUnchanged}
 use Rattle.site_import.specs.Faults.{fault_of, import_fault_of, IsImportCause}
 use Rattle.site_import.specs.Full.{first_full_cell}
 use Rattle.site_import.specs.Imports.{IsEdit, IsImport, IsImportFault, IsJudgement, IsNoSiteFault}
@@ -70,6 +72,12 @@ made_valid base file rows base_valid valid is = subst AreValidRows (sym is) (mer
 
 pub as_many : (file : Stored) (cells : List Cell) (count : ℕ) → cells ≡ keys_of file → count ≡ length cells → count ≡ length file
 as_many file cells count same is = is ∙ ap length same ∙ length-map file (λ (e : Cell × Row). e.0)
+
+abbrev commit_with : List Write → List Tag → Commit
+commit_with writes extra = record { writes = writes; extra = extra; pass = 0 }
+
+pub commit_is : (commit : Commit) (made writes : List Write) (extra : List Tag) → commit ≡ commit_with made extra → made ≡ writes → extra ≡ [] → commit ≡ edit_of writes
+commit_is commit made writes extra is same none = is ∙ ap (λ ws. commit_with ws extra) same ∙ ap (commit_with writes) none
 
 -- ---- why there is none
 

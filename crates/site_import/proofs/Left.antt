@@ -14,7 +14,7 @@ use Rattle.site_import.specs.Changes.{is_change, write_of, writes_of, KeepsUncha
 use Rattle.site_import.specs.Lines.{ended_line, export_text, AllTellTheirRow, TellsItsRow}
 use Rattle.site_import.proofs.Order.{first_row, without_first}
 
-abbrev Stored : Type 0
+abbrev pub Stored : Type 0
 Stored = List (Cell × Row)
 
 -- where all rows are right, those that are left are, and what is told of these is told of all

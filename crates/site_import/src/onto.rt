@@ -107,7 +107,7 @@ fn edit_onto(alloc: Global, base: &State, file: &mut Rows) -> Result<Imported, I
         pass: 0,
     };
     Ok(Imported {
-        rows: cells.len() as u64,
+        rows: cells.as_slice().len() as u64,
         commit: Arc::new(alloc, commit)?,
     })
 }

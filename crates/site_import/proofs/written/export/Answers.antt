@@ -1,4 +1,6 @@
 use Rattle.std.proofs.Common.{◌≡◌, ◌∙◌, refl, sym, subst}
+use Rattle.content_rows.specs.declared.cell.Cell.{Cell}
+use Rattle.content_rows.specs.declared.row.Row.{Row}
 use Rattle.content_state.specs.SiteRules.{InOrder}
 use Rattle.site_import.specs.Lines.{TellsItsRow}
 use Rattle.site_import.proofs.ComingBack.{comes_back}
@@ -19,7 +21,7 @@ rows-init g c =
 pub rows-preserved : goal.rows-preserved
 rows-preserved g c =
     let rows = c.args.state.now.rows in
-    let e = (c.in-Some.cell.now, c.in-Some.row.now) in
+    let e : Cell × Row = (c.in-Some.cell.now, c.in-Some.row.now) in
     let sink = g.O.Sink.written c.args.sink.now in record {
       ordered = c.rows.invariant.ordered;
       written = one_written sink (g.O.Sink.written c.rows.sink) (g.O.Sink.written c.write_row.new.sink) rows c.rows.cell-iterator c.next.new.self e c.in-Some.ensures.steps c.in_ok-write_row.ensures.whole c.rows.invariant.written;
