@@ -1,5 +1,5 @@
 -- What is read of a file that was written of rows, and what an import of it changes.
-use Rattle.std.proofs.Common.{◌≡◌, ◌≤◌, ◌+◌, ◌==◌, ℕ, List, [], ◌∷◌, ◌++◌, length, Bool, true, false, not, cond, Option, Some, None, Result, Ok, Err, refl, sym, ap, subst, ◌∙◌, arith, codes, map, filter, flat_map, All, is_some, append_assoc, append-nil}
+use Rattle.std.proofs.Common.{◌≡◌, ◌≤◌, ◌+◌, ◌==◌, ℕ, List, [], ◌∷◌, ◌++◌, length, Bool, true, false, not, cond, Option, Result, Ok, Err, refl, sym, ap, subst, ◌∙◌, arith, codes, map, filter, All, is_some, append_assoc, append-nil}
 use Rattle.std.proofs.lemmas.Bool.{and_parts, le-ltb}
 use Rattle.std.proofs.lemmas.List.Elements.{All-head, All-tail}
 use Rattle.std.proofs.lemmas.Slice.Eq.{bytes_eq-Decides}
@@ -7,16 +7,16 @@ use Rattle.std.specs.Str.{bytes_eq}
 use Rattle.content_rows.specs.declared.cell.Cell.{Cell}
 use Rattle.content_rows.specs.declared.row.Row.{Row}
 use Rattle.row_json.specs.Reading.{written}
-use Rattle.content_state.specs.Rows.{row_at, with_row}
+use Rattle.content_state.specs.Rows.{with_row}
 use Rattle.content_state.specs.SiteRules.{InOrder}
 use Rattle.json_keys.specs.declared.rule.Rule.TheVariants as rule
 use Rattle.site_files.specs.Lines.{lines, lines_from, is_one_line, longest}
-use Rattle.site_files.specs.Rows.{row_of_line, row_told, value_of, with_one_more, with_line, go_on, rows_from, rows_of}
+use Rattle.site_files.specs.Rows.{row_of_line, row_told, value_of, with_one_more, with_line, go_on, rows_from}
 use Rattle.site_files.specs.declared.fault.LineFault.{LineFault}
 use Rattle.site_files.specs.declared.fault.LineFault.TheVariants as fault
-use Rattle.site_import.specs.Changes.{is_other, is_change, write_of, writes_of, edit_of, commit_of}
-use Rattle.site_import.specs.Export.{ComesBack, ExportsComeBack, ExportsChangeNothing}
-use Rattle.site_import.specs.Lines.{line, ended_line, export_text, TellsItsRow, AllTellTheirRow, FitAFile}
+use Rattle.site_import.specs.Changes.{is_other, is_change, write_of, edit_of}
+use Rattle.site_import.specs.Export.{ExportsComeBack, ExportsChangeNothing}
+use Rattle.site_import.specs.Lines.{line, export_text, TellsItsRow, AllTellTheirRow}
 use Rattle.site_import.proofs.LineEnds.{text_inside}
 use Rattle.site_import.proofs.Order.{row_within, no_row_yet, put_last}
 

@@ -1,5 +1,5 @@
 -- The edit of a file, and why there is none.
-use Rattle.std.proofs.Common.{◌≡◌, List, ℕ, Option, Some, None, Ok, Err, sym, ap, subst, ◌∙◌, All, length, map, fold, [], refl}
+use Rattle.std.proofs.Common.{◌≡◌, List, ℕ, Option, Some, None, Ok, sym, ap, subst, ◌∙◌, All, length, map, fold, []}
 use Rattle.std.proofs.lemmas.List.{length-map}
 use Rattle.cacheability.specs.declared.tag.Tag.{Tag}
 use Rattle.std.specs.Arc.{arc_value}

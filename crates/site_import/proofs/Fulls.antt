@@ -1,13 +1,11 @@
 -- Where no write finds a full count, the edit can raise its counts.
-use Rattle.std.proofs.Common.{◌≡◌, ◌⊎◌, ◌↔◌, ◌++◌, List, [], ◌∷◌, ℕ, Bool, true, false, cond, ◌||◌, Option, Some, None, refl, sym, ap, ◌∙◌, inl, inr, find, flat_map, fold, All, Contains, length, ◌<◌, arith, option_map, append-nil}
+use Rattle.std.proofs.Common.{◌≡◌, ◌++◌, List, [], ◌∷◌, Bool, true, false, cond, Option, Some, None, refl, ap, ◌∙◌, inl, inr, find, flat_map, All, Contains, arith, option_map}
 use Rattle.std.proofs.lemmas.Bool.{or_parts}
 use Rattle.std.proofs.lemmas.List.Elements.{All-nil, All-cons, All-head, All-tail, All-contains, All-weaker, All-contains_itself, Contains-append_cases}
-use Rattle.std.specs.BTreeSet.{insert_key}
 use Rattle.std.specs.List.{list_any}
 use Rattle.cacheability.proofs.InOrder.{Contains-union}
 use Rattle.cacheability.specs.Tag.{tag_cmp}
 use Rattle.cacheability.specs.declared.tag.Tag.{Tag}
-use Rattle.content_rows.specs.declared.cell.Cell.{Cell}
 use Rattle.tag_counts.proofs.Tags.{tag_cmp_exact}
 use Rattle.content_state.specs.Replay.{tags_of_commit, tags_of_write}
 use Rattle.content_state.specs.State.{State}

@@ -1,5 +1,5 @@
 -- Loops over rows, each of which leaves one row less.
-use Rattle.std.proofs.Common.{◌≡◌, ◌≤◌, ◌+◌, ◌++◌, List, [], ◌∷◌, ℕ, suc, Bool, true, false, cond, Option, Some, None, Result, Ok, Err, OnErr, refl, sym, ap, subst, ◌∙◌, arith, All, length, take, map, filter, flat_map, append_assoc, append-nil, length-append}
+use Rattle.std.proofs.Common.{◌≡◌, ◌≤◌, ◌+◌, ◌++◌, List, [], ◌∷◌, ℕ, suc, Bool, true, false, cond, Option, Some, None, Result, Ok, Err, OnErr, refl, sym, ap, subst, ◌∙◌, arith, All, length, take, map, filter, append_assoc, append-nil, length-append}
 use Rattle.std.proofs.lemmas.List.Elements.{All-head, All-tail, All-cons, All-nil}
 use Rattle.std.proofs.lemmas.List.{take-append-le}
 use Rattle.std.specs.Map.{keys_of}
@@ -11,7 +11,7 @@ use Rattle.content_state.specs.SiteRules.{AreValidRows}
 use Rattle.content_state.specs.Write.{Write}
 use Rattle.site_io.specs.Told.{after, AddsFront}
 use Rattle.site_import.specs.Changes.{is_change, write_of, writes_of, KeepsUnchanged}
-use Rattle.site_import.specs.Lines.{ended_line, export_text, AllTellTheirRow, TellsItsRow}
+use Rattle.site_import.specs.Lines.{ended_line, export_text, TellsItsRow}
 use Rattle.site_import.proofs.Order.{first_row, without_first}
 
 abbrev pub Stored : Type 0

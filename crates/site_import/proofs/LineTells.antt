@@ -1,5 +1,5 @@
 -- What the line of a row says.
-use Rattle.std.proofs.Common.{◌≡◌, ℕ, List, [], ◌∷◌, Bool, true, false, not, cond, Option, Some, None, Ok, Err, Result, IsUtf8, refl, sym, ap, subst, ◌∙◌}
+use Rattle.std.proofs.Common.{◌≡◌, ℕ, List, [], ◌∷◌, Bool, true, false, not, cond, Some, None, Ok, Err, Result, IsUtf8, refl, sym, ap, subst, ◌∙◌}
 use Rattle.std.proofs.lemmas.Slice.Eq.{bytes_eq-Decides}
 use Rattle.std.proofs.lemmas.List.Elements.{All-head, All-tail}
 use Rattle.std.specs.Ordering.{is_eq}
@@ -20,7 +20,7 @@ use Rattle.row_json.specs.Reading.{reading, written}
 use Rattle.site_files.specs.Rows.{row_or_fault, row_told, value_of}
 use Rattle.site_files.specs.declared.fault.LineFault.{LineFault}
 use Rattle.site_files.proofs.RowLaws.{a_value}
-use Rattle.site_import.specs.Changes.{is_other, is_change, KeepsUnchanged}
+use Rattle.site_import.specs.Changes.{is_other, KeepsUnchanged}
 use Rattle.site_import.specs.Lines.{line, TellsItsRow}
 
 pub tells_row : (c : Cell) (r : Row) (text : List ℕ) (d : Data) → d ≡ written c r → text ≡ line c r → IsUtf8 text → read text ≡ Some d → reading d ≡ checked.Right (c, r) → TellsItsRow c r

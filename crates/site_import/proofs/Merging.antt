@@ -1,5 +1,5 @@
 -- An edit of the rows that a file changes sets all of its rows.
-use Rattle.std.proofs.Common.{◌≡◌, ◌≢◌, List, [], ◌∷◌, Bool, true, false, cond, Option, Some, None, refl, sym, ap, subst, ◌∙◌, fold, map, filter, All}
+use Rattle.std.proofs.Common.{◌≡◌, List, [], ◌∷◌, Bool, true, false, cond, refl, sym, ap, subst, ◌∙◌, fold, map, filter, All}
 use Rattle.std.proofs.lemmas.List.Elements.{All-head, All-tail}
 use Rattle.std.proofs.lemmas.Map.Keys.{IsDistinct-from_sorted}
 use Rattle.std.specs.List.{AllByRecursion, IsDistinct}
@@ -13,11 +13,11 @@ use Rattle.content_rows.specs.ValidRow.{IsValidRow}
 use Rattle.content_rows.specs.declared.cell.Cell.{Cell}
 use Rattle.content_rows.specs.declared.row.Row.{Row}
 use Rattle.content_state.specs.Replay.{written}
-use Rattle.content_state.specs.Rows.{row_at, with_row}
+use Rattle.content_state.specs.Rows.{row_at}
 use Rattle.content_state.specs.SiteRules.{AreValidRows, InOrder}
 use Rattle.state_commits.proofs.Entries.{below_apart, found_put_other, ordered_put}
 use Rattle.site_files.proofs.RowLaws.{stays_valid}
-use Rattle.site_import.specs.Changes.{is_change, with_entry, merged, write_of, writes_of, edit_of, commit_of, KeepsUnchanged}
+use Rattle.site_import.specs.Changes.{is_change, with_entry, merged, write_of, writes_of, KeepsUnchanged}
 use Rattle.site_import.proofs.Order.{tail_ordered, put_again}
 
 abbrev Stored : Type 0

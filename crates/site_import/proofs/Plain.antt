@@ -1,12 +1,12 @@
 -- The JSON of a row has no number with a point, and nests little.
-use Rattle.std.proofs.Common.{◌≡◌, ◌≤◌, ◌||◌, ℕ, zero, suc, max, ℤ, pos, negsuc, List, [], ◌∷◌, Bool, true, false, cond, Option, Some, None, codes, map, refl, ap, ◌∙◌, arith}
+use Rattle.std.proofs.Common.{◌≡◌, ◌≤◌, ◌||◌, ℕ, suc, ℤ, pos, negsuc, List, [], ◌∷◌, Bool, true, false, cond, Option, Some, None, codes, map, refl, ap, ◌∙◌, arith}
 use Rattle.std.proofs.lemmas.Bool.{or_parts}
 use Rattle.std.specs.Cmp.Lexicographic.{slice_cmp}
 use Rattle.std.specs.Ordering.{nat_cmp, match_ordering}
 use Rattle.std.specs.Str.{is_utf8}
 use Rattle.std.specs.declared.cmp.Ordering.{Ordering}
 use Rattle.std.specs.declared.cmp.Ordering.TheVariants.{Less, Equal, Greater}
-use Rattle.serde_json.specs.Data.{Data, null, boolean, number, string, array, object, Items, no_items, item, Members, no_members, member, put, depth, items_depth, members_depth, unsigned}
+use Rattle.serde_json.specs.Data.{Data, null, boolean, string, array, object, Items, Members, no_members, member, put, depth, items_depth, members_depth}
 use Rattle.serde_json.specs.View.{items_of}
 use Rattle.serde_json.specs.Written.{has_float, items_have_float, members_have_float}
 use Rattle.content_rows.specs.CellText.{cell_text}
@@ -20,7 +20,7 @@ use Rattle.content_rows.specs.declared.row.Row.{Row}
 use Rattle.content_rows.specs.declared.row.Row.TheVariants as row
 use Rattle.json_keys.specs.Fault.{members_in}
 use Rattle.row_json.specs.Reading.{row_data, written}
-use Rattle.row_kinds.specs.Look.{text_data, whole_data, weight_data, option_data, items_data, texts_onto, texts_data}
+use Rattle.row_kinds.specs.Look.{text_data, whole_data, weight_data, option_data, items_data, texts_onto}
 use Rattle.row_kinds.specs.Rows.{grant_data, grant_row_data, field_data, link_data}
 
 record IsPlain (k : ℕ) (d : Data) : Type 0 where

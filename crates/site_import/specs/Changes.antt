@@ -1,5 +1,5 @@
 -- What the rows of a file change where some rows stand.
-use Rattle.std.specs.Prelude.{ℕ, List, [], ◌≡◌, Bool, true, false, not, Option, None, Some, fold, map, filter}
+use Rattle.std.specs.Prelude.{List, [], ◌≡◌, Bool, true, false, not, Option, None, Some, fold, map, filter}
 use Rattle.std.specs.Str.{bytes_eq}
 use Rattle.content_rows.specs.declared.cell.Cell.{Cell}
 use Rattle.content_rows.specs.declared.row.Row.{Row}

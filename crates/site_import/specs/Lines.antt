@@ -1,7 +1,6 @@
 -- The line that a row is in a file, and what the file of some rows is.
 use Rattle.std.specs.Prelude.{ℕ, List, [], ◌∷◌, ◌++◌, ◌≡◌, ◌≤◌, length, All, Ok, flat_map}
 use Rattle.serde_json.specs.Written.{compact_text}
-use Rattle.content_rows.specs.ValidRow.{IsValidRow}
 use Rattle.content_rows.specs.declared.cell.Cell.{Cell}
 use Rattle.content_rows.specs.declared.row.Row.{Row}
 use Rattle.row_json.specs.Reading.{written}

@@ -15,12 +15,7 @@ use std::sync::Arc;
 /// Whether a row changes what a state has in its cell. `Err` only where memory is wanting.
 ///
 /// A right row that changes nothing there stands there already.
-fn is_change(
-    alloc: Global,
-    base: &State,
-    cell: &Cell,
-    row: &Row,
-) -> Result<bool, AllocError>
+fn is_change(alloc: Global, base: &State, cell: &Cell, row: &Row) -> Result<bool, AllocError>
     ensures changed { IfOk result (λ changed. changed ≡ is_change base.now.rows (cell.now, row.now)) }
     ensures kept { OnOk result (AreValidRows base.now.rows → IsValidRow cell.now row.now → KeepsUnchanged base.now.rows (cell.now, row.now)) }
 {

@@ -1,4 +1,4 @@
-use Rattle.std.proofs.Common.{◌≡◌, ◌∙◌, ◌++◌, ◌+◌, List, [], ◌∷◌, Some, All, ap, sym, subst, drop, append-nil, vec_items}
+use Rattle.std.proofs.Common.{◌≡◌, ◌∙◌, ◌++◌, ◌+◌, List, ◌∷◌, ap, sym, subst, drop, append-nil, vec_items}
 use Rattle.std.proofs.lemmas.List.{drop_all, drop_more}
 use Rattle.std.specs.Arc.{arc_value}
 use Rattle.std.specs.Map.{keys_of}
@@ -14,7 +14,7 @@ use Rattle.site_import.proofs.changes.take_writes.Goals.{then-branch+in_ok-push,
 pub unreachable-requires : goal.unreachable-requires
 unreachable-requires c =
     let keys : keys_of c.cells.file ≡ c.cell-item.result ∷ drop (c.cells.cell-index + 1) c.args.cells.now =
-        c.cells.invariant.cells ∙ drop_more c.args.cells.now c.cells.cell-index c.cell-item.result c.cells-test.true ∙ ap (λ (k : Cell). k ∷ drop (c.cells.cell-index + 1) c.args.cells.now) (sym c.cell-item.is) in
+    c.cells.invariant.cells ∙ drop_more c.args.cells.now c.cells.cell-index c.cell-item.result c.cells-test.true ∙ ap (λ (k : Cell). k ∷ drop (c.cells.cell-index + 1) c.args.cells.now) (sym c.cell-item.is) in
     one_is_taken c.cells.file c.cell-item.result (drop (c.cells.cell-index + 1) c.args.cells.now) keys c.in_default.ensures.row
 
 pub cells-preserved : goal.cells-preserved
@@ -23,18 +23,18 @@ cells-preserved c =
     let left = c.cells.file in
     let rest = c.remove.new.self in
     let keys : keys_of left ≡ c.cell-item.result ∷ drop (c.cells.cell-index + 1) c.args.cells.now =
-        c.cells.invariant.cells ∙ drop_more c.args.cells.now c.cells.cell-index c.cell-item.result c.cells-test.true ∙ ap (λ (k : Cell). k ∷ drop (c.cells.cell-index + 1) c.args.cells.now) (sym c.cell-item.is) in
+    c.cells.invariant.cells ∙ drop_more c.args.cells.now c.cells.cell-index c.cell-item.result c.cells-test.true ∙ ap (λ (k : Cell). k ∷ drop (c.cells.cell-index + 1) c.args.cells.now) (sym c.cell-item.is) in
     let row = arc_value c.in-Some.row in
     let e : Cell × Row = (c.cell-item.result, row) in
     let taken = first_taken left rest c.cell-item.result (drop (c.cells.cell-index + 1) c.args.cells.now) row keys c.in-Some.ensures.row c.in-Some.ensures.rows in
     let changed : is_change base e ≡ c.in_ok-is_change.field-0 =
-        ap (λ (r : Row). is_change base (c.cell-item.result, r)) (sym c.as_ref.ensures) ∙ sym c.in_ok-is_change.ensures.changed in record {
+    ap (λ (r : Row). is_change base (c.cell-item.result, r)) (sym c.as_ref.ensures) ∙ sym c.in_ok-is_change.ensures.changed in record {
       cells = taken.1;
       writes = elim c.if-branch.branch [
         | then-branch+in_ok-push w ↦ ap (λ v. vec_items v ++ writes_of base rest) w.writes-is ∙ ap (λ (ws : List Write). ws ++ writes_of base rest) w.in_ok-push.ensures.items
-          ∙ one_write base left rest e c.cells.writes.items (writes_of base c.args.file.now) taken.0 (changed ∙ w.if-branch.true) c.cells.invariant.writes
+            ∙ one_write base left rest e c.cells.writes.items (writes_of base c.args.file.now) taken.0 (changed ∙ w.if-branch.true) c.cells.invariant.writes
         | else-branch w ↦ ap (λ v. vec_items v ++ writes_of base rest) w.writes-is
-          ∙ no_write base left rest e c.cells.writes.items (writes_of base c.args.file.now) taken.0 (changed ∙ w.if-branch.false) c.cells.invariant.writes
+            ∙ no_write base left rest e c.cells.writes.items (writes_of base c.args.file.now) taken.0 (changed ∙ w.if-branch.false) c.cells.invariant.writes
       ];
       kept = λ base_valid.
           one_so_far (KeepsUnchanged base) c.args.file.now left rest e taken.0

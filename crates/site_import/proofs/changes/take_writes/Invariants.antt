@@ -1,7 +1,6 @@
-use Rattle.std.proofs.Common.{◌≡◌, ◌++◌, drop, All}
+use Rattle.std.proofs.Common.{◌≡◌, ◌++◌, drop}
 use Rattle.std.specs.Map.{keys_of}
-use Rattle.content_state.specs.SiteRules.{AreValidRows}
-use Rattle.site_import.specs.Changes.{writes_of, KeepsUnchanged}
+use Rattle.site_import.specs.Changes.{writes_of}
 use Rattle.site_import.proofs.Left.{KeptSoFar}
 use Rattle.site_import.proofs.changes.take_writes.Given as goal
 

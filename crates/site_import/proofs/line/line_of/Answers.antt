@@ -2,7 +2,6 @@ use Rattle.std.proofs.Common.{◌≤◌, ◌∙◌, ap, subst, sym}
 use Rattle.serde_json.specs.Data.{Data, depth}
 use Rattle.serde_json.specs.View.{view}
 use Rattle.serde_json.specs.Written.{compact_text, has_float}
-use Rattle.row_json.specs.Reading.{written}
 use Rattle.site_import.proofs.LineTells.{tells_row}
 use Rattle.site_import.proofs.Plain.{no_float, shallow}
 use Rattle.site_import.proofs.line.line_of.Goals as goal

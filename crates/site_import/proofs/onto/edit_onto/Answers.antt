@@ -1,4 +1,4 @@
-use Rattle.std.proofs.Common.{◌≡◌, ◌∙◌, List, None, sym, ap, subst}
+use Rattle.std.proofs.Common.{◌≡◌, ◌∙◌, List, length, sym, ap, subst}
 use Rattle.std.proofs.lemmas.Result.{err_from_is_err_and}
 use Rattle.std.specs.Arc.{arc_value}
 use Rattle.content_state.specs.SiteRules.{MeetsSiteRules}
@@ -23,7 +23,7 @@ returns-in_err-judge-clause-fault c =
     let f = c.in_err-judge.field-0.0 in
     let keeps = c.in_ok-writes.ensures.kept c.requires.base c.requires.file in
     let rows =
-        rows_made base.rows c.args.file.now c.in_ok-rows.rows c.as_slice-2.result.now c.in_ok-writes.writes.items c.stands_in_order.ensures.rows c.in_ok-cells.ensures.ordered keeps c.in_ok-rows.ensures c.as_slice-2.ensures.value c.in_ok-writes.ensures.writes in
+    rows_made base.rows c.args.file.now c.in_ok-rows.rows c.as_slice-2.result.now c.in_ok-writes.writes.items c.stands_in_order.ensures.rows c.in_ok-cells.ensures.ordered keeps c.in_ok-rows.ensures c.as_slice-2.ensures.value c.in_ok-writes.ensures.writes in
     let writes : c.as_slice-3.result.now ≡ writes_of base.rows c.args.file.now = c.as_slice-3.ensures.value ∙ c.in_ok-writes.ensures.writes in
     rw (p.1, p.2)
     (subst (λ (ws : List Write). IsJudgement base (merged base.rows c.args.file.now) ws f) writes
@@ -35,8 +35,8 @@ returns-clause-edit c =
     let file = c.args.file.now in
     let keeps = c.in_ok-writes.ensures.kept c.requires.base c.requires.file in
     let rows =
-        rows_made base.rows file c.in_ok-rows.rows c.as_slice-2.result.now c.in_ok-writes.writes.items c.stands_in_order.ensures.rows c.in_ok-cells.ensures.ordered keeps c.in_ok-rows.ensures c.as_slice-2.ensures.value c.in_ok-writes.ensures.writes in
+    rows_made base.rows file c.in_ok-rows.rows c.as_slice-2.result.now c.in_ok-writes.writes.items c.stands_in_order.ensures.rows c.in_ok-cells.ensures.ordered keeps c.in_ok-rows.ensures c.as_slice-2.ensures.value c.in_ok-writes.ensures.writes in
     let writes : c.as_slice-3.result.now ≡ writes_of base.rows file = c.as_slice-3.ensures.value ∙ c.in_ok-writes.ensures.writes in
     edit_made base file _ c.stands_in_order.ensures.rows c.stands_in_order.ensures.counts c.in_ok-cells.ensures.ordered c.requires.base c.requires.file keeps
-    (subst MeetsSiteRules rows c.in_ok-judge.ensures.site) (sym (ap (first_full_cell base) writes) ∙ c.in_ok-judge.ensures.none_full) (as_many file c.in_ok-cells.cells.items c.len.result c.in_ok-cells.ensures.same ?)
+    (subst MeetsSiteRules rows c.in_ok-judge.ensures.site) (sym (ap (first_full_cell base) writes) ∙ c.in_ok-judge.ensures.none_full) (as_many file c.in_ok-cells.cells.items _ c.in_ok-cells.ensures.same (ap length c.as_slice-4.ensures.value))
     (commit_is (arc_value c.in_ok-new.field-0) c.from_vec.result (writes_of base.rows file) c.none.result c.in_ok-new.ensures.ok (c.from_vec.ensures ∙ c.in_ok-writes.ensures.writes) c.none.ensures)
