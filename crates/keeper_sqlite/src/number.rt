@@ -1,5 +1,5 @@
 //! Numbers as a database holds them.
-ghost use Rattle.std.specs.Prelude.{◌≡◌, IfOk, Some, string_bytes};
+ghost use Rattle.std.specs.Prelude.{◌≡◌, ◌↔◌, IsTrue, IfOk, Some, string_bytes};
 ghost use Rattle.keeper_sqlite.specs.Numbers.{count_in, head_in};
 
 use std::alloc::{AllocError, Global};
@@ -32,11 +32,18 @@ pub(crate) fn head_in(alloc: Global, text: &[u8]) -> Result<Option<u64>, AllocEr
         return Ok(None);
     };
     let written = head.to_string(alloc)?;
-    if written.as_bytes() == text {
+    if are_same(written.as_bytes(), text) {
         Ok(Some(head))
     } else {
         Ok(None)
     }
+}
+
+/// Whether two texts are the same.
+fn are_same(one: &[u8], other: &[u8]) -> bool
+    ensures { IsTrue result ↔ (one.now ≡ other.now) }
+{
+    one == other
 }
 
 /// The text of a number, which is read as that number. `Err` only where memory is wanting.

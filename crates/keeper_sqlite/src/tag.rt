@@ -138,5 +138,8 @@ pub fn tag_of(text: &[u8]) -> Option<Tag>
     if let Some(tag) = placed_tag(text) {
         return Some(tag);
     }
-    numbered_tag(text)
+    match numbered_tag(text) {
+        Some(tag) => Some(tag),
+        None => None,
+    }
 }
