@@ -39,7 +39,6 @@ fn stored(alloc: Global) -> Result<Stored, AllocError>
     })
 }
 
-
 // An edit by which the next node is 3, and the user 1 is gone.
 fn commit(alloc: Global) -> Result<Commit, AllocError> {
     let seq = Row::Seq(Seq {
