@@ -34,6 +34,11 @@ impl<S: Alter + Drop> Model for SqliteKeeper<S> {
 }
 
 impl<S: Alter + Drop> SqliteKeeper<S> {
+    /// Hands out the database, which holds what was kept.
+    pub fn into_connection(self) -> Connection<S> {
+        self.conn
+    }
+
     /// Counts a fault; want of memory is none.
     fn counted(&mut self, fault: KeeperFault) -> KeeperFault
         ensures same { result ≡ fault }
