@@ -29,9 +29,11 @@ fn value_of(alloc: Global, body: &[u8]) -> Result<Option<Value>, AllocError>
     }
 }
 
-/// A row, where the cell that it stands in is its own. `Err` only where memory is wanting.
+/// A right row, where the cell that it stands in is its own. `Err` only where memory is wanting.
 fn in_its_cell(alloc: Global, cell: &[u8], row: (Cell, Row)) -> Result<Option<(Cell, Row)>, AllocError>
-    ensures { IfOk result (λ told. told ≡ in_its_cell cell.now (checked.Right row)) }
+    requires { IsValidRow row.0 row.1 }
+    ensures told { IfOk result (λ told. told ≡ in_its_cell cell.now (checked.Right row)) }
+    ensures right { IfOk result (λ told. IfSome told (λ row. IsValidRow row.0 row.1)) }
 {
     let own = row.0.text(alloc)?;
     if own.as_slice() == cell {
@@ -47,7 +49,7 @@ fn row_told(alloc: Global, cell: &[u8], value: &Value) -> Result<Option<(Cell, R
     ensures right { IfOk result (λ row. IfSome row (λ row. IsValidRow row.0 row.1)) }
 {
     match row_from_json(alloc, value) {
-        Ok(row) => in_its_cell(alloc, cell, row),
+        Ok(row) => Ok(in_its_cell(alloc, cell, row)?),
         Err(RowFault::Rule { .. }) => Ok(None),
         Err(RowFault::OutOfMemory) => Err(AllocError),
     }

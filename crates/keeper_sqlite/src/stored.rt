@@ -2,6 +2,7 @@
 ghost use Rattle.std.specs.Prelude.{◌≡◌, Some, None, IfOk, IfErr, OnOk, IsErrOf};
 ghost use Rattle.content_state.specs.SiteRules.{AreValidRows};
 ghost use Rattle.site_keeper.specs.declared.fault.KeeperFault.TheVariants as keeper_fault;
+ghost use Rattle.content_rows.specs.ValidRow.{IsValidRow};
 ghost use Rattle.content_state.specs.Rows.{with_row};
 ghost use Rattle.keeper_sqlite.specs.Bodies.{with_entry_of, with_tag_of};
 ghost use Rattle.keeper_sqlite.specs.Numbers.{head_in};
@@ -105,9 +106,11 @@ fn take_row(
     }
 }
 
-/// Sets the row of a cell. `Err` only where memory is wanting.
+/// Sets the row of a cell, which is right for it. `Err` only where memory is wanting.
 fn add_row(alloc: Global, rows: &mut Rows, cell: Cell, row: Row) -> Result<(), AllocError>
-    ensures { OnOk result (rows.new ≡ with_row rows.old cell row) }
+    requires { IsValidRow cell row }
+    ensures set { OnOk result (rows.new ≡ with_row rows.old cell row) }
+    ensures right { OnOk result (AreValidRows rows.old → AreValidRows rows.new) }
 {
     rows.set(cell, Arc::new(alloc, row)?)?;
     Ok(())
