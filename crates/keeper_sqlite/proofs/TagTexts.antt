@@ -1,11 +1,11 @@
 -- A tag is read of its own text, and of no other.
-use Rattle.std.proofs.Common.{◌≡◌, ◌<◌, ◌≤◌, ◌+◌, ◌/◌, ◌%◌, ◌^◌, ◌⊎◌, inl, inr, ℕ, List, [], ◌∷◌, ◌++◌, length, drop, Bool, true, false, cond, Option, Some, None, option_map, refl, sym, ap, subst, ◌∙◌, arith, codes, IsTrue}
-use Rattle.std.specs.Prelude.{nat_eq, if◌then◌else◌}
+use Rattle.std.proofs.Common.{◌≡◌, ◌<◌, ◌≤◌, ◌+◌, ◌/◌, ◌%◌, ◌^◌, ◌⊎◌, inl, inr, ℕ, List, [], ◌∷◌, ◌++◌, length, drop, Bool, true, false, cond, Option, Some, None, option_map, refl, sym, ap, subst, ◌∙◌, arith, codes}
+use Rattle.std.specs.Prelude.{nat_eq}
 use Rattle.std.specs.Fmt as std
 use Rattle.std.specs.List.{starts_with}
 use Rattle.std.specs.Str.{bytes_eq}
 use Rattle.std.proofs.lemmas.Bool.Decides.{Decides-eqb}
-use Rattle.std.proofs.lemmas.Fmt.{decimal_by_steps, decimal_digit}
+use Rattle.std.proofs.lemmas.Fmt.{decimal_by_steps}
 use Rattle.std.proofs.lemmas.Slice.Eq.{bytes_eq-Decides, starts_is}
 use Rattle.cacheability.specs.Decimal.{decimal}
 use Rattle.cacheability.specs.Tag.{tag_text}
@@ -27,6 +27,7 @@ same_decimal n small = sym (decimal_by_steps (λ m ds. decimal m ≡ ds) one mor
   where
     one : (m : ℕ) → m < 10 → decimal m ≡ (48 + m) ∷ []
     one m l = let last : m % 10 ≡ m = omega arith in decimal-small m l ∙ ap (λ d. (48 + d) ∷ []) last
+
     more : (m : ℕ) (ds : List ℕ) → 10 ≤ m → decimal (m / 10) ≡ ds → decimal m ≡ ds ++ (48 + m % 10) ∷ []
     more m ds l h = decimal-large m l ∙ ap (λ xs. xs ++ (48 + m % 10) ∷ []) h
 

@@ -30,7 +30,11 @@ fn value_of(alloc: Global, body: &[u8]) -> Result<Option<Value>, AllocError>
 }
 
 /// A right row, where the cell that it stands in is its own. `Err` only where memory is wanting.
-fn in_its_cell(alloc: Global, cell: &[u8], row: (Cell, Row)) -> Result<Option<(Cell, Row)>, AllocError>
+fn in_its_cell(
+    alloc: Global,
+    cell: &[u8],
+    row: (Cell, Row),
+) -> Result<Option<(Cell, Row)>, AllocError>
     requires { IsValidRow row.0 row.1 }
     ensures told { IfOk result (λ told. told ≡ in_its_cell cell.now (checked.Right row)) }
     ensures right { IfOk result (λ told. IfSome told (λ row. IsValidRow row.0 row.1)) }
@@ -56,7 +60,11 @@ fn row_told(alloc: Global, cell: &[u8], value: &Value) -> Result<Option<(Cell, R
 }
 
 /// The row of a cell that a body is, right by itself; none where it is none. `Err` only where memory is wanting.
-pub(crate) fn row_of(alloc: Global, cell: &[u8], body: &[u8]) -> Result<Option<(Cell, Row)>, AllocError>
+pub(crate) fn row_of(
+    alloc: Global,
+    cell: &[u8],
+    body: &[u8],
+) -> Result<Option<(Cell, Row)>, AllocError>
     ensures told { IfOk result (λ row. row ≡ row_of cell.now body.now) }
     ensures right { IfOk result (λ row. IfSome row (λ row. IsValidRow row.0 row.1)) }
 {

@@ -2,9 +2,9 @@
 ghost use Rattle.std.specs.Prelude.{◌≡◌, ◌≤◌, None, IfOk, false};
 ghost use Rattle.site_keeper.specs.Keeper.{CountsFault};
 
+use crate::body::body_of;
 use crate::fault::{NoKeeper, fault_of};
 use crate::number::{count_bytes, head_text};
-use crate::body::body_of;
 use crate::statements::{Writing, make_tables, prepare, remove_row, set_row, set_tag};
 use crate::stored::{read_head, read_stored};
 use cacheability::Tag;

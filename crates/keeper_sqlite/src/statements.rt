@@ -8,14 +8,23 @@ use sqlite::{Alter, Connection, Error, Row, Statement, Transaction};
 
 const MAKE_ROWS: &str =
     "CREATE TABLE IF NOT EXISTS cell_row(cell TEXT PRIMARY KEY, body TEXT NOT NULL)";
+
 const MAKE_TAGS: &str =
     "CREATE TABLE IF NOT EXISTS cachetags(tag TEXT PRIMARY KEY, invalidations BLOB NOT NULL)";
+
 const ALL_ROWS: &str = "SELECT cell, body FROM cell_row ORDER BY cell";
+
 const ALL_TAGS: &str = "SELECT tag, invalidations FROM cachetags ORDER BY tag";
+
 const ONE_ROW: &str = "SELECT body FROM cell_row WHERE cell = ?1";
-const SET_ROW: &str = "INSERT INTO cell_row (cell, body) VALUES (?1, ?2) ON CONFLICT (cell) DO UPDATE SET body = excluded.body";
+
+const SET_ROW: &str =
+    "INSERT INTO cell_row (cell, body) VALUES (?1, ?2) ON CONFLICT (cell) DO UPDATE SET body = excluded.body";
+
 const REMOVE_ROW: &str = "DELETE FROM cell_row WHERE cell = ?1";
-const SET_TAG: &str = "INSERT INTO cachetags (tag, invalidations) VALUES (?1, ?2) ON CONFLICT (tag) DO UPDATE SET invalidations = excluded.invalidations";
+
+const SET_TAG: &str =
+    "INSERT INTO cachetags (tag, invalidations) VALUES (?1, ?2) ON CONFLICT (tag) DO UPDATE SET invalidations = excluded.invalidations";
 
 /// The statements that write, prepared.
 #[derive(Drop)]

@@ -63,11 +63,7 @@ pub(crate) fn read_head<S: Alter + Drop>(
 }
 
 /// Takes the rows of the table of cells.
-fn take_rows(
-    alloc: Global,
-    stored: &mut Stored,
-    rows: &[sqlite::Row],
-) -> Result<(), KeeperFault>
+fn take_rows(alloc: Global, stored: &mut Stored, rows: &[sqlite::Row]) -> Result<(), KeeperFault>
     ensures { OnOk result (AreValidRows stored.old.rows → AreValidRows stored.new.rows) }
 {
     'rows: for row in rows {
@@ -83,12 +79,7 @@ fn take_rows(
 }
 
 /// Takes a row of the table of cells: a row of that cell, or the head.
-fn take_row(
-    alloc: Global,
-    stored: &mut Stored,
-    cell: &[u8],
-    body: &[u8],
-) -> Result<(), KeeperFault>
+fn take_row(alloc: Global, stored: &mut Stored, cell: &[u8], body: &[u8]) -> Result<(), KeeperFault>
     ensures told { OnOk result (with_entry_of stored.old cell.now body.now ≡ Some stored.new) }
     ensures right { OnOk result (AreValidRows stored.old.rows → AreValidRows stored.new.rows) }
     ensures fault { IsErrOf result KeeperFault.Failed → with_entry_of stored.old cell.now body.now ≡ None }

@@ -58,7 +58,10 @@ pub(crate) fn first(alloc: Global) -> Result<Batch, AllocError> {
     };
     Ok(Batch {
         commit: Arc::new(alloc, commit)?,
-        counts: Items::from_vec(vec![in alloc; (Tag::NodeList, 5), (Tag::User(0), 72_623_859_790_382_856)]?),
+        counts: Items::from_vec(vec![in alloc;
+            (Tag::NodeList, 5),
+            (Tag::User(0), 72_623_859_790_382_856),
+        ]?),
         head: 7,
     })
 }
@@ -91,7 +94,7 @@ pub(crate) fn second(alloc: Global) -> Result<Batch, AllocError> {
 }
 
 /// What a keeper holds.
-pub(crate) fn seen<K: Keeper>(alloc: Global, keeper: &mut K) -> Result<Seen, KeeperFault> {
+pub(crate) fn held_by<K: Keeper>(alloc: Global, keeper: &mut K) -> Result<Seen, KeeperFault> {
     let stored = keeper.load(alloc)?;
     Ok(in_short(&stored))
 }

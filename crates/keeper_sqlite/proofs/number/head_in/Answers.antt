@@ -1,8 +1,8 @@
-use Rattle.std.proofs.Common.{ℕ, List, ◌≡◌, ◌<◌, ◌^◌, sym, subst, ◌∙◌, ap, arith}
+use Rattle.std.proofs.Common.{ℕ, ◌≡◌, sym, ◌∙◌, ap}
 use Rattle.std.specs.Prelude.{Ok}
 use Rattle.std.specs.Fmt.{decimal}
 use Rattle.std.proofs.lemmas.Fmt.{parse-decimal}
-use Rattle.keeper_sqlite.proofs.Heads.{head_some, head_none, head_is_utf8}
+use Rattle.keeper_sqlite.proofs.Heads.{head_none, head_is_utf8}
 use Rattle.keeper_sqlite.proofs.number.head_in.Goals as goal
 
 pub returns-in_default : goal.returns-in_default

@@ -1,4 +1,4 @@
-use Rattle.std.proofs.Common.{◌∙◌, sym}
+use Rattle.std.proofs.Common.{sym}
 use Rattle.keeper_sqlite.proofs.TagTexts.{is_word, is_named, is_placed, is_numbered}
 use Rattle.keeper_sqlite.proofs.tag.tag_of.Goals as goal
 
