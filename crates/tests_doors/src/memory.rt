@@ -1,5 +1,5 @@
 //! A door in memory.
-ghost use Rattle.std.specs.Prelude.{◌≡◌, false};
+ghost use Rattle.std.specs.Prelude.{◌≡◌, false, IfOk};
 
 use site_io::{Door, Ended, MemoryDoor, MemorySink, MemorySource, Sink, Source};
 use std::alloc::{AllocError, Global};
@@ -10,7 +10,9 @@ fn connection(alloc: Global, input: &[u8]) -> Result<(MemorySource, MemorySink),
 }
 
 // A door with the connections of these inputs, whose calls with these numbers fail.
-fn door(alloc: Global, inputs: &[&[u8]], failing: &[u64]) -> Result<MemoryDoor, AllocError> {
+fn door(alloc: Global, inputs: &[&[u8]], failing: &[u64]) -> Result<MemoryDoor, AllocError>
+    ensures { IfOk result (λ door. door.is_out ≡ false) }
+{
     let mut connections = Vec::new(alloc);
     for input in inputs {
         connections.push(connection(alloc, input)?)?;
