@@ -6,8 +6,8 @@ use Rattle.site_io.specs.Told.{Rose}
 use Rattle.site_io.specs.Doors.{Line, Back, IsNext, later_lines, and_back}
 use Rattle.site_house.specs.History.{History, newest}
 use Rattle.site_http.specs.Connection.{Around, Connection}
-use Rattle.site_http.specs.declared.work.Worked.{Worked}
-use Rattle.site_http.specs.declared.work.Worked.TheVariants as worked
+use Rattle.site_http.specs.declared.worker.Worked.{Worked}
+use Rattle.site_http.specs.declared.worker.Worked.TheVariants as worked
 
 -- What a worker takes from and adds to: the connections that are to come and those that were given back, where the door tells
 -- them; the moments and words that were given, and the points that were told; the edits that were handed in, and how often one

@@ -2,7 +2,7 @@ use Rattle.std.proofs.Common.{◌≡◌, false}
 use Rattle.site_house.specs.House.{Moves, history_of}
 use Rattle.site_io.specs.Series.{GivesInTurn, last_moment, last_word}
 use Rattle.site_http.specs.Work.{ServesBetween}
-use Rattle.site_http.proofs.work.work.Given as goal
+use Rattle.site_http.proofs.worker.work.Given as goal
 
 abbrev pub invariant-connections : goal.invariant-connections
 invariant-connections g l = record {
