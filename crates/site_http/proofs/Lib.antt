@@ -8,3 +8,4 @@ mod Progress
 mod Ends
 mod Longer
 mod Failing
+mod Working

@@ -3,3 +3,4 @@ pub mod Reply
 pub mod Fixed
 pub mod Connection
 pub mod Turn
+pub mod Work

@@ -20,8 +20,8 @@ use std::alloc::Global;
 /// request that asked to close; `Spent` after the 1,000th reply; `Refused` after the reply with its code (RFC 9112,
 /// sections 9.3 and 9.6); `ReadFault` and `WriteFault` exactly where the source's or the sink's count of faults rose;
 /// `OutOfMemory` where memory was wanting to read a request. The runtime is lent for what waits; nothing here does.
-pub fn serve_connection<H: House, S: Source, O: Sink, C: Clock, E: Entropy, G: Gate>(
-    _rt: &HostRuntime,
+pub fn serve_connection<R, H: House, S: Source, O: Sink, C: Clock, E: Entropy, G: Gate>(
+    _rt: &R,
     alloc: Global,
     house: &mut H,
     source: &mut S,

@@ -9,9 +9,11 @@ mod refusal;
 mod reply;
 mod shown;
 mod turn;
+mod worker;
 
 pub use connection::{connection_grows, requests_are_asks, serve_connection};
 pub use http_heads::{
     CookieOut, Media, Octets, Parsed, ReplyHead, Request, Version, is_reply_status, parse,
     reply_head,
 };
+pub use worker::{Worked, work};

@@ -1,0 +1,5 @@
+//! Tests of workers, by public calls alone.
+#![tactic(auto)]
+
+#[cfg(test)]
+mod workers;
