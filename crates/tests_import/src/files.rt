@@ -1,7 +1,8 @@
 //! Files of rows, imported and written.
 
 use crate::lines::{
-    ADMIN, ANONYMOUS, CHANGED, CHANGED_LOOSELY, FIRST, HOME, MEMBER, PAGE, RENAMED, SEQ, SEQ_TOO_LOW, SITE,
+    ADMIN, ANONYMOUS, CHANGED, CHANGED_LOOSELY, FIRST, HOME, MEMBER, PAGE, RENAMED, SEQ,
+    SEQ_TOO_LOW, SITE,
 };
 use cacheability::Tag;
 use content_rows::Cell;
@@ -121,27 +122,126 @@ fn imports(rt: HostRuntime) -> Result<(), Fail> {
     let both: &[Tag] = &[Tag::Node(1), Tag::Site];
     let lists: &[Tag] = &[Tag::NodeList];
     let starter: &[&[u8]] = &[SITE, SEQ, PAGE, ANONYMOUS, MEMBER, ADMIN, FIRST, HOME];
-    let seq_too_low: &[&[u8]] = &[SITE, SEQ_TOO_LOW, PAGE, ANONYMOUS, MEMBER, ADMIN, FIRST, HOME];
+    let seq_too_low: &[&[u8]] = &[
+        SITE,
+        SEQ_TOO_LOW,
+        PAGE,
+        ANONYMOUS,
+        MEMBER,
+        ADMIN,
+        FIRST,
+        HOME,
+    ];
     let backwards: &[&[u8]] = &[HOME, FIRST, ADMIN, MEMBER, ANONYMOUS, PAGE, SEQ, SITE];
     let cases = [
-        Case { lines: starter, onto_site: false, full: none, found: Found::Rows(8, 8) },
-        Case { lines: starter, onto_site: true, full: none, found: Found::Rows(8, 0) },
-        Case { lines: backwards, onto_site: false, full: none, found: Found::Rows(8, 8) },
-        Case { lines: &[CHANGED_LOOSELY], onto_site: true, full: none, found: Found::Rows(1, 0) },
-        Case { lines: &[CHANGED, SEQ], onto_site: true, full: none, found: Found::Rows(2, 1) },
-        Case { lines: &[], onto_site: true, full: none, found: Found::Rows(0, 0) },
-        Case { lines: &[SITE], onto_site: false, full: none, found: Found::Cell(Cell::Seq, SiteRule::Missing, SiteField::Cell) },
-        Case { lines: &[], onto_site: false, full: none, found: Found::Cell(Cell::Site, SiteRule::Missing, SiteField::Cell) },
-        Case { lines: seq_too_low, onto_site: false, full: none, found: Found::Cell(Cell::Seq, SiteRule::Range, SiteField::Node) },
-        Case { lines: &[SEQ_TOO_LOW], onto_site: true, full: none, found: Found::Cell(Cell::Seq, SiteRule::Range, SiteField::Node) },
-        Case { lines: &[SITE, SEQ, b"{\n", PAGE], onto_site: false, full: none, found: Found::Line(3, None) },
-        Case { lines: &[SITE, SEQ, PAGE, SITE], onto_site: false, full: none, found: Found::Line(4, Some(Rule::Twice)) },
-        Case { lines: &[CHANGED], onto_site: true, full: node, found: Found::Full(Cell::Node(1)) },
-        Case { lines: &[CHANGED], onto_site: true, full: lists, found: Found::Full(Cell::Node(1)) },
-        Case { lines: &[CHANGED, RENAMED], onto_site: true, full: both, found: Found::Full(Cell::Site) },
-        Case { lines: starter, onto_site: true, full: both, found: Found::Rows(8, 0) },
-        Case { lines: starter, onto_site: false, full: node, found: Found::Full(Cell::Node(1)) },
-        Case { lines: &[CHANGED, SEQ_TOO_LOW], onto_site: true, full: node, found: Found::Cell(Cell::Seq, SiteRule::Range, SiteField::Node) },
+        Case {
+            lines: starter,
+            onto_site: false,
+            full: none,
+            found: Found::Rows(8, 8),
+        },
+        Case {
+            lines: starter,
+            onto_site: true,
+            full: none,
+            found: Found::Rows(8, 0),
+        },
+        Case {
+            lines: backwards,
+            onto_site: false,
+            full: none,
+            found: Found::Rows(8, 8),
+        },
+        Case {
+            lines: &[CHANGED_LOOSELY],
+            onto_site: true,
+            full: none,
+            found: Found::Rows(1, 0),
+        },
+        Case {
+            lines: &[CHANGED, SEQ],
+            onto_site: true,
+            full: none,
+            found: Found::Rows(2, 1),
+        },
+        Case {
+            lines: &[],
+            onto_site: true,
+            full: none,
+            found: Found::Rows(0, 0),
+        },
+        Case {
+            lines: &[SITE],
+            onto_site: false,
+            full: none,
+            found: Found::Cell(Cell::Seq, SiteRule::Missing, SiteField::Cell),
+        },
+        Case {
+            lines: &[],
+            onto_site: false,
+            full: none,
+            found: Found::Cell(Cell::Site, SiteRule::Missing, SiteField::Cell),
+        },
+        Case {
+            lines: seq_too_low,
+            onto_site: false,
+            full: none,
+            found: Found::Cell(Cell::Seq, SiteRule::Range, SiteField::Node),
+        },
+        Case {
+            lines: &[SEQ_TOO_LOW],
+            onto_site: true,
+            full: none,
+            found: Found::Cell(Cell::Seq, SiteRule::Range, SiteField::Node),
+        },
+        Case {
+            lines: &[SITE, SEQ, b"{\n", PAGE],
+            onto_site: false,
+            full: none,
+            found: Found::Line(3, None),
+        },
+        Case {
+            lines: &[SITE, SEQ, PAGE, SITE],
+            onto_site: false,
+            full: none,
+            found: Found::Line(4, Some(Rule::Twice)),
+        },
+        Case {
+            lines: &[CHANGED],
+            onto_site: true,
+            full: node,
+            found: Found::Full(Cell::Node(1)),
+        },
+        Case {
+            lines: &[CHANGED],
+            onto_site: true,
+            full: lists,
+            found: Found::Full(Cell::Node(1)),
+        },
+        Case {
+            lines: &[CHANGED, RENAMED],
+            onto_site: true,
+            full: both,
+            found: Found::Full(Cell::Site),
+        },
+        Case {
+            lines: starter,
+            onto_site: true,
+            full: both,
+            found: Found::Rows(8, 0),
+        },
+        Case {
+            lines: starter,
+            onto_site: false,
+            full: node,
+            found: Found::Full(Cell::Node(1)),
+        },
+        Case {
+            lines: &[CHANGED, SEQ_TOO_LOW],
+            onto_site: true,
+            full: node,
+            found: Found::Cell(Cell::Seq, SiteRule::Range, SiteField::Node),
+        },
     ];
     for case in &cases {
         assert!(rt; is_found(rt.alloc(), case)?);
@@ -196,7 +296,10 @@ fn file_after(alloc: Global, lines: &[&[u8]]) -> Result<Vec<u8>, Fail> {
 fn rows_are_set(rt: HostRuntime) -> Result<(), Fail> {
     let alloc = rt.alloc();
     let after = file_after(alloc, &[CHANGED, RENAMED])?;
-    let wanted = joined(alloc, &[RENAMED, SEQ, PAGE, ANONYMOUS, MEMBER, ADMIN, CHANGED, HOME])?;
+    let wanted = joined(
+        alloc,
+        &[RENAMED, SEQ, PAGE, ANONYMOUS, MEMBER, ADMIN, CHANGED, HOME],
+    )?;
     assert!(rt; after.as_slice() == wanted.as_slice());
     Ok(())
 }
