@@ -1,7 +1,9 @@
 //! Files of rows, imported and written.
 
 use crate::lines::{
-    ADMIN, ANONYMOUS, CHANGED, CHANGED_LOOSELY, FIRST, HOME, MEMBER, PAGE, RENAMED, SEQ, SEQ_TOO_LOW, SITE,
+    ADMIN, ANONYMOUS, BACKWARDS, CHANGED, CHANGED_AND_RENAMED, CHANGED_AND_SAME,
+    CHANGED_AND_TOO_LOW, CHANGED_LOOSELY, HOME, MEMBER, PAGE, RENAMED, SEQ, SEQ_TOO_LOW, SITE,
+    SITE_TWICE, THIRD_IS_NONE, TOO_LOW_AND_NODE,
 };
 use cacheability::Tag;
 use content_rows::Cell;
@@ -32,17 +34,17 @@ enum Found {
     OutOfMemory,
 }
 
-/// A file, and what an import of it finds.
-#[derive(Drop)]
-struct Case<'a> {
-    /// Its lines.
-    lines: &'a [&'a [u8]],
-    /// Whether it is imported onto the new site, or onto nothing.
-    onto_site: bool,
-    /// The tags whose counts are the greatest there are.
-    full: &'a [Tag],
-    /// What is found.
-    found: Found,
+/// Which counts are the greatest there are.
+#[derive(Clone, Copy, Debug, PartialEq, Eq)]
+enum Full {
+    /// None.
+    Nothing,
+    /// That of the first node.
+    Node,
+    /// That of the list of nodes.
+    Nodes,
+    /// That of the first node, and that of the site's settings.
+    NodeAndSite,
 }
 
 /// These lines one after the other.
@@ -54,11 +56,17 @@ fn joined(alloc: Global, lines: &[&[u8]]) -> Result<Vec<u8>, AllocError> {
     Ok(bytes)
 }
 
-/// Counts of which those of these tags are the greatest there are.
-fn counts_full_of(alloc: Global, tags: &[Tag]) -> Result<Counts, AllocError> {
+/// Counts of which these are the greatest there are.
+fn counts_with(alloc: Global, full: Full) -> Result<Counts, AllocError> {
     let mut counts = Counts::new(alloc);
-    for tag in tags {
-        counts.set(tag, u64::MAX)?;
+    match full {
+        Full::Nothing => {}
+        Full::Node => counts.set(&Tag::Node(1), u64::MAX)?,
+        Full::Nodes => counts.set(&Tag::NodeList, u64::MAX)?,
+        Full::NodeAndSite => {
+            counts.set(&Tag::Node(1), u64::MAX)?;
+            counts.set(&Tag::Site, u64::MAX)?;
+        }
     }
     Ok(counts)
 }
@@ -92,10 +100,15 @@ fn rule_of(fault: &LineFault) -> Option<Rule> {
     }
 }
 
-/// What an import of a file finds.
-fn found_by(alloc: Global, source: &mut MemorySource, case: &Case<'_>) -> Result<Found, Fail> {
-    let counts = counts_full_of(alloc, case.full)?;
-    let imported = if case.onto_site {
+/// What an import of a source finds, onto the new site or onto nothing.
+fn found_by(
+    alloc: Global,
+    source: &mut MemorySource,
+    onto_site: bool,
+    full: Full,
+) -> Result<Found, Fail> {
+    let counts = counts_with(alloc, full)?;
+    let imported = if onto_site {
         let site = new_site(alloc, counts)?;
         import(alloc, source, Onto::Site(&site))
     } else {
@@ -107,44 +120,61 @@ fn found_by(alloc: Global, source: &mut MemorySource, case: &Case<'_>) -> Result
     })
 }
 
-/// Whether an import finds what it is to find.
-fn is_found(alloc: Global, case: &Case<'_>) -> Result<bool, Fail> {
-    let mut source = MemorySource::new(joined(alloc, case.lines)?, 7);
-    let found = found_by(alloc, &mut source, case)?;
-    Ok(found == case.found)
+/// What an import of a file finds, which comes in pieces of seven bytes.
+fn found_in(alloc: Global, file: &[u8], onto_site: bool, full: Full) -> Result<Found, Fail> {
+    let mut source = MemorySource::new(Vec::from_slice(alloc, file)?, 7);
+    found_by(alloc, &mut source, onto_site, full)
+}
+
+/// The ids that are next are missing.
+const NO_SEQ: Found = Found::Cell(Cell::Seq, SiteRule::Missing, SiteField::Cell);
+
+/// The settings of the site are missing.
+const NO_SITE: Found = Found::Cell(Cell::Site, SiteRule::Missing, SiteField::Cell);
+
+/// The id of the next node is too low.
+const TOO_LOW: Found = Found::Cell(Cell::Seq, SiteRule::Range, SiteField::Node);
+
+#[test]
+fn imports_onto_nothing(rt: HostRuntime) -> Result<(), Fail> {
+    // the file, the counts that are full, and what is found
+    let cases: [(&[u8], Full, Found); 8] = [
+        (STARTER, Full::Nothing, Found::Rows(8, 8)),
+        (BACKWARDS, Full::Nothing, Found::Rows(8, 8)),
+        (SITE, Full::Nothing, NO_SEQ),
+        (b"", Full::Nothing, NO_SITE),
+        (TOO_LOW_AND_NODE, Full::Nothing, TOO_LOW),
+        (THIRD_IS_NONE, Full::Nothing, Found::Line(3, None)),
+        (SITE_TWICE, Full::Nothing, Found::Line(4, Some(Rule::Twice))),
+        (STARTER, Full::Node, Found::Full(Cell::Node(1))),
+    ];
+    for (file, full, found) in &cases {
+        assert!(rt; found_in(rt.alloc(), file, false, *full)? == *found);
+    }
+    Ok(())
 }
 
 #[test]
-fn imports(rt: HostRuntime) -> Result<(), Fail> {
-    let none: &[Tag] = &[];
-    let node: &[Tag] = &[Tag::Node(1)];
-    let both: &[Tag] = &[Tag::Node(1), Tag::Site];
-    let lists: &[Tag] = &[Tag::NodeList];
-    let starter: &[&[u8]] = &[SITE, SEQ, PAGE, ANONYMOUS, MEMBER, ADMIN, FIRST, HOME];
-    let seq_too_low: &[&[u8]] = &[SITE, SEQ_TOO_LOW, PAGE, ANONYMOUS, MEMBER, ADMIN, FIRST, HOME];
-    let backwards: &[&[u8]] = &[HOME, FIRST, ADMIN, MEMBER, ANONYMOUS, PAGE, SEQ, SITE];
-    let cases = [
-        Case { lines: starter, onto_site: false, full: none, found: Found::Rows(8, 8) },
-        Case { lines: starter, onto_site: true, full: none, found: Found::Rows(8, 0) },
-        Case { lines: backwards, onto_site: false, full: none, found: Found::Rows(8, 8) },
-        Case { lines: &[CHANGED_LOOSELY], onto_site: true, full: none, found: Found::Rows(1, 0) },
-        Case { lines: &[CHANGED, SEQ], onto_site: true, full: none, found: Found::Rows(2, 1) },
-        Case { lines: &[], onto_site: true, full: none, found: Found::Rows(0, 0) },
-        Case { lines: &[SITE], onto_site: false, full: none, found: Found::Cell(Cell::Seq, SiteRule::Missing, SiteField::Cell) },
-        Case { lines: &[], onto_site: false, full: none, found: Found::Cell(Cell::Site, SiteRule::Missing, SiteField::Cell) },
-        Case { lines: seq_too_low, onto_site: false, full: none, found: Found::Cell(Cell::Seq, SiteRule::Range, SiteField::Node) },
-        Case { lines: &[SEQ_TOO_LOW], onto_site: true, full: none, found: Found::Cell(Cell::Seq, SiteRule::Range, SiteField::Node) },
-        Case { lines: &[SITE, SEQ, b"{\n", PAGE], onto_site: false, full: none, found: Found::Line(3, None) },
-        Case { lines: &[SITE, SEQ, PAGE, SITE], onto_site: false, full: none, found: Found::Line(4, Some(Rule::Twice)) },
-        Case { lines: &[CHANGED], onto_site: true, full: node, found: Found::Full(Cell::Node(1)) },
-        Case { lines: &[CHANGED], onto_site: true, full: lists, found: Found::Full(Cell::Node(1)) },
-        Case { lines: &[CHANGED, RENAMED], onto_site: true, full: both, found: Found::Full(Cell::Site) },
-        Case { lines: starter, onto_site: true, full: both, found: Found::Rows(8, 0) },
-        Case { lines: starter, onto_site: false, full: node, found: Found::Full(Cell::Node(1)) },
-        Case { lines: &[CHANGED, SEQ_TOO_LOW], onto_site: true, full: node, found: Found::Cell(Cell::Seq, SiteRule::Range, SiteField::Node) },
+fn imports_onto_the_site(rt: HostRuntime) -> Result<(), Fail> {
+    // the file, the counts that are full, and what is found
+    let cases: [(&[u8], Full, Found); 10] = [
+        (STARTER, Full::Nothing, Found::Rows(8, 0)),
+        (CHANGED_LOOSELY, Full::Nothing, Found::Rows(1, 0)),
+        (CHANGED_AND_SAME, Full::Nothing, Found::Rows(2, 1)),
+        (b"", Full::Nothing, Found::Rows(0, 0)),
+        (SEQ_TOO_LOW, Full::Nothing, TOO_LOW),
+        (CHANGED, Full::Node, Found::Full(Cell::Node(1))),
+        (CHANGED, Full::Nodes, Found::Full(Cell::Node(1))),
+        (
+            CHANGED_AND_RENAMED,
+            Full::NodeAndSite,
+            Found::Full(Cell::Site),
+        ),
+        (STARTER, Full::NodeAndSite, Found::Rows(8, 0)),
+        (CHANGED_AND_TOO_LOW, Full::Node, TOO_LOW),
     ];
-    for case in &cases {
-        assert!(rt; is_found(rt.alloc(), case)?);
+    for (file, full, found) in &cases {
+        assert!(rt; found_in(rt.alloc(), file, true, *full)? == *found);
     }
     Ok(())
 }
@@ -153,15 +183,9 @@ fn imports(rt: HostRuntime) -> Result<(), Fail> {
 #[test]
 fn sources_that_fail(rt: HostRuntime) -> Result<(), Fail> {
     let alloc = rt.alloc();
-    let case = Case {
-        lines: &[],
-        onto_site: true,
-        full: &[],
-        found: Found::Source,
-    };
     let source = MemorySource::new(Vec::from_slice(alloc, STARTER)?, 100);
     let mut failing = source.failing_at(vec![in alloc; 2]?);
-    assert!(rt; found_by(alloc, &mut failing, &case)? == case.found);
+    assert!(rt; found_by(alloc, &mut failing, true, Full::Nothing)? == Found::Source);
     Ok(())
 }
 
@@ -196,7 +220,10 @@ fn file_after(alloc: Global, lines: &[&[u8]]) -> Result<Vec<u8>, Fail> {
 fn rows_are_set(rt: HostRuntime) -> Result<(), Fail> {
     let alloc = rt.alloc();
     let after = file_after(alloc, &[CHANGED, RENAMED])?;
-    let wanted = joined(alloc, &[RENAMED, SEQ, PAGE, ANONYMOUS, MEMBER, ADMIN, CHANGED, HOME])?;
+    let wanted = joined(
+        alloc,
+        &[RENAMED, SEQ, PAGE, ANONYMOUS, MEMBER, ADMIN, CHANGED, HOME],
+    )?;
     assert!(rt; after.as_slice() == wanted.as_slice());
     Ok(())
 }
