@@ -1,6 +1,6 @@
 //! The house of a caller that is alone with a site.
 ghost use Rattle.std.specs.Prelude.{◌≡◌, IfOk};
-ghost use Rattle.content_state.specs.SiteRules.{IsValidState};
+ghost use Rattle.content_state.specs.SiteRules.{AreValidRows, IsValidState};
 ghost use Rattle.site_keeper.specs.Steps.{stored_of};
 ghost use Rattle.site_hall.specs.Alone.{house_of};
 ghost use Rattle.site_cli.specs.House.{opened_on};
@@ -12,7 +12,9 @@ use std::alloc::{AllocError, Global};
 
 /// All that a keeper holds of a state.
 fn stored(alloc: Global, state: &State) -> Result<Stored, AllocError>
-    ensures { IfOk result (λ stored. stored ≡ stored_of state.now) }
+    requires { AreValidRows state.now.rows }
+    ensures same { IfOk result (λ stored. stored ≡ stored_of state.now) }
+    ensures right { IfOk result (λ stored. AreValidRows stored.rows) }
 {
     Ok(Stored {
         rows: state.rows().duplicate(alloc)?,

@@ -7,6 +7,7 @@ use Rattle.std.proofs.lemmas.List.{take-append-le}
 use Rattle.std.proofs.lemmas.List.Sums.{fold-append}
 use Rattle.content_state.specs.State.{State}
 use Rattle.content_state.specs.Replay.{step, replay}
+use Rattle.content_state.specs.SiteRules.{AreValidRows}
 use Rattle.content_state.specs.declared.commit.Commit.{Commit}
 use Rattle.site_keeper.specs.Batch.{Batch}
 use Rattle.site_keeper.specs.Keeper.{Kept, IfTold, held_of, and_batch, with_batch}
@@ -39,6 +40,14 @@ pub log_held : (opened : Option Kept) (base : State) (log : List Commit) → Hol
 unfolding replay
 log_held opened base [] held = held
 log_held opened base (c ∷ cs) held = log_held (and_batch opened (batch_of base c)) (step base c) cs (step_held opened base c held)
+
+-- once the batch of an edit is kept, the rows that are held are right, where those of the state after it are
+pub right_next : (kept : Option Kept) (state : State) (batch : Batch) (c : Commit) → HoldsState kept state → batch ≡ batch_of state c → AreValidRows (step state c).rows
+    → IfTold kept (λ held. AreValidRows (with_batch held batch).rows)
+right_next None state batch c held is right = tt
+right_next (Some kept) state batch c held is right =
+    let after = ap (with_batch (held_of kept)) is ∙ ap (λ (s : Stored). with_batch s (batch_of state c)) held ∙ keeps_step state c in
+    subst (λ (s : Stored). AreValidRows s.rows) (sym after) right
 
 -- one edit more
 pub kept_more : (opened : Option Kept) (base : State) (log : List Commit) (c : Commit)

@@ -6,9 +6,9 @@ use Rattle.std.proofs.lemmas.List.{take_all}
 use Rattle.std.proofs.lemmas.List.Elements.{All-nil}
 use Rattle.content_state.specs.State.{State}
 use Rattle.content_state.specs.Replay.{step, replay, IsCommit}
-use Rattle.content_state.specs.SiteRules.{IsValidState}
+use Rattle.content_state.specs.SiteRules.{AreValidRows, IsValidState}
 use Rattle.content_state.specs.declared.commit.Commit.{Commit}
-use Rattle.site_keeper.specs.Keeper.{Kept, IfTold, held_of, and_batch, CountsFault, LeavesBatch}
+use Rattle.site_keeper.specs.Keeper.{Kept, IfTold, held_of, with_batch, and_batch, CountsFault, LeavesBatch}
 use Rattle.site_keeper.specs.Steps.{batch_of}
 use Rattle.site_keeper.specs.declared.stored.Stored.{Stored}
 use Rattle.site_keeper.specs.declared.fault.KeeperFault.{KeeperFault}
@@ -22,7 +22,7 @@ use Rattle.site_hall.specs.Within.{view_of, told_before, HasPlace, IsWhole}
 use Rattle.site_hall.specs.Opened.{state_in, opened_with}
 use Rattle.site_hall.specs.Ready.{newest_of_hall, MayBeNext, LeavesPending, IsPending, published}
 use Rattle.site_hall.proofs.Logs.{number_after, valid_more, valid_front}
-use Rattle.site_hall.proofs.Batches.{HoldsState, log_held, kept_more, at_true, at_false, settled_kept, told_first, told_stays}
+use Rattle.site_hall.proofs.Batches.{HoldsState, log_held, right_next, kept_more, at_true, at_false, settled_kept, told_first, told_stays}
 
 abbrev pub hall_of : State → List Commit → Option Commit → Option Kept → Option Kept → ℕ → Bool → HallView
 hall_of base log pending opened kept faults steadfast =
@@ -187,6 +187,11 @@ keeps_log hall h none = elim both [
 newest_held : (hall : HallView) → IsHall hall → hall.pending ≡ None → HoldsState hall.kept (newest_of_hall hall)
 newest_held hall h none =
     subst (λ (k : Option Kept). HoldsState k (newest_of_hall hall)) (sym (keeps_log hall h none)) (log_held hall.opened hall.base hall.log h.loaded)
+
+-- and once the batch of an edit is kept, the rows that it holds are right
+pub right_after : (hall : HallView) (ready : Ready) → IsHall hall → MayBeNext hall ready → IfTold hall.kept (λ held. AreValidRows (with_batch held ready.batch).rows)
+right_after hall ready h next =
+    right_next hall.kept (newest_of_hall hall) ready.batch ready.batch.commit (newest_held hall h next.none_pending) (ap (λ (r : Ready). r.batch) next.of_newest) next.valid.rows
 
 -- what was told before goes on to be
 told_on : (log : Log) (pending : Option Made) (kept : Option Kept) (faults : ℕ) (steadfast : Bool) (ready : Ready) → IsHall (view_of log pending kept faults steadfast) → MayBeNext (view_of log pending kept faults steadfast) ready

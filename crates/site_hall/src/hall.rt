@@ -16,6 +16,7 @@ use crate::judging::judged;
 use crate::log::Log;
 use crate::making::{Ready, made_ready};
 use crate::stop::Stop;
+use crate::tally::Tally;
 use content_state::{Ask, Refusal, Refused, State};
 use edit_laws::{verdicts_keep_valid, viewers_are_there};
 use site_commands::{Answer, Command, Verdict};
@@ -153,6 +154,17 @@ impl<K: Keeper> Hall<K> {
         ensures { result ≡ is_some self.now.pending }
     {
         self.pending.is_some()
+    }
+
+    /// How often something was looked for among what is kept of pages: never, since the hall keeps nothing of them.
+    pub fn tally(&self) -> Tally
+        ensures { result ≡ record { looks = 0; found = 0; kept = 0 } }
+    {
+        Tally {
+            looks: 0,
+            found: 0,
+            kept: 0,
+        }
     }
 
     /// The keeper, as it is.

@@ -9,6 +9,8 @@ mod judging;
 mod log;
 mod making;
 mod stop;
+mod tally;
 
 pub use alone::Alone;
 pub use hall::{Hall, NoHall};
+pub use tally::Tally;

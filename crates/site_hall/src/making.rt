@@ -1,20 +1,16 @@
 //! What it takes to keep an edit and to publish it, made before it is kept.
 ghost use Rattle.std.specs.Prelude.{◌≡◌, ◌<◌, ◌^◌, None, IfOk};
 ghost use Rattle.std.specs.Arc.{arc_value};
-ghost use Rattle.state_commits.specs.Apply.{first_full, full_tag};
-ghost use Rattle.site_keeper.specs.Steps.{raised};
+ghost use Rattle.state_commits.specs.Apply.{full_tag};
 ghost use Rattle.site_hall.specs.ReadyEdit.{ready_of};
 
-use cacheability::Tag;
-use content_rows::Items;
 use content_state::{Commit, State};
 use site_commands::Done;
-use site_keeper::Batch;
-use state_commits::{ApplyFault, apply, tags_of_commit};
+use site_keeper::{Batch, batch_over};
+use state_commits::{ApplyFault, apply};
 use std::alloc::{AllocError, Global};
 use std::marker::Model;
 use std::sync::Arc;
-use tag_counts::Counts;
 
 /// An accepted edit, with all that it takes to keep and to publish it.
 #[derive(Drop)]
@@ -51,29 +47,10 @@ pub(crate) fn made_ready(
         Err(ApplyFault::CountFull(_)) => unreachable!(),
         Err(ApplyFault::OutOfMemory) => return Err(AllocError),
     };
-    let tags = tags_of_commit(alloc, state.rows(), &commit)?;
-    let counts = raised(alloc, state.counts(), tags.as_slice())?;
-    let batch = Batch {
-        commit,
-        counts,
-        head: after.number(),
-    };
+    let batch = batch_over(alloc, state.rows(), state.counts(), state.number(), commit)?;
     Ok(Ready {
         batch,
         done,
         state: after,
     })
-}
-
-/// Each of these tags, none of which has the greatest count, with one more than its count. `Err` only where memory is
-/// wanting.
-fn raised(alloc: Global, counts: &Counts, tags: &[Tag]) -> Result<Items<(Tag, u64)>, AllocError>
-    requires { first_full counts.now tags.now ≡ None }
-    ensures { IfOk result (λ entries. entries ≡ raised counts.now tags.now) }
-{
-    let mut entries = Vec::new(alloc);
-    'tags: for tag in tags {
-        entries.push((*tag, counts.count(tag) + 1))?;
-    }
-    Ok(Items::from_vec(entries))
 }

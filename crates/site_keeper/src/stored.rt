@@ -1,7 +1,8 @@
 //! All that a keeper holds.
-ghost use Rattle.std.specs.Prelude.{◌≡◌, IfOk, OnOk};
+ghost use Rattle.std.specs.Prelude.{◌≡◌, ◌↔◌, IfOk, OnOk, IsTrue};
 ghost use Rattle.std.specs.List.{fold};
 ghost use Rattle.content_state.specs.Replay.{written};
+ghost use Rattle.content_state.specs.SiteRules.{AreValidRows};
 ghost use Rattle.site_keeper.specs.Keeper.{with_batch, with_entry};
 
 use crate::batch::Batch;
@@ -32,6 +33,15 @@ impl Stored {
             counts: self.counts.duplicate(alloc)?,
             head: self.head,
         })
+    }
+
+    /// Whether each row is right by itself, once a batch is kept. `Err` only where memory is wanting.
+    pub fn is_right_with(&self, alloc: Global, batch: &Batch) -> Result<bool, AllocError>
+        ensures { IfOk result (λ right. IsTrue right ↔ AreValidRows (with_batch self.now batch.now).rows) }
+    {
+        let mut after = self.duplicate(alloc)?;
+        after.keep(batch)?;
+        Ok(after.rows.are_right())
     }
 
     /// Keeps a batch. `Err` only where memory is wanting, and then a part of it may be kept.

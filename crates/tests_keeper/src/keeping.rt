@@ -1,4 +1,8 @@
 //! What a keeper in memory holds as it is made, once a batch is kept, and where calls fail.
+ghost use Rattle.std.specs.Prelude.{IfOk};
+ghost use Rattle.content_state.specs.SiteRules.{AreValidRows};
+ghost use Rattle.site_keeper.specs.Keeper.{held_of, with_batch};
+
 use cacheability::Tag;
 use content_rows::{Cell, Items, Row, Seq, starter};
 use content_state::{Commit, Rows, Write};
@@ -21,18 +25,18 @@ fn rows(alloc: Global) -> Result<Rows, AllocError> {
 }
 
 // A site as it begins.
-fn stored(alloc: Global) -> Result<Stored, AllocError> {
+fn stored(alloc: Global) -> Result<Stored, AllocError>
+    ensures { IfOk result (λ stored. AreValidRows stored.rows) }
+{
+    let rows = rows(alloc)?;
+    if !rows.are_right() {
+        return Err(AllocError);
+    }
     Ok(Stored {
-        rows: rows(alloc)?,
+        rows,
         counts: Counts::new(alloc),
         head: 0,
     })
-}
-
-fn keeper(alloc: Global, fails: &[Fail]) -> Result<MemoryKeeper, AllocError> {
-    let stored = stored(alloc)?;
-    let fails = Vec::from_slice(alloc, fails)?;
-    Ok(MemoryKeeper::new(alloc, stored, fails))
 }
 
 // An edit by which the next node is 3, and the user 1 is gone.
@@ -67,6 +71,19 @@ fn batch(alloc: Global) -> Result<Batch, AllocError> {
     })
 }
 
+// A keeper whose calls with these numbers are to fail, and the batch.
+fn keeper(alloc: Global, fails: &[Fail]) -> Result<(MemoryKeeper, Batch), AllocError>
+    ensures { IfOk result (λ both. AreValidRows (with_batch (held_of both.0.kept) both.1).rows) }
+{
+    let stored = stored(alloc)?;
+    let batch = batch(alloc)?;
+    if !stored.is_right_with(alloc, &batch)? {
+        return Err(AllocError);
+    }
+    let fails = Vec::from_slice(alloc, fails)?;
+    Ok((MemoryKeeper::new(alloc, stored, fails), batch))
+}
+
 // The id of the next node.
 fn next_node(stored: &Stored) -> Option<u32> {
     match stored.rows.get(Cell::Seq) {
@@ -88,8 +105,7 @@ fn is_as(stored: &Stored, kept: bool) -> bool {
 #[test]
 fn a_batch_is_kept(rt: HostRuntime) {
     let alloc = rt.alloc();
-    let mut keeper = keeper(alloc, &[]).expect(&rt, "memory");
-    let batch = batch(alloc).expect(&rt, "memory");
+    let (mut keeper, batch) = keeper(alloc, &[]).expect(&rt, "memory");
     sendable(&keeper);
     sendable(&batch);
     let first = keeper.load(alloc).expect(&rt, "it doesn't fail");
@@ -106,8 +122,8 @@ fn a_batch_is_kept(rt: HostRuntime) {
 fn an_apply_fails(rt: HostRuntime) {
     let alloc = rt.alloc();
     for (kept, head) in [(true, 1), (false, 0)] {
-        let mut keeper = keeper(alloc, &[Fail { call: 1, kept }]).expect(&rt, "memory");
-        let batch = batch(alloc).expect(&rt, "memory");
+        let fails = [Fail { call: 1, kept }];
+        let (mut keeper, batch) = keeper(alloc, &fails).expect(&rt, "memory");
         assert!(rt; keeper.apply(alloc, &batch) == Err(KeeperFault::Failed));
         assert!(rt; keeper.faults() == 1);
         assert!(rt; keeper.head(alloc) == Ok(head));
@@ -121,7 +137,7 @@ fn an_apply_fails(rt: HostRuntime) {
 fn other_calls_fail(rt: HostRuntime) {
     let alloc = rt.alloc();
     let fails = [1, 3].map(|call| Fail { call, kept: false });
-    let mut keeper = keeper(alloc, &fails).expect(&rt, "memory");
+    let (mut keeper, _) = keeper(alloc, &fails).expect(&rt, "memory");
     assert!(rt; keeper.load(alloc).is_err());
     assert!(rt; keeper.head(alloc) == Ok(0));
     assert!(rt; keeper.head(alloc) == Err(KeeperFault::Failed));

@@ -1,8 +1,9 @@
 use Rattle.std.proofs.Common.{◌∙◌, ◌++◌, ◌∷◌, [], List, Some, ap, sym, subst}
 use Rattle.std.specs.Arc.{arc_value}
+use Rattle.content_state.specs.SiteRules.{AreValidRows}
 use Rattle.content_state.specs.declared.commit.Commit.{Commit}
 use Rattle.site_keeper.specs.Batch.{Batch}
-use Rattle.site_keeper.specs.Keeper.{and_batch, CountsFault, LeavesBatch}
+use Rattle.site_keeper.specs.Keeper.{IfTold, with_batch, and_batch, CountsFault, LeavesBatch}
 use Rattle.site_keeper.specs.declared.fault.KeeperFault.{KeeperFault}
 use Rattle.site_keeper.specs.declared.fault.KeeperFault.TheVariants as keeper_fault
 use Rattle.site_hall.specs.Hall.{HallView, IsHall}
@@ -10,8 +11,18 @@ use Rattle.site_hall.specs.Log.{Made}
 use Rattle.site_hall.specs.ReadyEdit.{Ready}
 use Rattle.site_hall.specs.Ready.{MayBeNext, IsPending, published}
 use Rattle.site_hall.specs.Within.{view_of}
-use Rattle.site_hall.proofs.Halls.{published_view, published_hall, pending_after, pending_hall, whole_none, whole_pending, next_place}
+use Rattle.site_hall.proofs.Halls.{right_after, published_view, published_hall, pending_after, pending_hall, whole_none, whole_pending, next_place}
 use Rattle.site_hall.proofs.hall.Hall.keep.Goals as goal
+
+-- the rows that are held then are right
+
+pub apply-answer-requires-clause-right : goal.apply-answer-requires-clause-right
+apply-answer-requires-clause-right g c =
+    let kept = g.K.Keeper.kept c.self.inside.keeper in
+    let hall = view_of c.self.inside.log c.self.inside.pending kept (g.K.Keeper.faults c.self.inside.keeper) (g.K.Keeper.steadfast c.self.inside.keeper) in
+    let next = subst (λ (h : HallView). MayBeNext h c.args.ready) (sym c.self.view_is) c.requires in
+    let batch_is = ap (λ (r : Ready). r.batch) c.ready.view_is in
+    subst (λ (b : Batch). IfTold kept (λ held. AreValidRows (with_batch held b).rows)) (sym batch_is) (right_after hall c.args.ready c.self.invariant.is_hall next)
 
 -- it is published
 
