@@ -2,7 +2,9 @@
 use Rattle.std.specs.Prelude.{ℕ, List, ◌≡◌, ◌≢◌, Some}
 use Rattle.site_import.specs.declared.fault.ImportFault.{ImportFault}
 use Rattle.site_import.specs.declared.fault.ImportFault.TheVariants as import_fault
-use Rattle.site_jobs.specs.Texts.{import_fault_text}
+use Rattle.content_state.specs.declared.site_rules.Refusal.{Refusal}
+use Rattle.content_state.specs.declared.site_rules.Refusal.TheVariants as refusal
+use Rattle.site_jobs.specs.Texts.{cell_fault_text, import_fault_text}
 use Rattle.site_keeper.specs.declared.fault.KeeperFault.{KeeperFault}
 use Rattle.site_keeper.specs.declared.fault.KeeperFault.TheVariants as keeper_fault
 use Rattle.site_jobs.specs.declared.fault.NoJob.{NoJob}
@@ -25,3 +27,8 @@ SaysFault fault (none.Refused text) = import_fault_text fault ≡ Some text
 SaysFault fault none.Keeper = ⊥
 SaysFault fault none.Input = fault ≡ import_fault.Source
 SaysFault fault none.OutOfMemory = fault ≢ import_fault.Source
+
+-- what a refusal of rows becomes
+abbrev pub SaysRefusal : Refusal → NoJob → Type 0
+SaysRefusal (refusal.NoSite fault) why = SaysText (cell_fault_text fault) why
+SaysRefusal refusal.OutOfMemory why = why ≡ none.OutOfMemory

@@ -2,7 +2,7 @@
 ghost use Rattle.std.specs.Prelude.{◌≡◌, ◌↔◌, [], true, IfOk, IfErr, OnOk, IsTrue};
 ghost use Rattle.content_state.specs.SiteRules.{AreValidRows};
 ghost use Rattle.site_keeper.specs.Steps.{stored_of};
-ghost use Rattle.site_jobs.specs.Faults.{SaysText};
+ghost use Rattle.site_jobs.specs.Faults.{SaysRefusal, SaysText};
 ghost use Rattle.site_jobs.specs.Ground.{Holds, IsGround, IsNoGround, IsNoSiteOf, IsSite};
 ghost use Rattle.site_jobs.specs.Jobs.{CountsKeeper, IsNoBase, IsNoStored};
 ghost use Rattle.site_jobs.specs.Texts.{cell_fault_text};
@@ -34,6 +34,16 @@ fn has_none(rows: &Rows) -> bool
     rows.iter().next().is_none()
 }
 
+/// Why rows that are no site end a job.
+fn no_site(alloc: Global, why: Refusal) -> NoJob
+    ensures { SaysRefusal why result }
+{
+    match why {
+        Refusal::NoSite(fault) => refused(alloc, &fault),
+        Refusal::OutOfMemory => NoJob::OutOfMemory,
+    }
+}
+
 /// The site that is stored.
 fn site_of(alloc: Global, stored: Stored) -> Result<State, NoJob>
     requires { AreValidRows stored.rows }
@@ -44,10 +54,7 @@ fn site_of(alloc: Global, stored: Stored) -> Result<State, NoJob>
     let Stored { rows, counts, head } = stored;
     match State::from_rows(alloc, rows, counts, head) {
         Ok(base) => Ok(base),
-        Err(back) => match back.why {
-            Refusal::NoSite(fault) => Err(refused(alloc, &fault)),
-            Refusal::OutOfMemory => Err(NoJob::OutOfMemory),
-        },
+        Err(back) => Err(no_site(alloc, back.why)),
     }
 }
 

@@ -17,7 +17,7 @@ use content_rows::Text;
 use content_state::{Commit, State};
 use site_import::{ImportFault, Imported, Onto, import};
 use site_io::Source;
-use site_keeper::{Keeper, batch_over};
+use site_keeper::{Keeper, batch_over, batches_keep_steps};
 use std::alloc::Global;
 use std::sync::Arc;
 
@@ -83,6 +83,7 @@ fn keep<K: Keeper>(
     ensures cause { IfErr result (λ why. CountsKeeper why (K.faults keeper.old) (K.faults keeper.new)) }
     ensures steady { OnOk result (K.faults keeper.new ≡ K.faults keeper.old) }
 {
+    batches_keep_steps();
     let changed = commit.writes.len();
     if changed > 0 {
         let edit = Arc::try_clone(commit)?;
@@ -113,9 +114,11 @@ pub fn import_into<K: Keeper, S: Source>(
 {
     let base = load_ground(alloc, keeper)?;
     let imported = read_edit(alloc, source, &base)?;
-    let changed = keep(alloc, keeper, &base, &imported.commit)?;
-    Ok(Counted {
-        rows: imported.rows,
-        changed,
-    })
+    match keep(alloc, keeper, &base, &imported.commit) {
+        Ok(changed) => Ok(Counted {
+            rows: imported.rows,
+            changed,
+        }),
+        Err(why) => Err(why),
+    }
 }
