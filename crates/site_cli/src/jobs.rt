@@ -39,13 +39,13 @@ pub(crate) fn import_job<P: Place>(
         (record { left = P.In.left input.new; written = P.Out.written output.new; reading = P.In.faults input.new; writing = P.Out.faults output.new; place = P.sees place.new })
         result }
 {
-    let mut keeper = match place.keeper(path) {
+    let mut filled = match place.keeper(path) {
         Ok(keeper) => keeper,
         Err(NoDevice::Failed) => return 7,
         Err(NoDevice::OutOfMemory) => return 9,
     };
-    let end = import_rows(alloc, &mut keeper, input, output);
-    place.keeper_back(keeper);
+    let end = import_rows(alloc, &mut filled, input, output);
+    place.keeper_back(filled);
     status_of_job(end)
 }
 

@@ -3,10 +3,10 @@ ghost use Rattle.std.specs.Prelude.{◌≡◌, ◌≢◌, [], false, true, IfOk,
 ghost use Rattle.std.specs.String.{string_bytes};
 ghost use Rattle.std.specs.Vec.Iter.{into_iter_items};
 ghost use Rattle.std.specs.IoError.{error_kind};
-ghost use Rattle.clap.specs.Words.{app_of, fault_of, first_of, found_of, kind_of, rows_of, rule_of, subcommand_of, subcommand_rows_of};
+ghost use Rattle.clap.specs.Words.{app_of, fault_of, first_of, found_of, kind_of, rows_of, rule_of, subcommand_of, subcommand_rows_of, with_subcommand};
 ghost use Rattle.clap.specs.declared.builder.command.Command.TheViews.{out-Command as fields_of};
 ghost use Rattle.clap.specs.declared.error.kind.ErrorKind.TheVariants as kind;
-ghost use Rattle.site_cli.specs.Words.{asked, asked_of, named_job, replay_app, store_app, store_job, store_rule, synopsis};
+ghost use Rattle.site_cli.specs.Words.{asked, asked_of, named_job, replay_app, site_app, store_app, store_job, store_rule, synopsis};
 
 use clap::error::ErrorKind as ClapKind;
 use clap::{Arg, ArgMatches, Command, Error as ClapError};
@@ -71,17 +71,36 @@ fn store_command<'a>(alloc: Global, name: &'a str) -> Result<Command<'a>, AllocE
     Command::new(alloc, name).arg(store_arg(alloc))
 }
 
-/// The program's commands.
-fn site_command<'a>(alloc: Global) -> Result<Command<'a>, AllocError>
-    ensures { IfOk result (λ c. app_of c ≡ synopsis) }
+/// A command with one more subcommand that works on a store.
+fn with_store_command<'a>(
+    alloc: Global,
+    command: Command<'a>,
+    name: &'a str,
+) -> Result<Command<'a>, AllocError>
+    ensures { IfOk result (λ c. app_of c ≡ with_subcommand (app_of command.entry) (store_app name.entry.now).top) }
+{
+    command.subcommand(store_command(alloc, name)?)
+}
+
+/// The program with `replay`.
+fn replay_site<'a>(alloc: Global) -> Result<Command<'a>, AllocError>
+    ensures { IfOk result (λ c. app_of c ≡ with_subcommand site_app replay_app.top) }
 {
     let site = Command::new(alloc, "site")
         .no_binary_name(true)
         .subcommand_required(true);
-    site.subcommand(replay_command(alloc)?)?
-        .subcommand(store_command(alloc, "import")?)?
-        .subcommand(store_command(alloc, "export")?)?
-        .subcommand(store_command(alloc, "check")?)
+    site.subcommand(replay_command(alloc)?)
+}
+
+/// The program's commands.
+fn site_command<'a>(alloc: Global) -> Result<Command<'a>, AllocError>
+    ensures { IfOk result (λ c. app_of c ≡ synopsis) }
+{
+    let replaying = replay_site(alloc)?;
+    let importing = with_store_command(alloc, replaying, "import")?;
+    let exporting = with_store_command(alloc, importing, "export")?;
+    let checking = with_store_command(alloc, exporting, "check")?;
+    Ok(checking)
 }
 
 /// Why clap refused the words.
