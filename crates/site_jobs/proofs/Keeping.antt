@@ -1,5 +1,5 @@
 -- From what a keeper holds to what it may keep, and to what an import kept of it.
-use Rattle.std.proofs.Common.{◌≡◌, ◌∙◌, ◌⊎◌, inl, inr, ℕ, List, sym, ap, subst, refl, length, Option, Some, None}
+use Rattle.std.proofs.Common.{◌≡◌, ◌∙◌, inl, inr, ℕ, List, sym, ap, subst, refl, length, Option, Some, None}
 use Rattle.std.specs.Arc.{arc_value}
 use Rattle.cacheability.specs.declared.tag.Tag.{Tag}
 use Rattle.content_rows.specs.declared.cell.Cell.{Cell}
@@ -16,7 +16,7 @@ use Rattle.site_files.specs.Rows.{IsToldBy}
 use Rattle.site_import.specs.Imports.{IsImport}
 use Rattle.site_import.specs.declared.onto.Imported.{Imported}
 use Rattle.site_jobs.specs.Ground.{Holds, IsGround}
-use Rattle.site_jobs.specs.Jobs.{all, nothing, IsNoImport, IsNotKept, MayImport}
+use Rattle.site_jobs.specs.Jobs.{all, nothing, IsNoImport, IsNotKept}
 use Rattle.site_jobs.specs.declared.fault.NoJob.{NoJob}
 use Rattle.site_jobs.specs.declared.fault.NoJob.TheVariants as none
 

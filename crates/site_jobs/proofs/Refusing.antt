@@ -1,5 +1,5 @@
 -- From the fault of what is stored to why a job comes to nothing.
-use Rattle.std.proofs.Common.{◌≡◌, List, ℕ, Option}
+use Rattle.std.proofs.Common.{◌≡◌, Option}
 use Rattle.std.specs.Prelude.{Result, Ok, Err, IfErr}
 use Rattle.content_state.specs.State.{State}
 use Rattle.content_state.specs.declared.site_rules.NotASite.{NotASite}

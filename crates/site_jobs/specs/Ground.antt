@@ -1,5 +1,5 @@
 -- The ground of a job: the state that a keeper holds.
-use Rattle.std.specs.Prelude.{ℕ, List, [], ◌≡◌, ◌≢◌, ◌≤◌, ◌<◌, ◌^◌, ◌⊎◌, Option}
+use Rattle.std.specs.Prelude.{[], ◌≡◌, ◌≢◌, ◌≤◌, ◌<◌, ◌^◌, ◌⊎◌, Option}
 use Rattle.content_rows.specs.declared.cell.Cell.TheVariants as cell
 use Rattle.content_state.specs.State.{State}
 use Rattle.content_state.specs.SiteRules.{IsNoSite, IsValidState}

@@ -48,11 +48,7 @@ fn no_edit(alloc: Global, fault: &ImportFault) -> NoJob
 }
 
 /// Reads the rows of a source, and gives the edit that puts those that change a state.
-fn read_edit<S: Source>(
-    alloc: Global,
-    source: &mut S,
-    base: &State,
-) -> Result<Imported, NoJob>
+fn read_edit<S: Source>(alloc: Global, source: &mut S, base: &State) -> Result<Imported, NoJob>
     requires { AreValidRows base.now.rows }
     ensures told { IfOk result (λ i. IsToldBy (S.left source.old) (λ bytes. IsImport base.now bytes i)) }
     ensures right { IfOk result (λ i. AreValidRows (step base.now (arc_value i.commit)).rows) }

@@ -1,4 +1,4 @@
-use Rattle.std.proofs.Common.{rules, refl, inr, arith, ◌≡◌, []}
+use Rattle.std.proofs.Common.{rules, refl, inr, arith}
 use Rattle.site_jobs.specs.Ground.{IsNoGround}
 use Rattle.site_jobs.proofs.Refusing.{said}
 use Rattle.site_jobs.proofs.ground.ground_of.Goals as goal

@@ -1,4 +1,4 @@
-use Rattle.std.proofs.Common.{◌≡◌, refl, subst}
+use Rattle.std.proofs.Common.{refl, subst}
 use Rattle.site_jobs.specs.Jobs.{all, IsNoImport}
 use Rattle.site_jobs.specs.declared.fault.NoJob.{NoJob}
 use Rattle.site_jobs.proofs.job.import_rows.Goals as goal
