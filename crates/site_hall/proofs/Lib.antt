@@ -5,3 +5,4 @@ pub mod Halls
 pub mod Readiness
 pub mod Sublists
 pub mod Callers
+pub mod Crossing

@@ -10,7 +10,9 @@ mod log;
 mod making;
 mod stop;
 mod tally;
+mod threads;
 
 pub use alone::Alone;
 pub use hall::{Hall, NoHall};
 pub use tally::Tally;
+pub use threads::halls_go_between_threads;

@@ -16,13 +16,15 @@ use Rattle.site_hall.proofs.hall.Hall.keep.Goals as goal
 
 -- the rows that are held then are right
 
-pub apply-answer-requires-clause-right : goal.apply-answer-requires-clause-right
-apply-answer-requires-clause-right g c =
+pub apply-answer-requires : goal.apply-answer-requires
+apply-answer-requires g c =
     let kept = g.K.Keeper.kept c.self.inside.keeper in
     let hall = view_of c.self.inside.log c.self.inside.pending kept (g.K.Keeper.faults c.self.inside.keeper) (g.K.Keeper.steadfast c.self.inside.keeper) in
     let next = subst (λ (h : HallView). MayBeNext h c.args.ready) (sym c.self.view_is) c.requires in
     let batch_is = ap (λ (r : Ready). r.batch) c.ready.view_is in
-    subst (λ (b : Batch). IfTold kept (λ held. AreValidRows (with_batch held b).rows)) (sym batch_is) (right_after hall c.args.ready c.self.invariant.is_hall next)
+    record {
+      right = subst (λ (b : Batch). IfTold kept (λ held. AreValidRows (with_batch held b).rows)) (sym batch_is) (right_after hall c.args.ready c.self.invariant.is_hall next);
+    }
 
 -- it is published
 
