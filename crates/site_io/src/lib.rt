@@ -8,18 +8,24 @@
 mod adapters;
 mod chance;
 mod device;
+mod door;
 mod ended;
 mod memory;
+mod memory_door;
 mod retry;
 mod series;
 mod system;
+mod tcp;
 mod whole;
 
 pub use adapters::{Reading, Writing};
 pub use chance::{NoChance, Seed, SystemEntropy};
 pub use device::{Clock, Entropy, Failed, Gate, LAST_MOMENT, Point, Sink, Source};
+pub use door::{Door, More};
 pub use ended::Ended;
 pub use memory::{MemorySink, MemorySource};
+pub use memory_door::{MemoryDoor, Returned};
 pub use series::{ListClock, ListEntropy};
 pub use system::{OpenGate, SystemClock};
+pub use tcp::TcpDoor;
 pub use whole::write_whole;

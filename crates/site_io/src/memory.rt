@@ -9,7 +9,7 @@ use std::marker::Model;
 
 // The calls of a device in memory, some of which are to fail.
 #[derive(Drop)]
-struct Calls {
+pub(crate) struct Calls {
     failing: Vec<u64>,
     made: u64,
     faults: u64,
@@ -23,7 +23,7 @@ impl Model for Calls {
 
 impl Calls {
     // No call is made yet.
-    fn new(failing: Vec<u64>) -> Calls
+    pub(crate) fn new(failing: Vec<u64>) -> Calls
         ensures { result ≡ fresh failing.items }
     {
         Calls {
@@ -34,7 +34,7 @@ impl Calls {
     }
 
     // Counts a call. It fails exactly where its number is listed.
-    fn begin(&mut self) -> Result<(), Failed>
+    pub(crate) fn begin(&mut self) -> Result<(), Failed>
         ensures variant { IsOk result ↔ (next_fails self.old ≡ false) }
         ensures ok { OnOk result (self.new ≡ passed self.old) }
         ensures err { OnErr result (self.new ≡ failed self.old) }
@@ -48,7 +48,7 @@ impl Calls {
     }
 
     // Counts a fault.
-    fn fault(&mut self) -> Failed
+    pub(crate) fn fault(&mut self) -> Failed
         ensures counted { self.new ≡ record self.old { faults = up self.old.faults } }
         ensures never_falls { self.old.faults ≤ self.new.faults }
     {
@@ -56,7 +56,7 @@ impl Calls {
         Failed
     }
 
-    fn faults(&self) -> u64
+    pub(crate) fn faults(&self) -> u64
         ensures { result ≡ self.now.faults }
     {
         self.faults

@@ -1,0 +1,9 @@
+pub mod ComingBack
+pub mod Editing
+pub mod Left
+pub mod Fulls
+pub mod LineEnds
+pub mod LineTells
+pub mod Merging
+pub mod Order
+pub mod Plain

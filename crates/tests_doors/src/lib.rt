@@ -1,0 +1,7 @@
+//! Tests of doors, by public calls alone.
+#![tactic(auto)]
+
+#[cfg(test)]
+mod memory;
+#[cfg(test)]
+mod tcp;
