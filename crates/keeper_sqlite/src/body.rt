@@ -1,0 +1,84 @@
+//! Rows as a database holds them: each is one object of JSON.
+ghost use Rattle.std.specs.Prelude.{◌≡◌, ◌≤◌, IfOk, IfSome, Some, option_map, string_bytes};
+ghost use Rattle.serde_json.specs.Data.{Data, depth};
+ghost use Rattle.serde_json.specs.Read.{read, max_depth};
+ghost use Rattle.serde_json.specs.View.{view};
+ghost use Rattle.content_rows.specs.ValidRow.{IsValidRow};
+ghost use Rattle.json_keys.specs.declared.checked.Checked.TheVariants as checked;
+ghost use Rattle.row_json.specs.Reading.{reading, written};
+ghost use Rattle.keeper_sqlite.specs.Bodies.{value_of, in_its_cell, row_told, row_of};
+
+use content_rows::{Cell, Row};
+use row_json::{RowFault, row_from_json, row_to_json};
+use serde_json::Value;
+use std::alloc::{AllocError, Global};
+
+/// The value of JSON that a body is; none where it is no JSON. `Err` only where memory is wanting.
+fn value_of(alloc: Global, body: &[u8]) -> Result<Option<Value>, AllocError>
+    ensures { IfOk result (λ value. option_map view value ≡ value_of body.now) }
+{
+    match Value::from_slice(alloc, body) {
+        Ok(value) => Ok(Some(value)),
+        Err(error) => {
+            if error.is_memory() {
+                Err(AllocError)
+            } else {
+                Ok(None)
+            }
+        }
+    }
+}
+
+/// A right row, where the cell that it stands in is its own. `Err` only where memory is wanting.
+fn in_its_cell(
+    alloc: Global,
+    cell: &[u8],
+    row: (Cell, Row),
+) -> Result<Option<(Cell, Row)>, AllocError>
+    requires { IsValidRow row.0 row.1 }
+    ensures told { IfOk result (λ told. told ≡ in_its_cell cell.now (checked.Right row)) }
+    ensures right { IfOk result (λ told. IfSome told (λ row. IsValidRow row.0 row.1)) }
+{
+    let own = row.0.text(alloc)?;
+    if own.as_slice() == cell {
+        Ok(Some(row))
+    } else {
+        Ok(None)
+    }
+}
+
+/// The row of a cell that a value is. `Err` only where memory is wanting.
+fn row_told(alloc: Global, cell: &[u8], value: &Value) -> Result<Option<(Cell, Row)>, AllocError>
+    ensures told { IfOk result (λ row. row ≡ row_told cell.now (Some (view value.now))) }
+    ensures right { IfOk result (λ row. IfSome row (λ row. IsValidRow row.0 row.1)) }
+{
+    match row_from_json(alloc, value) {
+        Ok(row) => Ok(in_its_cell(alloc, cell, row)?),
+        Err(RowFault::Rule { .. }) => Ok(None),
+        Err(RowFault::OutOfMemory) => Err(AllocError),
+    }
+}
+
+/// The row of a cell that a body is, right by itself; none where it is none. `Err` only where memory is wanting.
+pub(crate) fn row_of(
+    alloc: Global,
+    cell: &[u8],
+    body: &[u8],
+) -> Result<Option<(Cell, Row)>, AllocError>
+    ensures told { IfOk result (λ row. row ≡ row_of cell.now body.now) }
+    ensures right { IfOk result (λ row. IfSome row (λ row. IsValidRow row.0 row.1)) }
+{
+    match value_of(alloc, body)? {
+        Some(value) => row_told(alloc, cell, &value),
+        None => Ok(None),
+    }
+}
+
+/// The body of a row, which is read as that row where it is right for the cell. `Err` only where memory is wanting.
+pub(crate) fn body_of(alloc: Global, cell: &Cell, row: &Row) -> Result<String, AllocError>
+    ensures back { IfOk result (λ body. depth (written cell.now row.now) ≤ max_depth → IsValidRow cell.now row.now
+        → (d : Data) × (read (string_bytes body) ≡ Some d) × (reading d ≡ checked.Right (cell.now, row.now))) }
+{
+    let value = row_to_json(alloc, cell, row)?;
+    Ok(value.to_string(alloc)?)
+}

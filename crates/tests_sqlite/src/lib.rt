@@ -1,0 +1,9 @@
+//! Tests of the keeper over a database, by public calls alone.
+#![tactic(auto)]
+
+#[cfg(test)]
+mod batches;
+#[cfg(test)]
+mod crashes;
+#[cfg(test)]
+mod keeping;
