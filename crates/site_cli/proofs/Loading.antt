@@ -7,8 +7,9 @@ use Rattle.site_files.specs.Rows.{IsToldBy, IsSiteFault}
 use Rattle.site_files.specs.declared.fault.ReadFault.{ReadFault}
 use Rattle.site_files.specs.declared.fault.ReadFault.TheVariants as why
 use Rattle.site_cli.specs.Place.{PlaceView, HasTold, OpeningFails, RowsFail}
-use Rattle.site_cli.specs.Run.{IsSiteOf, Outside, ReplaysOrStarves, ReplaysFileOrStarves, Runs, Starves}
-use Rattle.site_cli.specs.Words.{Asked, replay}
+use Rattle.site_cli.specs.Run.{IsSiteOf, ReplaysOrStarves, ReplaysFileOrStarves, Runs}
+use Rattle.site_cli.specs.Outside.{Outside, Starves}
+use Rattle.site_cli.specs.Words.{Asked, replay, imports, exports, checks}
 
 -- rows that a device told are those that the place told of it beforehand
 pub told_before : (bytes left : Option (List ℕ)) (P : List ℕ → Type 0) → HasTold bytes left → IsToldBy left P → IsToldBy bytes P
@@ -51,3 +52,6 @@ pub starved : (job : Option Asked) (old new : Outside) (status : ℕ) → Starve
 starved None old new status starves = inr starves
 starved (Some (replay None)) old new status starves = inr starves
 starved (Some (replay (Some path))) old new status starves = inr (inr starves)
+starved (Some (imports path)) old new status starves = inr (inr starves)
+starved (Some (exports path)) old new status starves = inr (inr starves)
+starved (Some (checks path)) old new status starves = inr (inr starves)

@@ -10,7 +10,8 @@ use Rattle.site_house.specs.House.{HouseView, Moves, CountRose, history_of}
 use Rattle.site_http.specs.Connection.{Around, Connection}
 use Rattle.site_cli.specs.House.{opened_on}
 use Rattle.site_cli.specs.Place.{next_list, none_given, clock_given, entropy_given, IsNoneReached}
-use Rattle.site_cli.specs.Run.{around, status_of, Outside, Replays}
+use Rattle.site_cli.specs.Run.{around, status_of, Replays}
+use Rattle.site_cli.specs.Outside.{Outside}
 
 -- what has given nothing has given what its list has first
 none_first : (greatest : ℕ) (values : Option (List ℕ)) → AreFirstOf greatest values (none_given values)

@@ -1,6 +1,7 @@
 pub mod Words
 pub mod Run
 pub mod Place
+pub mod Outside
 pub mod House
-pub mod Texts
 pub mod Load
+pub mod Jobs

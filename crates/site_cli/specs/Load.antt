@@ -6,7 +6,7 @@ use Rattle.site_files.specs.declared.fault.ReadFault.TheVariants as why
 use Rattle.site_cli.specs.Place.{PlaceView, OpeningFails, RowsFail}
 use Rattle.site_cli.specs.declared.place.NoDevice.{NoDevice}
 use Rattle.site_cli.specs.declared.place.NoDevice.TheVariants as device
-use Rattle.site_cli.specs.Texts.{fault_text}
+use Rattle.site_jobs.specs.Texts.{fault_text}
 use Rattle.site_cli.specs.declared.load.NoSite.{NoSite}
 use Rattle.site_cli.specs.declared.load.NoSite.TheVariants as none
 

@@ -17,8 +17,11 @@ use Rattle.content_state.specs.SiteRules.{IsValidState}
 use Rattle.site_files.specs.Rows.{rows_of as rows_of_file, IsToldBy, IsSiteFault}
 use Rattle.site_files.specs.declared.fault.ReadFault.{ReadFault}
 use Rattle.site_cli.specs.Place.{PlaceView, next_list, clock_given, entropy_given, none_given, IsNoneReached, OpeningFails, RowsFail}
-use Rattle.site_cli.specs.Words.{usage, Asked, replay}
-use Rattle.site_cli.specs.Texts.{fault_text}
+use Rattle.site_cli.specs.Outside.{Outside, Starves}
+use Rattle.site_cli.specs.Jobs.{ImportsOrNot, TellsOrNot}
+use Rattle.site_cli.specs.Words.{usage, Asked, replay, imports, exports, checks}
+use Rattle.site_jobs.specs.Jobs.{checked, exported}
+use Rattle.site_jobs.specs.Texts.{fault_text}
 
 -- the map of these rows: each is set in turn
 abbrev pub rows_of : List (Cell × Row) → List (Cell × Row)
@@ -54,15 +57,6 @@ pub record IsSiteOf (bytes : Option (List ℕ)) (base : State) : Type 0 where
   pub number : base.number ≡ 0
   pub valid : IsValidState base
 
--- What stands outside the program: the bytes that are left to read, those that were written, how often the input and the
--- output have failed, and its place.
-pub record Outside : Type 0 where
-  pub left : Option (List ℕ)
-  pub written : Option (List ℕ)
-  pub reading : ℕ
-  pub writing : ℕ
-  pub place : PlaceView
-
 -- One connection over a site was answered, from the input to the output: at the moments of the place's next list, in
 -- turn, with the words of its next list, in turn. Its log is the edits that it handed in, in order, all of which were
 -- accepted; no reply says that the keeper failed. Of the place, one clock and one entropy were taken.
@@ -83,13 +77,6 @@ pub record Replays (base : State) (old new : Outside) (status : ℕ) : Type 0 wh
       (record { base = base; log = log; pass = 0 }) 1000 (newest_of base [])
   pub place : new.place ≡ entropy_given (clock_given old.place)
   pub status_is : status ≡ status_of end
-
--- memory was wanting before anything was taken or written
-pub record Starves (old new : Outside) (status : ℕ) : Type 0 where
-  pub source : new.left ≡ old.left
-  pub sink : new.written ≡ old.written
-  pub place : new.place ≡ old.place
-  pub status_is : status ≡ 9
 
 -- a text was printed, or a front of it where that failed
 abbrev pub Prints : List ℕ → Outside → Outside → Type 0
@@ -142,19 +129,6 @@ abbrev pub Runs : Option Asked → Outside → Outside → ℕ → Type 0
 Runs None old new status = Refuses old new status ⊎ Starves old new status
 Runs (Some (replay None)) old new status = ReplaysOrStarves starter_site old new status
 Runs (Some (replay (Some path))) old new status = ReplaysFileOrStarves path old new status
-
--- the counts of a place are as they were
-pub record KeepsCounts (old new : PlaceView) : Type 0 where
-  pub own : new.faults ≡ old.faults
-  pub rows : new.rows_faults ≡ old.rows_faults
-
--- A fault of the input is told exactly where its count rose, and one of the output likewise, but that printing how the
--- program is called, or what is wrong with the rows, may fail too. A fault of the place is told exactly where one of its
--- counts rose.
-pub record HasCause (old new : Outside) (status : ℕ) : Type 0 where
-  pub input : status ≡ 5 → Rose old.reading new.reading
-  pub input_steady : status ≢ 5 → new.reading ≡ old.reading
-  pub output : status ≡ 6 → Rose old.writing new.writing
-  pub output_steady : status ≢ 6 → status ≢ 2 → status ≢ 3 → new.writing ≡ old.writing
-  pub place : status ≡ 7 → Rose old.place.faults new.place.faults ⊎ Rose old.place.rows_faults new.place.rows_faults
-  pub place_steady : status ≢ 7 → KeepsCounts old.place new.place
+Runs (Some (imports path)) old new status = ImportsOrNot path old new status
+Runs (Some (exports path)) old new status = TellsOrNot exported path old new status
+Runs (Some (checks path)) old new status = TellsOrNot checked path old new status

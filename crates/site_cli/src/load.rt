@@ -4,10 +4,10 @@ ghost use Rattle.site_cli.specs.Load.{IsNoSiteOf, Says};
 ghost use Rattle.site_cli.specs.Run.{IsSiteOf};
 
 use crate::place::{NoDevice, Place};
-use crate::texts::{cell_fault_text, line_text};
 use content_rows::Text;
 use content_state::State;
 use site_files::{ReadFault, read_site};
+use site_jobs::{cell_fault_text, line_text};
 use std::alloc::{AllocError, Global};
 
 /// Why no site was loaded.

@@ -1,15 +1,41 @@
-//! Where the program works: what gives it moments, words of chance, a gate, and files of rows.
+//! Where the program works: what gives it moments, words of chance, a gate, files of rows and stores.
 ghost use Rattle.std.specs.Prelude.{◌≡◌, ◌≤◌, IfOk, IfErr, None, [], length, map, option_map};
 ghost use Rattle.std.specs.String.{string_bytes};
 ghost use Rattle.site_io.specs.Memory.{fresh, up};
 ghost use Rattle.site_io.specs.Chance.{stream_at};
-ghost use Rattle.site_cli.specs.Place.{clock_given, entropy_given, file_at, memory_view, next_list, none_given, numbers, stream_given, system_view, GivenBack, HasTold, IsNewSystem, IsNoDevice, IsNoneReached, Memory, PlaceView, System};
+ghost use Rattle.content_state.specs.SiteRules.{AreValidRows};
+ghost use Rattle.site_keeper.specs.Memory.{fresh as fresh_keeper, made_of};
+ghost use Rattle.site_cli.specs.Place.{
+  clock_given,
+  entropy_given,
+  file_at,
+  memory_view,
+  new_memory,
+  next_list,
+  none_given,
+  numbers,
+  store_at,
+  stream_given,
+  system_view,
+  GivenBack,
+  HasTold,
+  HoldsTold,
+  IsNewSystem,
+  IsNoDevice,
+  IsNoneReached,
+  KeeperBack,
+  Memory,
+  PlaceView,
+  System,
+};
 ghost use Rattle.site_cli.specs.declared.place.NoDevice.TheVariants as why;
 
+use keeper_sqlite::{FileKeeper, NoKeeper, open_keeper};
 use site_io::{
     Clock, Entropy, Gate, ListClock, ListEntropy, MemorySink, MemorySource, NoChance, OpenGate,
     Reading, Seed, Sink, Source, SystemClock, SystemEntropy, Writing,
 };
+use site_keeper::{Fail, Keeper, MemoryKeeper, Stored};
 use std::alloc::{AllocError, Global};
 use std::fs::File;
 use std::io::{ErrorKind, Stdin, Stdout};
@@ -42,6 +68,8 @@ pub trait Place {
 
     type Rows: Source + Drop;
 
+    type Keeper: Keeper + Drop;
+
     type Clock: Clock + Drop;
 
     type Entropy: Entropy + Drop;
@@ -65,6 +93,20 @@ pub trait Place {
     fn rows_back(&mut self, rows: Self::Rows)
         ensures { GivenBack (Self.Rows.faults rows) (sees self.old) (sees self.new) };
 
+    /// Opens the store of that path.
+    ///
+    /// The keeper has no fault yet, and holds what the place told of the store. `Failed` comes exactly where the place's
+    /// own count of faults rose in this call.
+    fn keeper(&mut self, path: &str) -> Result<Self::Keeper, NoDevice>
+        ensures told { IfOk result (λ keeper. HoldsTold ((sees self.old).store path.now) (Self.Keeper.kept keeper)) }
+        ensures unused { IfOk result (λ keeper. Self.Keeper.faults keeper ≡ 0) }
+        ensures steady { IfOk result (λ _. sees self.new ≡ sees self.old) }
+        ensures cause { IfErr result (IsNoDevice (sees self.old) (sees self.new)) };
+
+    /// Takes a keeper back, and tells then what it tells. The count of such faults rises exactly where it had failed.
+    fn keeper_back(&mut self, keeper: Self::Keeper)
+        ensures { KeeperBack (Self.Keeper.kept keeper) (Self.Keeper.faults keeper) (sees self.old) (sees self.new) };
+
     /// How often it failed to open a device, up to the greatest u64. It never falls.
     fn faults(&self) -> u64
         ensures { result ≡ (sees self.now).faults };
@@ -72,6 +114,10 @@ pub trait Place {
     /// How often a device of rows was given back that had failed, up to the greatest u64. It never falls.
     fn rows_faults(&self) -> u64
         ensures { result ≡ (sees self.now).rows_faults };
+
+    /// How often a keeper was given back that had failed, up to the greatest u64. It never falls.
+    fn keeper_faults(&self) -> u64
+        ensures { result ≡ (sees self.now).keeper_faults };
 
     /// A clock, which is to give the list that is next, and has given no moment yet.
     fn clock(&mut self) -> Self::Clock
@@ -140,17 +186,70 @@ fn file_at<'a>(files: &'a [MemoryFile], path: &str) -> Option<&'a MemoryFile>
     files.iter().find(|file| file.path.as_str() == path)
 }
 
-/// A place in memory: each clock gives the moments of its list, and each entropy the words of its list, and its files
-/// hold bytes in memory, all of which the place tells beforehand.
+/// A store of a place in memory. Each of its rows is right by itself.
+#[derive(Drop)]
+pub struct MemoryStore {
+    path: String,
+    stored: Stored,
+    failing: Vec<Fail>,
+}
+
+impl Model for MemoryStore {
+    ghost use Rattle.std.specs.String.{string_bytes};
+    ghost use Rattle.content_state.specs.SiteRules.{AreValidRows};
+    ghost use Rattle.site_cli.specs.Place.{Store};
+
+    ghost Value = { Store };
+
+    ghost view = { λ s. record { path = string_bytes s.path; stored = s.stored; failing = s.failing.items } };
+
+    ghost invariant = { λ s. AreValidRows s.stored.rows };
+}
+
+impl MemoryStore {
+    /// The store of that path, which holds this. The calls of its keeper with these numbers are to fail.
+    pub fn new(path: String, stored: Stored, failing: Vec<Fail>) -> MemoryStore
+        requires { AreValidRows stored.rows }
+        ensures { result ≡ record { path = string_bytes path; stored = stored; failing = failing.items } }
+    {
+        MemoryStore {
+            path,
+            stored,
+            failing,
+        }
+    }
+
+    /// A keeper that holds what it holds, and has kept nothing yet.
+    fn opened(&self, alloc: Global) -> Result<MemoryKeeper, AllocError>
+        ensures { IfOk result (λ k. k ≡ record { kept = made_of self.now.stored; calls = fresh_keeper self.now.failing }) }
+    {
+        let stored = self.stored.duplicate(alloc)?;
+        let failing = Vec::from_slice(alloc, self.failing.as_slice())?;
+        Ok(MemoryKeeper::new(alloc, stored, failing))
+    }
+}
+
+/// The first store of that path.
+fn store_at<'a>(stores: &'a [MemoryStore], path: &str) -> Option<&'a MemoryStore>
+    ensures { option_map (λ s. s.now) result ≡ store_at stores.now path.now }
+{
+    stores.iter().find(|store| store.path.as_str() == path)
+}
+
+/// A place in memory: each clock gives the moments of its list, and each entropy the words of its list, its files hold
+/// bytes in memory, and its stores rows and counts, all of which the place tells beforehand.
 #[derive(Drop)]
 pub struct MemoryPlace {
     moments: IntoIter<Vec<u64>>,
     words: IntoIter<Vec<u64>>,
     files: Vec<MemoryFile>,
+    stores: Vec<MemoryStore>,
+    returned: Option<MemoryKeeper>,
     failing: Vec<u64>,
     opened: u64,
     faults: u64,
     rows_faults: u64,
+    keeper_faults: u64,
     alloc: Global,
 }
 
@@ -161,23 +260,26 @@ impl Model for MemoryPlace {
 
     ghost Value = { Memory };
 
-    ghost view = { λ p. record { moments = map numbers (into_iter_items p.moments); words = map numbers (into_iter_items p.words); files = p.files.items; failing = p.failing.items; opened = p.opened; faults = p.faults; rows_faults = p.rows_faults } };
+    ghost view = { λ p. record { moments = map numbers (into_iter_items p.moments); words = map numbers (into_iter_items p.words); files = p.files.items; stores = p.stores.items; returned = p.returned; failing = p.failing.items; opened = p.opened; faults = p.faults; rows_faults = p.rows_faults; keeper_faults = p.keeper_faults } };
 }
 
 impl MemoryPlace {
     /// The place whose clocks give these moments, one list each, in order, and whose entropies give these words. Those
-    /// past the last list have an empty one. It has no files, and nothing has failed yet.
+    /// past the last list have an empty one. It has neither files nor stores, and nothing has failed yet.
     pub fn new(alloc: Global, moments: Vec<Vec<u64>>, words: Vec<Vec<u64>>) -> MemoryPlace
-        ensures { result ≡ record { moments = map numbers moments.items; words = map numbers words.items; files = []; failing = []; opened = 0; faults = 0; rows_faults = 0 } }
+        ensures { result ≡ new_memory (map numbers moments.items) (map numbers words.items) }
     {
         MemoryPlace {
             moments: moments.into_iter(),
             words: words.into_iter(),
             files: Vec::new(alloc),
+            stores: Vec::new(alloc),
+            returned: None,
             failing: Vec::new(alloc),
             opened: 0,
             faults: 0,
             rows_faults: 0,
+            keeper_faults: 0,
             alloc,
         }
     }
@@ -187,6 +289,20 @@ impl MemoryPlace {
         ensures { result ≡ record self { files = files.items } }
     {
         MemoryPlace { files, ..self }
+    }
+
+    /// The place with these stores, and no others. Of two of one path the first counts.
+    pub fn with_stores(self, stores: Vec<MemoryStore>) -> MemoryPlace
+        ensures { result ≡ record self { stores = stores.items } }
+    {
+        MemoryPlace { stores, ..self }
+    }
+
+    /// The keeper that was given back last, if one was.
+    pub fn into_returned(self) -> Option<MemoryKeeper>
+        ensures { result ≡ self.returned }
+    {
+        self.returned
     }
 
     /// The openings with these numbers are to fail, counted from here on and from 1. The count stays at the greatest u64.
@@ -218,6 +334,8 @@ impl Place for MemoryPlace {
 
     type Rows = MemorySource;
 
+    type Keeper = MemoryKeeper;
+
     type Clock = ListClock;
 
     type Entropy = ListEntropy;
@@ -243,12 +361,34 @@ impl Place for MemoryPlace {
         }
     }
 
+    fn keeper(&mut self, path: &str) -> Result<MemoryKeeper, NoDevice> {
+        self.opened = self.opened.saturating_add(1);
+        if self.failing.contains(&self.opened) {
+            return Err(self.fault());
+        }
+        match store_at(self.stores.as_slice(), path) {
+            Some(store) => Ok(store.opened(self.alloc)?),
+            None => Err(self.fault()),
+        }
+    }
+
+    fn keeper_back(&mut self, keeper: MemoryKeeper) {
+        if keeper.faults() > 0 {
+            self.keeper_faults = self.keeper_faults.saturating_add(1);
+        }
+        self.returned = Some(keeper);
+    }
+
     fn faults(&self) -> u64 {
         self.faults
     }
 
     fn rows_faults(&self) -> u64 {
         self.rows_faults
+    }
+
+    fn keeper_faults(&self) -> u64 {
+        self.keeper_faults
     }
 
     fn clock(&mut self) -> ListClock {
@@ -270,8 +410,8 @@ impl Place for MemoryPlace {
     }
 }
 
-/// The place of the real program: the system's clock, streams of chance over one seed of the system's, its files, and a
-/// gate that does nothing.
+/// The place of the real program: the system's clock, streams of chance over one seed of the system's, its files, its
+/// stores in files of `sqlite`, and a gate that does nothing.
 #[derive(Drop)]
 pub struct SystemPlace {
     rt: HostRuntime,
@@ -279,6 +419,7 @@ pub struct SystemPlace {
     streams: u64,
     faults: u64,
     rows_faults: u64,
+    keeper_faults: u64,
 }
 
 impl Model for SystemPlace {
@@ -286,7 +427,7 @@ impl Model for SystemPlace {
 
     ghost Value = { System };
 
-    ghost view = { λ p. record { seed = p.seed; streams = p.streams; faults = p.faults; rows_faults = p.rows_faults } };
+    ghost view = { λ p. record { seed = p.seed; streams = p.streams; faults = p.faults; rows_faults = p.rows_faults; keeper_faults = p.keeper_faults } };
 }
 
 impl SystemPlace {
@@ -303,6 +444,7 @@ impl SystemPlace {
             streams: 0,
             faults: 0,
             rows_faults: 0,
+            keeper_faults: 0,
         })
     }
 }
@@ -313,6 +455,8 @@ impl Place for SystemPlace {
     type Out = Writing<Stdout>;
 
     type Rows = Reading<File>;
+
+    type Keeper = FileKeeper;
 
     type Clock = SystemClock<HostRuntime>;
 
@@ -339,12 +483,33 @@ impl Place for SystemPlace {
         }
     }
 
+    fn keeper(&mut self, path: &str) -> Result<FileKeeper, NoDevice> {
+        match open_keeper(&self.rt, path) {
+            Ok(keeper) => Ok(keeper),
+            Err(NoKeeper::OutOfMemory) => Err(NoDevice::OutOfMemory),
+            Err(NoKeeper::Failed) => {
+                self.faults = self.faults.saturating_add(1);
+                Err(NoDevice::Failed)
+            }
+        }
+    }
+
+    fn keeper_back(&mut self, keeper: FileKeeper) {
+        if keeper.faults() > 0 {
+            self.keeper_faults = self.keeper_faults.saturating_add(1);
+        }
+    }
+
     fn faults(&self) -> u64 {
         self.faults
     }
 
     fn rows_faults(&self) -> u64 {
         self.rows_faults
+    }
+
+    fn keeper_faults(&self) -> u64 {
+        self.keeper_faults
     }
 
     fn clock(&mut self) -> SystemClock<HostRuntime> {

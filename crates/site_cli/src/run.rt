@@ -4,9 +4,11 @@ ghost use Rattle.std.specs.String.{string_bytes};
 ghost use Rattle.site_io.specs.Told.{after, AddsFront, Rose};
 ghost use Rattle.content_state.specs.SiteRules.{IsValidState};
 ghost use Rattle.site_cli.specs.Words.{asked, usage};
-ghost use Rattle.site_cli.specs.Run.{rows_of, starter_site, status_of, HasCause, ReplaysFileOrStarves, ReplaysOrStarves, Runs};
+ghost use Rattle.site_cli.specs.Outside.{HasCause};
+ghost use Rattle.site_cli.specs.Run.{rows_of, starter_site, status_of, ReplaysFileOrStarves, ReplaysOrStarves, Runs};
 
 use crate::alone::alone_with;
+use crate::jobs::{check_job, export_job, import_job};
 use crate::load::{NoSite, load};
 use crate::place::Place;
 use crate::words::{Job, WordFault, read_words};
@@ -172,11 +174,12 @@ fn replay_file<P: Place>(
 
 /// Does what the words ask for, and answers the status of the program.
 ///
-/// 0: the connection was answered to its end. 2: the words are no command line, and how the program is called was
-/// printed. 3: the rows of the file are refused, and the first fault was printed. 5, 6: the input or the output failed,
-/// and its count of faults rose. 7: the file of rows wasn't opened, or reading it failed, and one of the place's counts
-/// rose. 8: the connection was refused, or its input ended within a request. 9: memory was wanting. What the place gave
-/// to read the rows is given back.
+/// 0: the connection was answered to its end, or the job over the store was done. 2: the words are no command line, and
+/// how the program is called was printed. 3: the rows of the file, of the input or of the store are refused, and the first
+/// fault was printed. 4: the store's keeper failed, and the place's count of those rose; nothing was printed. 5, 6: the
+/// input or the output failed, and its count of faults rose. 7: the file of rows or the store wasn't opened, or reading
+/// the file failed, and one of the place's counts rose. 8: the connection was refused, or its input ended within a request.
+/// 9: memory was wanting. What the place gave to read the rows, and the keeper of the store, are given back.
 pub fn run_site<P: Place>(
     rt: &HostRuntime,
     alloc: Global,
@@ -199,6 +202,9 @@ pub fn run_site<P: Place>(
         Ok(Job::Replay(Some(path))) => {
             replay_file(rt, alloc, path.as_str(), place, input, output)
         }
+        Ok(Job::Import(path)) => import_job(alloc, path.as_str(), place, input, output),
+        Ok(Job::Export(path)) => export_job(alloc, path.as_str(), place, input, output),
+        Ok(Job::Check(path)) => check_job(alloc, path.as_str(), place, input, output),
         Err(WordFault::BadWords) => refuse_words(output),
         Err(WordFault::OutOfMemory) => 9,
     }

@@ -3,10 +3,10 @@ ghost use Rattle.std.specs.Prelude.{◌≡◌, ◌≢◌, [], false, true, IfOk,
 ghost use Rattle.std.specs.String.{string_bytes};
 ghost use Rattle.std.specs.Vec.Iter.{into_iter_items};
 ghost use Rattle.std.specs.IoError.{error_kind};
-ghost use Rattle.clap.specs.Words.{app_of, fault_of, first_of, found_of, kind_of, rows_of, subcommand_of, subcommand_rows_of};
+ghost use Rattle.clap.specs.Words.{app_of, fault_of, first_of, found_of, kind_of, rows_of, rule_of, subcommand_of, subcommand_rows_of, with_subcommand};
 ghost use Rattle.clap.specs.declared.builder.command.Command.TheViews.{out-Command as fields_of};
 ghost use Rattle.clap.specs.declared.error.kind.ErrorKind.TheVariants as kind;
-ghost use Rattle.site_cli.specs.Words.{asked, asked_of, replay_app, synopsis};
+ghost use Rattle.site_cli.specs.Words.{asked, asked_of, named_job, replay_app, site_app, store_app, store_job, store_rule, synopsis};
 
 use clap::error::ErrorKind as ClapKind;
 use clap::{Arg, ArgMatches, Command, Error as ClapError};
@@ -21,6 +21,12 @@ pub enum Job {
     /// `replay [ROWS]`: answer one connection, from the input to the output, over the site of the file of rows of that
     /// path, or over the starter site.
     Replay(Option<String>),
+    /// `import --store PATH`: fill the store of that path with the rows of the input.
+    Import(String),
+    /// `export --store PATH`: write the rows of the store of that path out.
+    Export(String),
+    /// `check --store PATH`: check that the store of that path holds a site.
+    Check(String),
 }
 
 /// Why the words name no job.
@@ -49,14 +55,52 @@ fn replay_command<'a>(alloc: Global) -> Result<Command<'a>, AllocError>
     Command::new(alloc, "replay").arg(Arg::new(alloc, "ROWS"))
 }
 
-/// The program's commands.
-fn site_command<'a>(alloc: Global) -> Result<Command<'a>, AllocError>
-    ensures { IfOk result (λ c. app_of c ≡ synopsis) }
+/// `--store PATH`.
+fn store_arg<'a>(alloc: Global) -> Arg<'a>
+    ensures rule { rule_of result ≡ store_rule }
+    ensures local { result.global ≡ false }
+{
+    Arg::new(alloc, "store").long("store").required(true)
+}
+
+/// A subcommand that works on a store.
+fn store_command<'a>(alloc: Global, name: &'a str) -> Result<Command<'a>, AllocError>
+    ensures app { IfOk result (λ c. app_of c ≡ store_app name.entry.now) }
+    ensures local { IfOk result (λ c. (fields_of c).has_globals ≡ false) }
+{
+    Command::new(alloc, name).arg(store_arg(alloc))
+}
+
+/// A command with one more subcommand that works on a store.
+fn with_store_command<'a>(
+    alloc: Global,
+    command: Command<'a>,
+    name: &'a str,
+) -> Result<Command<'a>, AllocError>
+    ensures { IfOk result (λ c. app_of c ≡ with_subcommand (app_of command.entry) (store_app name.entry.now).top) }
+{
+    command.subcommand(store_command(alloc, name)?)
+}
+
+/// The program with `replay`.
+fn replay_site<'a>(alloc: Global) -> Result<Command<'a>, AllocError>
+    ensures { IfOk result (λ c. app_of c ≡ with_subcommand site_app replay_app.top) }
 {
     let site = Command::new(alloc, "site")
         .no_binary_name(true)
         .subcommand_required(true);
     site.subcommand(replay_command(alloc)?)
+}
+
+/// The program's commands.
+fn site_command<'a>(alloc: Global) -> Result<Command<'a>, AllocError>
+    ensures { IfOk result (λ c. app_of c ≡ synopsis) }
+{
+    let replaying = replay_site(alloc)?;
+    let importing = with_store_command(alloc, replaying, "import")?;
+    let exporting = with_store_command(alloc, importing, "export")?;
+    let checking = with_store_command(alloc, exporting, "check")?;
+    Ok(checking)
 }
 
 /// Why clap refused the words.
@@ -82,12 +126,48 @@ fn matches_of<'a>(alloc: Global, words: &'a [String]) -> Result<ArgMatches<'a>, 
     }
 }
 
-/// The path that `replay` is given.
-fn path_given(alloc: Global, matches: &ArgMatches<'_>) -> Result<Option<String>, AllocError>
-    ensures { IfOk result (λ path. option_map string_bytes path ≡ first_of (codes "ROWS") (rows_of (found_of matches.now))) }
+/// The text that an argument is given.
+fn text_given(
+    alloc: Global,
+    matches: &ArgMatches<'_>,
+    id: &str,
+) -> Result<Option<String>, AllocError>
+    ensures { IfOk result (λ path. option_map string_bytes path ≡ first_of id.now (rows_of (found_of matches.now))) }
 {
-    match matches.get_str("ROWS") {
+    match matches.get_str(id) {
         Some(path) => Ok(Some(String::from_str(alloc, path)?)),
+        None => Ok(None),
+    }
+}
+
+/// The job of that name on the store of a path.
+fn store_job(name: &str, path: String) -> Option<Job>
+    ensures { option_map asked_of result ≡ store_job name.now (Some (string_bytes path)) }
+{
+    if name == "import" {
+        Some(Job::Import(path))
+    } else if name == "export" {
+        Some(Job::Export(path))
+    } else if name == "check" {
+        Some(Job::Check(path))
+    } else {
+        None
+    }
+}
+
+/// The job of a subcommand, if it is one.
+fn named_job(
+    alloc: Global,
+    name: &str,
+    matches: &ArgMatches<'_>,
+) -> Result<Option<Job>, AllocError>
+    ensures { IfOk result (λ job. option_map asked_of job ≡ named_job name.now (rows_of (found_of matches.now))) }
+{
+    if name == "replay" {
+        return Ok(Some(Job::Replay(text_given(alloc, matches, "ROWS")?)));
+    }
+    match text_given(alloc, matches, "store")? {
+        Some(path) => Ok(store_job(name, path)),
         None => Ok(None),
     }
 }
@@ -100,9 +180,12 @@ pub fn read_words(alloc: Global, words: &[String]) -> Result<Job, WordFault>
     ensures bad { IfErr result (λ fault. fault ≡ WordFault.BadWords → asked (map string_bytes words.now) ≡ None) }
 {
     let found = matches_of(alloc, words)?;
-    match found.subcommand() {
-        Some((name, matches)) if name == "replay" => Ok(Job::Replay(path_given(alloc, matches)?)),
-        _ => Err(WordFault::BadWords),
+    let Some((name, matches)) = found.subcommand() else {
+        return Err(WordFault::BadWords);
+    };
+    match named_job(alloc, name, matches)? {
+        Some(job) => Ok(job),
+        None => Err(WordFault::BadWords),
     }
 }
 

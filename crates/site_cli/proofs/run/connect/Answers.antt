@@ -35,3 +35,4 @@ returns-clause-cause g c =
     let place = c.gate-gate.ensures.steady ∙ c.entropy-entropy.ensures.later ∙ ap entropy_given c.clock-clock.ensures.later in
     ended_cause c.serve_connection-ended.result _ _ c.status_of.result c.status_of.ensures c.serve_connection-ended.ensures.reads c.serve_connection-ended.ensures.writes
     (record { own = ap (λ (v : PlaceView). v.faults) place; rows = ap (λ (v : PlaceView). v.rows_faults) place })
+    (ap (λ (v : PlaceView). v.keeper_faults) place)

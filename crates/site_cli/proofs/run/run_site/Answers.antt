@@ -1,6 +1,6 @@
 use Rattle.std.proofs.Common.{map, refl}
 use Rattle.std.specs.String.{string_bytes}
-use Rattle.site_cli.specs.Run.{Outside}
+use Rattle.site_cli.specs.Outside.{Outside}
 use Rattle.site_cli.specs.Words.{asked}
 use Rattle.site_cli.proofs.Loading.{starved}
 use Rattle.site_cli.proofs.run.run_site.Goals as goal

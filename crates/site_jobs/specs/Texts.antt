@@ -1,7 +1,8 @@
--- What is printed of rows that are refused.
+-- What is printed: of rows that are refused, and of jobs that are done.
 use Rattle.std.specs.Prelude.{ℕ, List, ◌++◌, codes, Option, Some, None}
 use Rattle.std.specs.Fmt.{decimal}
 use Rattle.content_rows.specs.CellText.{cell_text}
+use Rattle.content_rows.specs.declared.cell.Cell.{Cell}
 use Rattle.content_state.specs.declared.site_rules.NotASite.{NotASite}
 use Rattle.content_state.specs.declared.site_rules.SiteRule.{SiteRule}
 use Rattle.content_state.specs.declared.site_rules.SiteRule.TheVariants as rule
@@ -12,6 +13,8 @@ use Rattle.site_files.specs.declared.fault.LineFault.{LineFault}
 use Rattle.site_files.specs.declared.fault.LineFault.TheVariants as line
 use Rattle.site_files.specs.declared.fault.ReadFault.{ReadFault}
 use Rattle.site_files.specs.declared.fault.ReadFault.TheVariants as why
+use Rattle.site_import.specs.declared.ImportFault.{ImportFault}
+use Rattle.site_import.specs.declared.ImportFault.TheVariants as import_fault
 
 -- the word of a rule of sites
 abbrev pub site_rule_word : SiteRule → List ℕ
@@ -52,3 +55,23 @@ fault_text (why.Line number fault) = Some (line_text number fault)
 fault_text (why.Cell fault) = Some (cell_fault_text fault)
 fault_text why.Source = None
 fault_text why.OutOfMemory = None
+
+-- of a cell whose write would count a tag past the greatest count, as `cell node:1: full number`
+abbrev pub full_text : Cell → List ℕ
+full_text cell = codes "cell " ++ cell_text cell ++ codes ": full number\n"
+
+-- of a fault of an import; none of one of the source or of memory
+abbrev pub import_fault_text : ImportFault → Option (List ℕ)
+import_fault_text (import_fault.Line number fault) = Some (line_text number fault)
+import_fault_text (import_fault.Cell fault) = Some (cell_fault_text fault)
+import_fault_text (import_fault.Full cell) = Some (full_text cell)
+import_fault_text import_fault.Source = None
+import_fault_text import_fault.OutOfMemory = None
+
+-- how many rows were read, and how many cells changed
+abbrev pub imported_text : ℕ → ℕ → List ℕ
+imported_text rows changed = codes "imported " ++ decimal rows ++ codes " changed " ++ decimal changed ++ codes "\n"
+
+-- the number of a site, and how many rows it has
+abbrev pub checked_text : ℕ → ℕ → List ℕ
+checked_text number rows = codes "site ok number " ++ decimal number ++ codes " rows " ++ decimal rows ++ codes "\n"

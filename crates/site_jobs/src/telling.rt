@@ -1,0 +1,91 @@
+//! Jobs that tell of the site that a keeper holds.
+ghost use Rattle.std.specs.Prelude.{◌≡◌, ◌≤◌, ◌⊎◌, IfOk, length};
+ghost use Rattle.site_jobs.specs.Jobs.{checked, exported, KeeperRises, OutputRises, TellsBy};
+
+use crate::fault::NoJob;
+use crate::ground::load_site;
+use crate::job::{JobEnd, print_refusal};
+use crate::texts::checked_text;
+use content_state::{Rows, State};
+use site_import::{ExportFault, export};
+use site_io::{Sink, write_whole};
+use site_keeper::Keeper;
+use std::alloc::{AllocError, Global};
+
+/// Writes the rows of the site that a keeper holds, one a line, in the order of their cells.
+///
+/// What is stored stays. `Refused`: it is no site, and the first fault is printed.
+pub fn export_rows<K: Keeper, O: Sink>(alloc: Global, keeper: &mut K, sink: &mut O) -> JobEnd
+    ensures does { TellsBy exported result
+        (record { kept = K.kept keeper.old; written = O.written sink.old; writing = O.faults sink.old })
+        (record { kept = K.kept keeper.new; written = O.written sink.new; writing = O.faults sink.new }) }
+    ensures stays { K.kept keeper.new ≡ K.kept keeper.old }
+    ensures keeper { KeeperRises result (K.faults keeper.old) (K.faults keeper.new) }
+    ensures output { OutputRises result (O.faults sink.old) (O.faults sink.new) }
+{
+    match load_site(alloc, keeper) {
+        Ok(site) => match export(alloc, &site, sink) {
+            Ok(()) => JobEnd::Done,
+            Err(ExportFault::Sink) => JobEnd::OutputFailed,
+            Err(ExportFault::OutOfMemory) => JobEnd::OutOfMemory,
+        },
+        Err(NoJob::Refused(text)) => {
+            print_refusal(sink, text.as_slice());
+            JobEnd::Refused
+        }
+        Err(NoJob::Keeper) => JobEnd::KeeperFailed,
+        Err(NoJob::Input) => JobEnd::InputFailed,
+        Err(NoJob::OutOfMemory) => JobEnd::OutOfMemory,
+    }
+}
+
+/// How many rows there are. `Err` only where they are more than a u64 counts, which no memory holds.
+fn row_count(rows: &Rows) -> Result<u64, AllocError>
+    ensures { IfOk result (λ n. n ≡ length rows.now) }
+{
+    let mut count: u64 = 0;
+    'rows: for _row in rows.iter() {
+        let Some(more) = count.checked_add(1) else {
+            return Err(AllocError);
+        };
+        count = more;
+    }
+    Ok(count)
+}
+
+/// What is printed of a site that was checked.
+fn text_of(alloc: Global, site: &State) -> Result<Vec<u8>, AllocError>
+    ensures { IfOk result (λ text. text.items ≡ checked site.now) }
+{
+    let rows = row_count(site.rows())?;
+    checked_text(alloc, site.number(), rows)
+}
+
+/// Checks that a keeper holds a site, and prints its number and how many rows it has.
+///
+/// What is stored stays. `Refused`: it is no site, and the first fault is printed.
+pub fn check_site<K: Keeper, O: Sink>(alloc: Global, keeper: &mut K, sink: &mut O) -> JobEnd
+    ensures does { TellsBy checked result
+        (record { kept = K.kept keeper.old; written = O.written sink.old; writing = O.faults sink.old })
+        (record { kept = K.kept keeper.new; written = O.written sink.new; writing = O.faults sink.new }) }
+    ensures stays { K.kept keeper.new ≡ K.kept keeper.old }
+    ensures keeper { KeeperRises result (K.faults keeper.old) (K.faults keeper.new) }
+    ensures output { OutputRises result (O.faults sink.old) (O.faults sink.new) }
+{
+    match load_site(alloc, keeper) {
+        Ok(site) => match text_of(alloc, &site) {
+            Ok(text) => match write_whole(sink, text.as_slice()) {
+                Ok(()) => JobEnd::Done,
+                Err(_) => JobEnd::OutputFailed,
+            },
+            Err(_) => JobEnd::OutOfMemory,
+        },
+        Err(NoJob::Refused(text)) => {
+            print_refusal(sink, text.as_slice());
+            JobEnd::Refused
+        }
+        Err(NoJob::Keeper) => JobEnd::KeeperFailed,
+        Err(NoJob::Input) => JobEnd::InputFailed,
+        Err(NoJob::OutOfMemory) => JobEnd::OutOfMemory,
+    }
+}
