@@ -1,5 +1,8 @@
 //! Files of rows, imported and written.
 
+ghost use Rattle.std.specs.Prelude.{◌≡◌, IfOk};
+ghost use Rattle.content_state.specs.SiteRules.{AreValidRows};
+
 use crate::lines::{
     ADMIN, ANONYMOUS, BACKWARDS, CHANGED, CHANGED_AND_RENAMED, CHANGED_AND_SAME,
     CHANGED_AND_TOO_LOW, CHANGED_LOOSELY, HOME, MEMBER, PAGE, RENAMED, SEQ, SEQ_TOO_LOW, SITE,
@@ -72,7 +75,10 @@ fn counts_with(alloc: Global, full: Full) -> Result<Counts, AllocError> {
 }
 
 /// The new site with these counts.
-fn new_site(alloc: Global, counts: Counts) -> Result<State, Fail> {
+fn new_site(alloc: Global, counts: Counts) -> Result<State, Fail>
+    ensures right { IfOk result (λ site. AreValidRows site.rows) }
+    ensures new { IfOk result (λ site. site.number ≡ 0) }
+{
     let mut source = MemorySource::new(Vec::from_slice(alloc, STARTER)?, 100);
     let rows = read_rows(alloc, &mut source)?;
     match State::from_rows(alloc, rows, counts, 0) {
@@ -185,7 +191,8 @@ fn sources_that_fail(rt: HostRuntime) -> Result<(), Fail> {
     let alloc = rt.alloc();
     let source = MemorySource::new(Vec::from_slice(alloc, STARTER)?, 100);
     let mut failing = source.failing_at(vec![in alloc; 2]?);
-    assert!(rt; found_by(alloc, &mut failing, true, Full::Nothing)? == Found::Source);
+    let found = found_by(alloc, &mut failing, true, Full::Nothing)?;
+    assert!(rt; matches!(found, Found::Source));
     Ok(())
 }
 
