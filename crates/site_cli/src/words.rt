@@ -156,11 +156,7 @@ fn store_job(name: &str, path: String) -> Option<Job>
 }
 
 /// The job of a subcommand, if it is one.
-fn named_job(
-    alloc: Global,
-    name: &str,
-    matches: &ArgMatches<'_>,
-) -> Result<Option<Job>, AllocError>
+fn named_job(alloc: Global, name: &str, matches: &ArgMatches<'_>) -> Result<Option<Job>, AllocError>
     ensures { IfOk result (λ job. option_map asked_of job ≡ named_job name.now (rows_of (found_of matches.now))) }
 {
     if name == "replay" {

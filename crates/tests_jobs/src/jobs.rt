@@ -31,16 +31,10 @@ fn place_over(
     }
     let path = String::from_str(alloc, "s")?;
     let mut stores = Vec::new(alloc);
-    stores.push(MemoryStore::new(
-        path,
-        stored,
-        Vec::from_slice(alloc, calls)?,
-    ))?;
+    stores.push(MemoryStore::new(path, stored, Vec::from_slice(alloc, calls)?))?;
     let place = MemoryPlace::new(alloc, Vec::new(alloc), Vec::new(alloc));
     let place = place.with_stores(stores);
-    Ok(Some(
-        place.failing_at(Vec::from_slice(alloc, openings)?),
-    ))
+    Ok(Some(place.failing_at(Vec::from_slice(alloc, openings)?)))
 }
 
 /// A run of the program: the status, what is written, and the place.
@@ -127,7 +121,8 @@ fn a_store_is_filled_checked_and_written_out(rt: HostRuntime) {
 }
 
 /// Two rows, and a line that is no JSON.
-const BROKEN: &[u8] = b"{\"cell\":\"site\",\"front\":\"/node\",\"name\":\"Site\"}\n{\"cell\":\"seq\",\"node\":2,\"term\":1,\"user\":2}\n{\n";
+const BROKEN: &[u8] =
+    b"{\"cell\":\"site\",\"front\":\"/node\",\"name\":\"Site\"}\n{\"cell\":\"seq\",\"node\":2,\"term\":1,\"user\":2}\n{\n";
 
 /// The settings of a site alone.
 const SETTINGS: &[u8] = b"{\"cell\":\"site\",\"front\":\"/node\",\"name\":\"Site\"}\n";
@@ -184,14 +179,7 @@ fn ends(rt: &HostRuntime, row: &Row<'_>) -> Result<bool, AllocError> {
     let Some(place) = place_over(rt.alloc(), stored, row.calls, row.openings)? else {
         return Ok(false);
     };
-    let ran = ran(
-        rt,
-        place,
-        row.words,
-        row.input,
-        row.reads,
-        row.capacity,
-    )?;
+    let ran = ran(rt, place, row.words, row.input, row.reads, row.capacity)?;
     Ok(ran.status == row.status && ran.sink.bytes() == row.printed)
 }
 
@@ -300,11 +288,7 @@ fn words_of_jobs(rt: HostRuntime) {
         (&["import"], 2, USAGE),
         (&["import", "--store"], 2, USAGE),
         (&["export", "s"], 2, USAGE),
-        (
-            &["check", "--store", "s", "--store", "s"],
-            2,
-            USAGE,
-        ),
+        (&["check", "--store", "s", "--store", "s"], 2, USAGE),
         (&["import", "--help"], 2, USAGE),
         (&["check", "--store", "t"], 7, b""),
     ];
