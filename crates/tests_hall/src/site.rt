@@ -1,11 +1,11 @@
 //! A site with a session, its hall, and edits of it.
-ghost use Rattle.std.specs.Prelude.{IsTrue, IfOk};
+ghost use Rattle.std.specs.Prelude.{◌≡◌, IsTrue, IfOk};
 ghost use Rattle.content_rows.specs.Kinds.{is_line};
 ghost use Rattle.content_state.specs.SiteRules.{AreValidRows};
 ghost use Rattle.site_commands.specs.Right.{IsRight, IsRightNodePatch};
 
 use cacheability::{Name, Tag};
-use content_rows::{Cell, Items, Row, Session, Text, starter};
+use content_rows::{Cell, Items, Row, Session, Text, has_line_bytes, is_utf8, starter};
 use content_state::{Ask, Rows};
 use json_keys::Checked;
 use site_commands::{Answer, Command, NodeChange, NodeKeys, NodePatch};
@@ -85,14 +85,30 @@ pub enum Title {
     B,
 }
 
+// Whether a text is a line of at most 255 bytes.
+fn is_title(text: &Text) -> bool
+    ensures { result ≡ is_line 255 text.now }
+{
+    let text = text.as_slice();
+    !text.is_empty() && text.len() <= 255 && has_line_bytes(text) && is_utf8(text)
+}
+
+fn letter(title: Title) -> &'static [u8] {
+    match title {
+        Title::A => b"A",
+        Title::B => b"B",
+    }
+}
+
 // The bytes of a title.
 fn title_text(alloc: Global, title: Title) -> Result<Text, AllocError>
     ensures { IfOk result (λ text. IsTrue (is_line 255 text)) }
 {
-    match title {
-        Title::A => Text::copied(alloc, b"A"),
-        Title::B => Text::copied(alloc, b"B"),
+    let text = Text::copied(alloc, letter(title))?;
+    if !is_title(&text) {
+        return Err(AllocError);
     }
+    Ok(text)
 }
 
 // What the body says that gives a node this title, in place of the one of this version.
