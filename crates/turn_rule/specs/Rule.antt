@@ -66,7 +66,7 @@ pub record IsPass (books : Books) (number : ℕ) (pass : PassNote) : Type 0 wher
   pub whole : Begins books.opened.log pass.seen
   pub faults_from : books.opened.faults ≤ pass.faults
   pub faults_to : pass.faults ≤ books.hall.faults
-  pub handed : IsSublist (by_pass number books.past ++ by_pass number (waiting books.hall)) pass.handed
+  pub handed : IsSublist (by_pass number (books.past ++ waiting books.hall)) pass.handed
 
 pub record AreSound (books : Books) : Type 0 where
   pub loaded : books.hall.loaded ≡ books.opened.loaded

@@ -28,10 +28,6 @@ Bears state seat pass = (note : Note) × Sits state seat note × IsAmong pass no
 abbrev pub since : HallNote → HallNote → List Commit
 since opened hall = drop (length opened.log) hall.log ++ waiting hall
 
--- the same of one pass
-abbrev pub own_since : ℕ → HallNote → HallNote → List Commit
-own_since number opened hall = by_pass number (drop (length opened.log) hall.log) ++ by_pass number (waiting hall)
-
 module _ {S : Type 0} (noted : S → Option HallNote) (state : State S Note) where
   -- Where the hall is, whether it lies in the slot or is out with a seat.
   pub record IsTheHall (hall : HallNote) : Type 0 where
@@ -52,7 +48,7 @@ module _ {S : Type 0} (noted : S → Option HallNote) (state : State S Note) whe
     -- each number is given once
     pub once : (seat other : ℕ) (pass also : PassNote) → Bears state seat pass → Bears state other also → pass.number ≡ also.number → (seat ≡ other) × (pass ≡ also)
     -- its edits since the opening, and the pending one, are of those that it handed in, in that order
-    pub handed : (seat : ℕ) (pass : PassNote) → Bears state seat pass → IsSublist (own_since pass.number pass.opened hall) pass.handed
+    pub handed : (seat : ℕ) (pass : PassNote) → Bears state seat pass → IsSublist (by_pass pass.number (since pass.opened hall)) pass.handed
 
   -- What the founder knows.
   pub record IsFounder (hall : HallNote) (founder : FounderNote) : Type 0 where
