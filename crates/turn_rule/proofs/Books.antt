@@ -7,7 +7,7 @@ use Rattle.std.proofs.lemmas.List.Elements.{All-nil, All-cons, All-append, All-w
 use Rattle.std.proofs.lemmas.List.Sums.{sum_by-set, sum_by_push, get_or-le-sum_by}
 use Rattle.content_state.specs.Replay.{Begins}
 use Rattle.content_state.specs.declared.commit.Commit.{Commit}
-use Rattle.turn_rule.specs.House.{IsSublist, by_pass}
+use Rattle.site_house.specs.House.{IsSublist, by_pass}
 use Rattle.turn_rule.specs.declared.notes.TallyNote.{TallyNote}
 use Rattle.turn_rule.specs.declared.notes.HallNote.{HallNote}
 use Rattle.turn_rule.specs.declared.notes.PassNote.{PassNote}

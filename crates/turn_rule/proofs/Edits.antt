@@ -4,7 +4,7 @@ use Rattle.std.specs.List.{All}
 use Rattle.std.proofs.lemmas.List.Elements.{All-nil, All-cons, All-head, All-tail, All-weaker, filter-append}
 use Rattle.content_state.specs.Replay.{Begins}
 use Rattle.content_state.specs.declared.commit.Commit.{Commit}
-use Rattle.turn_rule.specs.House.{IsSublist, by_pass}
+use Rattle.site_house.specs.House.{IsSublist, by_pass}
 use Rattle.turn_rule.specs.Rule.{capped}
 use Rattle.turn_rule.specs.Steps.{plus, longer}
 

@@ -193,7 +193,7 @@ module _ {S : Type 0} (noted : S → Option HallNote) where
           let n = length b.passes in
           let b' = drawn b in
           let a' : Account = record { books = b'; owner = a.owner; head = a.head; holder = moved a.holder n id } in
-          let w = λ (k : FounderNote). record { fresh = false; hall = None; founder = Some (record { made = k.made + 1; opened = k.opened }); passes = new_pass k ∷ [] } in
+          let w : FounderNote → Note = λ k. record { fresh = false; hall = None; founder = Some (record { made = k.made + 1; opened = k.opened }); passes = new_pass k ∷ [] } in
           let others = λ (j : ℕ) (u : Note) (ne : j ≢ id) (x : get_elem? s.views j ≡ some u). (let g = o.fits j u x in
           let r : Fits a' gate j u = record { old = g.old; hall = g.hall; founder = λ q r. absurd (ne ((g.founder q r).0 ∙ sym mine.0)); passes = claims_new b.passes a.holder j id new u.passes g.passes } in r) in
           let here : Fits a' gate id (w (founder_in b)) = record {
