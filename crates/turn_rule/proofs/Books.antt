@@ -1,5 +1,5 @@
 -- What each step does to the books keeps them sound.
-use Rattle.std.proofs.Common.{◌≡◌, ◌≢◌, ℕ, ◌+◌, ◌<◌, ◌≤◌, List, [], ◌∷◌, ◌++◌, ◌==◌, length, set, get_or, map, drop, Bool, true, ◌⊎◌, Option, None, option_to_list, refl, sym, ap, ◌∙◌, subst, arith, append_assoc, append-nil, length-append, length-set, le_trans, le_refl}
+use Rattle.std.proofs.Common.{◌≡◌, ◌≢◌, ℕ, ◌+◌, ◌<◌, ◌≤◌, List, [], ◌∷◌, ◌++◌, ◌==◌, length, set, drop, Bool, Option, None, option_to_list, refl, sym, ap, ◌∙◌, subst, arith, append_assoc, append-nil, length-append, length-set, le_trans, le_refl}
 use mathlib.Core.Option.{some, some-ne-none}
 use lib.ListN.{get_elem?}
 use Rattle.std.specs.List.{All, sum_by}
@@ -11,7 +11,6 @@ use Rattle.site_house.specs.House.{IsSublist, by_pass}
 use Rattle.turn_rule.specs.declared.notes.TallyNote.{TallyNote}
 use Rattle.turn_rule.specs.declared.notes.HallNote.{HallNote}
 use Rattle.turn_rule.specs.declared.notes.PassNote.{PassNote}
-use Rattle.turn_rule.specs.declared.notes.FounderNote.{FounderNote}
 use Rattle.turn_rule.specs.Logs.{waiting}
 use Rattle.turn_rule.specs.Rule.{Books, IsPass, AreSound, Claims, Counted, looks, found, kept, count_of, capped, IsSum, founder_in}
 use Rattle.turn_rule.specs.Steps.{plus, Knows, raised, zeros, given, after_turn, Turns, new_pass, seeing}

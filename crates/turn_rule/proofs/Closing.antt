@@ -1,18 +1,15 @@
 -- The end: with all passes on one seat, what the hall counted is the sum.
-use Rattle.std.proofs.Common.{◌≡◌, ◌≢◌, ℕ, zero, suc, ◌+◌, ◌<◌, false, List, [], ◌∷◌, length, set, map, ◌⊎◌, inl, inr, ⊎_elim, Option, Some, refl, sym, ap, ◌∙◌, subst, arith}
+use Rattle.std.proofs.Common.{◌≡◌, ◌≢◌, ℕ, suc, ◌+◌, ◌<◌, List, [], ◌∷◌, length, set, map, ◌⊎◌, inl, inr, ⊎_elim, Option, refl, sym, ap, ◌∙◌, subst, arith}
 use Rattle.std.proofs.lemmas.List.{length-map}
 use Rattle.std.specs.List.{sum, sum_by}
-use Rattle.std.proofs.lemmas.List.Sums.{sum_by-cons, sum-map, sum_by-le, sum_by-set}
-use Rattle.std.proofs.lemmas.List.Elements.{All-nil, All-cons}
-use mathlib.Core.Option.{some, some-injective, some-ne-none}
+use Rattle.std.proofs.lemmas.List.Sums.{sum_by-cons, sum-map, sum_by-set}
+use mathlib.Core.Option.{some}
 use lib.ListN.{get_elem?}
-use Rattle.atomic_table.specs.Table.{State}
 use Rattle.atomic_table.proofs.Lists.{set_else, at_map}
 use Rattle.turn_rule.specs.declared.notes.HallNote.{HallNote}
 use Rattle.turn_rule.specs.declared.notes.PassNote.{PassNote}
 use Rattle.turn_rule.specs.declared.notes.FounderNote.{FounderNote}
-use Rattle.turn_rule.specs.declared.notes.Note.{Note}
-use Rattle.turn_rule.specs.Rule.{Account, AreOthers, Claims, IsOpen, IsFresh, Counted, count_of, capped, IsSum}
+use Rattle.turn_rule.specs.Rule.{Account, AreOthers, Claims, IsOpen, IsFresh, Counted, count_of, capped}
 use Rattle.turn_rule.specs.Steps.{HasNumber, AreAll, Closes}
 use Rattle.turn_rule.specs.Laws.{SitesClose}
 use Rattle.turn_rule.proofs.Claims.{at_below, at_get, each_set}

@@ -1,24 +1,23 @@
 -- Each kind of step keeps the rule.
-use Rattle.std.proofs.Common.{◌≡◌, ◌≢◌, ℕ, zero, suc, ◌+◌, ◌%◌, ◌^◌, ◌<◌, ◌≤◌, List, [], ◌∷◌, ◌++◌, length, set, map, ◌==◌, Bool, true, false, true≢false, ◌⊎◌, inl, inr, ⊎_elim, Option, Some, None, refl, sym, ap, ◌∙◌, subst, arith, length-append, mod-eq_of_lt}
+use Rattle.std.proofs.Common.{◌≡◌, ◌≢◌, ℕ, zero, suc, ◌+◌, ◌%◌, ◌^◌, ◌<◌, List, [], ◌∷◌, ◌++◌, length, set, ◌==◌, false, true≢false, inl, inr, ⊎_elim, Option, Some, None, refl, sym, ap, ◌∙◌, subst, arith, length-append, mod-eq_of_lt}
 use mathlib.Core.Option.{some, some-injective, some-ne-none}
 use lib.ListN.{get_elem?}
 use mathlib.Core.Option as maybe
 use prog.Atomic.{either}
 use Rattle.std.specs.Prelude.{slice_index, slice_set}
 use Rattle.std.proofs.lemmas.List.Elements.{All-nil, All-cons}
-use Rattle.atomic_table.specs.Table.{State, Me, Act, keeps, takes, gives, Valid, carried_after, stepped, Allows, Splits, Joins}
+use Rattle.atomic_table.specs.Table.{State, Me, Act, keeps, takes, gives, Valid, carried_after, stepped, Allows, Joins}
 use Rattle.atomic_table.proofs.Lists.{set_else, set_here, set_again, at_last, exchanged}
 use Rattle.content_state.specs.Replay.{Begins}
 use Rattle.content_state.specs.declared.commit.Commit.{Commit}
-use Rattle.turn_rule.specs.declared.notes.TallyNote.{TallyNote}
 use Rattle.turn_rule.specs.declared.notes.HallNote.{HallNote}
 use Rattle.turn_rule.specs.declared.notes.PassNote.{PassNote}
 use Rattle.turn_rule.specs.declared.notes.FounderNote.{FounderNote}
 use Rattle.turn_rule.specs.declared.notes.Note.{Note}
-use Rattle.turn_rule.specs.Rule.{Books, Account, AreSound, Claims, Fits, IsOpen, IsFresh, KeepsRule, unopened, founder_in, Counted, count_of}
+use Rattle.turn_rule.specs.Rule.{Books, Account, Claims, Fits, IsOpen, IsFresh, KeepsRule, unopened, founder_in, Counted, count_of}
 use Rattle.turn_rule.specs.Steps.{bearing, founding, spent, with_hall, with_passes, after_turn, Turns, Knows, new_pass, longer, seeing, first_of, others_of, left_of, right_of, joined, Opens, TakesOut, Follows, GivesBack, Draws, Meets}
 use Rattle.turn_rule.specs.Laws.{TablesBeginFresh, SitesOpen, HallsAreTakenOut, LogsAreFollowed, HallsAreGivenBack, PassesAreDrawn, PassesMeet, PassesGetSeats, PassesJoinSeats}
-use Rattle.turn_rule.proofs.Edits.{IsLonger, longer_is, begins_then}
+use Rattle.turn_rule.proofs.Edits.{longer_is, begins_then}
 use Rattle.turn_rule.proofs.Claims.{moved, moved_here, at_below, each_set, each_more, others_of_claims, claims_moved, claims_changed, claims_left, claims_new}
 use Rattle.turn_rule.proofs.Books.{turned, turned_sound, drawn, drawn_sound, seen_to, seeing_sound, opening_books, opening_sound, knows, all_know}
 

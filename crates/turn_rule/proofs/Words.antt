@@ -1,5 +1,5 @@
 -- The rule, in plain words.
-use Rattle.std.proofs.Common.{◌≡◌, ℕ, ◌<◌, ◌≤◌, List, [], ◌∷◌, ◌++◌, length, drop, inl, inr, ⊎_elim, Option, Some, refl, sym, ap, ◌∙◌, subst}
+use Rattle.std.proofs.Common.{◌≡◌, ℕ, ◌<◌, ◌≤◌, List, [], ◌∷◌, ◌++◌, length, drop, inl, inr, ⊎_elim, Option, sym, ap, ◌∙◌, subst}
 use Rattle.std.specs.Prelude.{slice_index}
 use Rattle.std.specs.List.{All}
 use mathlib.Core.Option.{some}
@@ -14,7 +14,7 @@ use Rattle.turn_rule.specs.declared.notes.FounderNote.{FounderNote}
 use Rattle.turn_rule.specs.declared.notes.Note.{Note}
 use Rattle.turn_rule.specs.Logs.{waiting}
 use Rattle.turn_rule.specs.Rule.{Account, Claims, IsOpen, IsFresh, founder_in}
-use Rattle.turn_rule.specs.Words.{IsAmong, Bears, Sits, since, IsTheHall, ArePasses, IsFounder}
+use Rattle.turn_rule.specs.Words.{IsAmong, Bears, since, IsTheHall, ArePasses, IsFounder}
 use Rattle.turn_rule.specs.Laws.{RuleInPlainWords}
 use Rattle.turn_rule.proofs.Edits.{drop_front}
 use Rattle.turn_rule.proofs.Claims.{at_below, at_one}
@@ -50,8 +50,8 @@ module _ {S : Type 0} (noted : S → Option HallNote) (s : State S Note) (a : Ac
     faults = λ j p b. let r = o.sound.each p.number p (borne j p b).0 in (subst (λ (x : HallNote). x.faults ≤ p.faults) (sym r.opened) r.faults_from, r.faults_to);
     once = λ j k p q b c e. let t = borne j p b in let u = borne k q c in (sym t.1 ∙ ap a.holder e ∙ u.1, at_one a.books.passes p.number p q t.0 (ap (get_elem? a.books.passes) e ∙ u.0));
     handed = λ j p b.
-    let r = o.sound.each p.number p (borne j p b).0 in
-    subst (λ (l : List Commit). IsSublist (by_pass p.number l) p.handed) (sym (ap (λ (x : HallNote). since x a.books.hall) r.opened ∙ since_is)) r.handed;
+        let r = o.sound.each p.number p (borne j p b).0 in
+        subst (λ (l : List Commit). IsSublist (by_pass p.number l) p.handed) (sym (ap (λ (x : HallNote). since x a.books.hall) r.opened ∙ since_is)) r.handed;
   }
 
   founder : (f : FounderNote) → f ≡ founder_in a.books → IsFounder noted s a.books.hall f

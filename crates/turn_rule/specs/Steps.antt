@@ -181,12 +181,15 @@ module _ {S : Type 0} where
   -- a new pass stands on the founder's seat, with the next number
   abbrev pub Draws : Me S Note → Me S Note → Type 0
   Draws me new = (founder : FounderNote) × (me.0.founder ≡ Some founder)
-      × (new ≡ (record {
-        fresh = false;
-        hall = None;
-        founder = Some (record { made = founder.made + 1; opened = founder.opened });
-        passes = new_pass founder ∷ me.0.passes;
-      }, me.1))
+      × (new ≡ (
+        record {
+          fresh = false;
+          hall = None;
+          founder = Some (record { made = founder.made + 1; opened = founder.opened });
+          passes = new_pass founder ∷ me.0.passes;
+        },
+        me.1,
+      ))
 
   -- the first two passes of a seat have met
   abbrev pub Meets : Me S Note → Me S Note → Type 0
