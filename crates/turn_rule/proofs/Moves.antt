@@ -2,6 +2,8 @@
 use Rattle.std.proofs.Common.{◌≡◌, ◌≢◌, ℕ, zero, suc, ◌+◌, ◌%◌, ◌^◌, ◌<◌, List, [], ◌∷◌, ◌++◌, length, set, ◌==◌, false, true≢false, inl, inr, ⊎_elim, Option, Some, None, refl, sym, ap, ◌∙◌, subst, arith, length-append, mod-eq_of_lt}
 use mathlib.Core.Option.{some, some-injective, some-ne-none}
 use lib.ListN.{get_elem?}
+use mathlib.Core.Logic.{dite}
+use native.Mathlib.Decide.{ℕ_discrete}
 use mathlib.Core.Option as maybe
 use prog.Atomic.{either}
 use Rattle.std.specs.Prelude.{slice_index, slice_set}
@@ -14,11 +16,11 @@ use Rattle.turn_rule.specs.declared.notes.HallNote.{HallNote}
 use Rattle.turn_rule.specs.declared.notes.PassNote.{PassNote}
 use Rattle.turn_rule.specs.declared.notes.FounderNote.{FounderNote}
 use Rattle.turn_rule.specs.declared.notes.Note.{Note}
-use Rattle.turn_rule.specs.Rule.{Books, Account, Claims, Fits, IsOpen, IsFresh, KeepsRule, unopened, founder_in, Counted, count_of}
+use Rattle.turn_rule.specs.Rule.{Books, Account, AreSound, Claims, IsAmong, Stands, Fits, IsOpen, IsFresh, KeepsRule, unopened, founder_in, Counted, count_of}
 use Rattle.turn_rule.specs.Steps.{bearing, founding, spent, with_hall, with_passes, after_turn, Turns, Knows, new_pass, longer, seeing, first_of, others_of, left_of, right_of, joined, Opens, TakesOut, Follows, GivesBack, Draws, Meets}
 use Rattle.turn_rule.specs.Laws.{TablesBeginFresh, SitesOpen, HallsAreTakenOut, LogsAreFollowed, HallsAreGivenBack, PassesAreDrawn, PassesMeet, PassesGetSeats, PassesJoinSeats}
 use Rattle.turn_rule.proofs.Edits.{longer_is, begins_then}
-use Rattle.turn_rule.proofs.Claims.{moved, moved_here, at_below, each_set, each_more, others_of_claims, claims_moved, claims_changed, claims_left, claims_new}
+use Rattle.turn_rule.proofs.Claims.{moved, moved_here, moved_else, at_below, at_one, stands_on, stands_longer, each_set, each_more, others_of_claims, claims_moved, claims_changed, claims_left, claims_new}
 use Rattle.turn_rule.proofs.Books.{turned, turned_sound, drawn, drawn_sound, seen_to, seeing_sound, opening_books, opening_sound, knows, all_know}
 
 none_some : {A : Type 0} (x : A) → None ≡ Some x → ⊥
@@ -34,6 +36,10 @@ set_one (x ∷ y ∷ l) a e = absurd (omega arith)
 
 one_not_zero : ◌≢◌ {A = ℕ} 1 0
 one_not_zero e = omega arith
+
+-- a pass stands in the books at its number
+number_at : (b : Books) (m : ℕ) (x p : PassNote) → AreSound b → get_elem? b.passes m ≡ some x → x ≡ p → m ≡ p.number
+number_at b m x p s e same = sym (s.each m x e).number_is ∙ ap (λ (y : PassNote). y.number) same
 
 -- a seat without the hall says the same at any gate, whoever has the hall
 no_hall : (a : Account) (owner gate gate' j : ℕ) (v : Note) → ((h : HallNote) → v.hall ≡ Some h → ⊥) → Fits a gate j v → Fits (record { books = a.books; owner = owner; head = a.head; holder = a.holder }) gate' j v
@@ -82,6 +88,17 @@ module _ {S : Type 0} (noted : S → Option HallNote) where
   abbrev booked : Account → Books → Account
   booked a books = record { books = books; owner = a.owner; head = a.head; holder = a.holder }
 
+  -- each pass stands where it did, after a change at one seat that keeps its passes
+  abbrev Placed : List Note → Account → Type 0
+  Placed notes a = (n : ℕ) (p : PassNote) → get_elem? a.books.passes n ≡ some p → Stands notes (a.holder n) p
+
+  still_placed : (s : State S Note) (a : Account) (gate id : ℕ) (v w : Note) → IsOpen noted s a gate → get_elem? s.views id ≡ some v → v.passes ≡ w.passes → Placed (set s.views id w) a
+  still_placed s a gate id v w o at same n p e = stands_on s.views id v w (a.holder n) p at (subst (IsAmong p) same) (o.placed n p e)
+
+  -- a pass that has come to a seat stands there
+  comes : (s : State S Note) (id : ℕ) (v w : Note) (k : ℕ) (p : PassNote) → get_elem? s.views id ≡ some v → k ≡ id → IsAmong p w.passes → Stands (set s.views id w) k p
+  comes s id v w k p at is among = subst (λ (j : ℕ). Stands (set s.views id w) j p) (sym is) (w, set_here s.views id w (at_below s.views id v at), among)
+
   -- ---- the hall goes out and comes back
 
   abbrev Ends : ℕ → Note → State S Note → Account → ℕ → ℕ → Type 0
@@ -100,7 +117,7 @@ module _ {S : Type 0} (noted : S → Option HallNote) where
         w,
         takes 0 home.0,
         ap (λ (l : List (maybe.Option S)). get_elem? l 0) home.1,
-        inr (b, 1, record { words = refl; home = λ z. absurd (one_not_zero z); sound = o.sound; fits = each_set (Fits b 1) s.views id w others mine }),
+        inr (b, 1, record { words = refl; home = λ z. absurd (one_not_zero z); sound = o.sound; fits = each_set (Fits b 1) s.views id w others mine; placed = still_placed s a gate id v w o at refl }),
         ((λ _. (home.0, a.books.hall, home.2, refl, all_know a.books a.holder id v.passes o.sound f.passes)), (λ ne. absurd (ne e))),
       )
 
@@ -109,7 +126,7 @@ module _ {S : Type 0} (noted : S → Option HallNote) where
     v,
     keeps,
     tt,
-    inr (a, gate, record { words = refl; home = o.home; sound = o.sound; fits = subst (λ (l : List Note). (j : ℕ) (u : Note) → get_elem? l j ≡ some u → Fits a gate j u) (sym (set_again s.views id v at)) o.fits }),
+    inr (a, gate, record { words = refl; home = o.home; sound = o.sound; fits = subst (λ (l : List Note). (j : ℕ) (u : Note) → get_elem? l j ≡ some u → Fits a gate j u) (sym (set_again s.views id v at)) o.fits; placed = still_placed s a gate id v v o at refl }),
     ((λ e. absurd (ne e)), (λ _. refl)),
   )
 
@@ -135,7 +152,7 @@ module _ {S : Type 0} (noted : S → Option HallNote) where
             inr (
               a,
               0,
-              record { words = refl; home = λ _. (y, set_one s.homes (some y) count, at_home ∙ ap Some mine.1); sound = o.sound; fits = each_set (Fits a 0) s.views id w others here },
+              record { words = refl; home = λ _. (y, set_one s.homes (some y) count, at_home ∙ ap Some mine.1); sound = o.sound; fits = each_set (Fits a 0) s.views id w others here; placed = still_placed s a gate id v w o at refl },
             ),
             refl,
           )
@@ -171,11 +188,14 @@ module _ {S : Type 0} (noted : S → Option HallNote) where
           let word : (length b.hall.log + grown) % 2 ^ 64 ≡ length h'.log = ap (λ (n : ℕ). (length b.hall.log + n) % 2 ^ 64) count_is ∙ ap (λ (n : ℕ). n % 2 ^ 64) (sym length_is) ∙ mod-eq_of_lt small in
           let there = set_here b.passes p.number p' (at_below b.passes p.number p c.0) in
           let others = λ (j : ℕ) (u : Note) (ne : j ≢ id) (x : get_elem? s.views j ≡ some u). turn_other a gate id j u p p' h' (b.past ++ commits) ne c.1 mine.0 (o.fits j u x) in
+          let placed = each_set (λ m x. Stands (set s.views id w) (a.holder m) x) b.passes p.number p'
+          (λ m x ne e. stands_on s.views id (with_hall (Some h) (bearing p)) w (a.holder m) x at (⊎_elim (λ (same : x ≡ p). absurd (ne (number_at b m x p o.sound e same))) (λ (none : IsAmong x []). absurd none)) (o.placed m x e))
+          (comes s id (with_hall (Some h) (bearing p)) w (a.holder p.number) p' at c.1 (inl refl)) in
           let here : Fits b' gate id w = record { old = refl; hall = λ q r. (mine.0, sym (some_same h' q r), mine.2); founder = λ q r. absurd (none_some q r); passes = (there, c.1, tt, tt) } in (
             w,
             keeps,
             tt,
-            inr (b', gate, record { words = ap (λ (n : ℕ). n ∷ gate ∷ []) word; home = λ z. absurd (mine.2 z); sound = sound; fits = each_set (Fits b' gate) s.views id w others here }),
+            inr (b', gate, record { words = ap (λ (n : ℕ). n ∷ gate ∷ []) word; home = λ z. absurd (mine.2 z); sound = sound; fits = each_set (Fits b' gate) s.views id w others here; placed = placed }),
             (h', at_home, refl, All-cons (Knows h') p' [] (knows books p' sound there) (All-nil (Knows h'))),
           )
 
@@ -195,6 +215,10 @@ module _ {S : Type 0} (noted : S → Option HallNote) where
           let w : FounderNote → Note = λ k. record { fresh = false; hall = None; founder = Some (record { made = k.made + 1; opened = k.opened }); passes = new_pass k ∷ [] } in
           let others = λ (j : ℕ) (u : Note) (ne : j ≢ id) (x : get_elem? s.views j ≡ some u). (let g = o.fits j u x in
           let r : Fits a' gate j u = record { old = g.old; hall = g.hall; founder = λ q r. absurd (ne ((g.founder q r).0 ∙ sym mine.0)); passes = claims_new b.passes a.holder j id new u.passes g.passes } in r) in
+          let placed = each_more (λ m x. Stands (set s.views id (w f)) (moved a.holder n id m) x) b.passes new
+          (λ m x e. let below = at_below b.passes m x e in
+          subst (λ (j : ℕ). Stands (set s.views id (w f)) j x) (sym (moved_else a.holder n id m (λ same. omega arith))) (stands_on s.views id (founding f) (w f) (a.holder m) x at (λ (none : IsAmong x []). absurd none) (o.placed m x e)))
+          (comes s id (founding f) (w f) (moved a.holder n id n) new at (moved_here a.holder n id) (inl (ap new_pass (sym mine.1)))) in
           let here : Fits a' gate id (w (founder_in b)) = record {
             old = refl;
             hall = λ q r. absurd (none_some q r);
@@ -204,7 +228,7 @@ module _ {S : Type 0} (noted : S → Option HallNote) where
             w f,
             keeps,
             tt,
-            inr (a', gate, record { words = refl; home = o.home; sound = drawn_sound b o.sound; fits = each_set (Fits a' gate) s.views id (w f) others (subst (λ (k : FounderNote). Fits a' gate id (w k)) (sym mine.1) here) }),
+            inr (a', gate, record { words = refl; home = o.home; sound = drawn_sound b o.sound; fits = each_set (Fits a' gate) s.views id (w f) others (subst (λ (k : FounderNote). Fits a' gate id (w k)) (sym mine.1) here); placed = placed }),
             (f, refl, refl),
           )
 
@@ -237,6 +261,12 @@ module _ {S : Type 0} (noted : S → Option HallNote) where
             founder = g.founder;
             passes = claims_changed ps a.holder j q.number q' u.passes (λ e. ne (sym e ∙ d.1)) (claims_changed b.passes a.holder j p.number p' u.passes (λ e. ne (sym e ∙ c.1)) g.passes);
           } in r) in
+          let v = with_passes (p ∷ q ∷ []) spent in
+          let one : (m : ℕ) (x : PassNote) → m ≢ p.number → get_elem? b.passes m ≡ some x → m ≢ q.number → Stands (set s.views id w) (a.holder m) x =
+          λ m x ne e nq. stands_on s.views id v w (a.holder m) x at
+              (⊎_elim (λ (same : x ≡ p). absurd (ne (number_at b m x p o.sound e same))) (⊎_elim (λ (same : x ≡ q). absurd (nq (number_at b m x q o.sound e same))) (λ (none : IsAmong x []). absurd none))) (o.placed m x e) in
+          let first = each_set (λ m x. m ≢ q.number → Stands (set s.views id w) (a.holder m) x) b.passes p.number p' one (λ _. comes s id v w (a.holder p.number) p' at c.1 (inl refl)) in
+          let placed = each_set (λ m x. Stands (set s.views id w) (a.holder m) x) ps q.number q' (λ m x ne e. first m x e ne) (comes s id v w (a.holder q.number) q' at d.1 (inr (inl refl))) in
           let here = plain_fits a' gate id (p' ∷ q' ∷ []) (
             set_else ps q.number p.number q' (λ e. c.2.0 (sym e)) ∙ set_here b.passes p.number p' (at_below b.passes p.number p c.0),
             c.1,
@@ -246,7 +276,7 @@ module _ {S : Type 0} (noted : S → Option HallNote) where
             w,
             keeps,
             tt,
-            inr (a', gate, record { words = refl; home = o.home; sound = seeing_sound half q l (seeing_sound b p l o.sound c.0 seen whole) there seen whole; fits = each_set (Fits a' gate) s.views id w others here }),
+            inr (a', gate, record { words = refl; home = o.home; sound = seeing_sound half q l (seeing_sound b p l o.sound c.0 seen whole) there seen whole; fits = each_set (Fits a' gate) s.views id w others here; placed = placed }),
             (refl, (both.first, both.second)),
           )
 
@@ -275,7 +305,16 @@ module _ {S : Type 0} (noted : S → Option HallNote) where
           let others = each_set (Fits a' gate) s.views id (left_of v)
           (λ j u ne x. moved_other a gate j n k u (λ e. ne (sym e ∙ c.1)) (o.fits j u x))
           (subst (λ (l : List PassNote). Fits a' gate id (with_passes (others_of l) v)) (sym is) left) in
-          inr (a', gate, record { words = o.words; home = o.home; sound = o.sound; fits = each_more (Fits a' gate) (set s.views id (left_of v)) (right_of v) others (subst (λ (l : List PassNote). Fits a' gate k (with_passes (first_of l) spent)) (sym is) right) })
+          let views = set s.views id (left_of v) in
+          let gone = λ (m : ℕ) (x : PassNote) (same : m ≡ n) (e : get_elem? b.passes m ≡ some x). (let one : q ≡ x = at_one b.passes n q x c.0 (ap (get_elem? b.passes) (sym same) ∙ e) in
+          let among = subst (λ (l : List PassNote). IsAmong q (first_of l)) (sym is) (inl refl) in
+          let k_is : k ≡ moved a.holder n k m = sym (ap (moved a.holder n k) same ∙ moved_here a.holder n k) in
+          let stands : Stands (views ++ right_of v ∷ []) k q = (right_of v, at_last views (right_of v) k refl, among) in
+          subst (λ (t : ℕ × PassNote). Stands (views ++ right_of v ∷ []) t.0 t.1) (λ i. (k_is i, one i)) stands) in
+          let left_there = λ (m : ℕ) (x : PassNote) (ne : m ≢ n) (e : get_elem? b.passes m ≡ some x). (let keep = subst (λ (l : List PassNote). IsAmong x l → IsAmong x (others_of l)) (sym is) (⊎_elim (λ (same : x ≡ q). absurd (ne (number_at b m x q o.sound e same))) (λ (r : IsAmong x ls). r)) in
+          subst (λ (j : ℕ). Stands (views ++ right_of v ∷ []) j x) (sym (moved_else a.holder n k m ne)) (stands_longer views (right_of v ∷ []) (a.holder m) x (stands_on s.views id v (left_of v) (a.holder m) x at keep (o.placed m x e)))) in
+          let placed = λ (m : ℕ) (x : PassNote) (e : get_elem? b.passes m ≡ some x). dite (ℕ_discrete m n) (λ same. gone m x same e) (λ ne. left_there m x ne e) in
+          inr (a', gate, record { words = o.words; home = o.home; sound = o.sound; fits = each_more (Fits a' gate) (set s.views id (left_of v)) (right_of v) others (subst (λ (l : List PassNote). Fits a' gate k (with_passes (first_of l) spent)) (sym is) right); placed = placed })
 
   pub passes_joined : PassesJoinSeats noted
   passes_joined id v other more q old is = subst (λ (u : Note). Joins K id v other u (joined v u) spent) (sym is) here
@@ -294,7 +333,15 @@ module _ {S : Type 0} (noted : S → Option HallNote) where
           let apart = others_of_claims b.passes a.holder id n v.passes (λ e. differ (sym c.1 ∙ e)) f.passes in
           let mine : Fits a' gate id w = record { old = f.old; hall = f.hall; founder = f.founder; passes = (c.0, moved_here a.holder n id, apart, claims_moved b.passes a.holder id n id v.passes apart f.passes) } in
           let first = each_set (λ j u. j ≢ other → Fits a' gate j u) s.views id w (λ j u _ x ne. moved_other a gate j n id u (λ e. ne (sym e ∙ c.1)) (o.fits j u x)) (λ _. mine) in
-          inr (a', gate, record { words = o.words; home = o.home; sound = o.sound; fits = each_set (Fits a' gate) (set s.views id w) other spent (λ j u ne x. first j u x ne) (plain_fits a' gate other [] tt) })
+          let views = set (set s.views id w) other spent in
+          let come = λ (m : ℕ) (x : PassNote) (same : m ≡ n) (e : get_elem? b.passes m ≡ some x). (let one : q ≡ x = at_one b.passes n q x c.0 (ap (get_elem? b.passes) (sym same) ∙ e) in
+          let id_is : id ≡ moved a.holder n id m = sym (ap (moved a.holder n id) same ∙ moved_here a.holder n id) in
+          let stands : Stands views id q = (w, set_else (set s.views id w) other id spent (λ z. differ (sym z)) ∙ set_here s.views id w (at_below s.views id v at), inl refl) in
+          subst (λ (t : ℕ × PassNote). Stands views t.0 t.1) (λ i. (id_is i, one i)) stands) in
+          let stay = λ (m : ℕ) (x : PassNote) (ne : m ≢ n) (e : get_elem? b.passes m ≡ some x). subst (λ (j : ℕ). Stands views j x) (sym (moved_else a.holder n id m ne))
+              (stands_on (set s.views id w) other (bearing q) spent (a.holder m) x there (⊎_elim (λ (same : x ≡ q). absurd (ne (number_at b m x q o.sound e same))) (λ (none : IsAmong x []). none)) (stands_on s.views id v w (a.holder m) x at (λ (r : IsAmong x v.passes). inr r) (o.placed m x e))) in
+          let placed = λ (m : ℕ) (x : PassNote) (e : get_elem? b.passes m ≡ some x). dite (ℕ_discrete m n) (λ same. come m x same e) (λ ne. stay m x ne e) in
+          inr (a', gate, record { words = o.words; home = o.home; sound = o.sound; fits = each_set (Fits a' gate) (set s.views id w) other spent (λ j u ne x. first j u x ne) (plain_fits a' gate other [] tt); placed = placed })
 
       here : Joins K id v other (bearing q) (joined v (bearing q)) spent
       here s h at differ there = ⊎_elim (λ (x : IsFresh noted s). absurd (is_opened s id v old at x)) (λ (x : (a : Account) × (gate : ℕ) × IsOpen noted s a gate). law s x.0 x.1 x.2 at differ there) h
@@ -320,7 +367,7 @@ module _ {S : Type 0} (noted : S → Option HallNote) where
         inr (
           opener h,
           1,
-          record { words = ap (λ (m : ℕ). m ∷ 1 ∷ []) count; home = λ z. absurd (one_not_zero z); sound = opening_sound h none small; fits = each_set (Fits (opener h) 1) (unopened ∷ []) 0 w (λ j u ne e. absurd (no_other j u ne e)) here },
+          record { words = ap (λ (m : ℕ). m ∷ 1 ∷ []) count; home = λ z. absurd (one_not_zero z); sound = opening_sound h none small; fits = each_set (Fits (opener h) 1) (unopened ∷ []) 0 w (λ j u ne e. absurd (no_other j u ne e)) here; placed = λ n p e. absurd (some-ne-none p (sym e)) },
         ),
         (y, h, x, says, is, off, refl),
       )

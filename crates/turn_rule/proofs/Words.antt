@@ -13,11 +13,11 @@ use Rattle.turn_rule.specs.declared.notes.PassNote.{PassNote}
 use Rattle.turn_rule.specs.declared.notes.FounderNote.{FounderNote}
 use Rattle.turn_rule.specs.declared.notes.Note.{Note}
 use Rattle.turn_rule.specs.Logs.{waiting}
-use Rattle.turn_rule.specs.Rule.{Account, Claims, IsOpen, IsFresh, founder_in}
-use Rattle.turn_rule.specs.Words.{IsAmong, Bears, since, IsTheHall, ArePasses, IsFounder}
+use Rattle.turn_rule.specs.Rule.{Account, Claims, IsAmong, IsOpen, IsFresh, founder_in}
+use Rattle.turn_rule.specs.Words.{Bears, since, IsTheHall, ArePasses, IsFounder}
 use Rattle.turn_rule.specs.Laws.{RuleInPlainWords}
 use Rattle.turn_rule.proofs.Edits.{drop_front}
-use Rattle.turn_rule.proofs.Claims.{at_below, at_one}
+use Rattle.turn_rule.proofs.Claims.{at_below, at_one, at_some}
 
 claimed : (all : List PassNote) (holder : ℕ → ℕ) (j : ℕ) (ps : List PassNote) (p : PassNote) → Claims all holder j ps → IsAmong p ps → (get_elem? all p.number ≡ some p) × (holder p.number ≡ j)
 claimed all holder j [] p c i = absurd i
@@ -59,6 +59,7 @@ module _ {S : Type 0} (noted : S → Option HallNote) (s : State S Note) (a : Ac
     loaded = o.sound.loaded;
     whole = (a.books.past, o.sound.log);
     numbered = subst (All (λ c. c.pass < a.books.made)) (sym since_is) o.sound.numbered;
+    there = λ n l. let t = at_some a.books.passes n (subst (λ (m : ℕ). n < m) (sym o.sound.count) l) in (a.holder n, t.0, o.placed n t.0 t.1, (o.sound.each n t.0 t.1).number_is);
     made = λ j p b. subst (λ (n : ℕ). p.number < n) o.sound.count (at_below a.books.passes p.number p (borne j p b).0);
   })
 

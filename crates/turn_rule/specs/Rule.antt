@@ -91,6 +91,14 @@ Claims all holder seat [] = Unit {0}
 Claims all holder seat (pass ∷ passes) =
     (get_elem? all pass.number ≡ some pass) × (holder pass.number ≡ seat) × AreOthers pass.number passes × Claims all holder seat passes
 
+abbrev pub IsAmong : PassNote → List PassNote → Type 0
+IsAmong pass [] = ⊥
+IsAmong pass (other ∷ others) = (pass ≡ other) ⊎ IsAmong pass others
+
+-- a pass stands on a seat
+abbrev pub Stands : List Note → ℕ → PassNote → Type 0
+Stands notes seat pass = (note : Note) × (get_elem? notes seat ≡ some note) × IsAmong pass note.passes
+
 -- what the founder knows
 abbrev pub founder_in : Books → FounderNote
 founder_in books = record { made = books.made; opened = books.opened }
@@ -115,6 +123,7 @@ module _ {S : Type 0} (noted : S → Option HallNote) where
     pub home : gate ≡ 0 → (value : S) × (state.homes ≡ some value ∷ []) × (noted value ≡ Some account.books.hall)
     pub sound : AreSound account.books
     pub fits : (seat : ℕ) (note : Note) → get_elem? state.views seat ≡ some note → Fits account gate seat note
+    pub placed : (number : ℕ) (pass : PassNote) → get_elem? account.books.passes number ≡ some pass → Stands state.views (account.holder number) pass
 
   -- the site is not opened yet
   pub record IsFresh (state : State S Note) : Type 0 where

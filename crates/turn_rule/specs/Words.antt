@@ -11,10 +11,7 @@ use Rattle.turn_rule.specs.declared.notes.PassNote.{PassNote}
 use Rattle.turn_rule.specs.declared.notes.FounderNote.{FounderNote}
 use Rattle.turn_rule.specs.declared.notes.Note.{Note}
 use Rattle.turn_rule.specs.Logs.{waiting}
-
-abbrev pub IsAmong : PassNote → List PassNote → Type 0
-IsAmong pass [] = ⊥
-IsAmong pass (other ∷ others) = (pass ≡ other) ⊎ IsAmong pass others
+use Rattle.turn_rule.specs.Rule.{Stands}
 
 -- a seat has this note
 abbrev pub Sits : {S : Type 0} → State S Note → ℕ → Note → Type 0
@@ -22,7 +19,7 @@ Sits state seat note = get_elem? state.views seat ≡ some note
 
 -- a pass stands on a seat
 abbrev pub Bears : {S : Type 0} → State S Note → ℕ → PassNote → Type 0
-Bears state seat pass = (note : Note) × Sits state seat note × IsAmong pass note.passes
+Bears state seat pass = Stands state.views seat pass
 
 -- the edits since the opening, and then the pending one
 abbrev pub since : HallNote → HallNote → List Commit
@@ -57,7 +54,8 @@ module _ {S : Type 0} (noted : S → Option HallNote) (state : State S Note) whe
     pub whole : Begins founder.opened.log hall.log
     -- each edit since the opening, and the pending one, bears a number that was given
     pub numbered : All (λ commit. commit.pass < founder.made) (since founder.opened hall)
-    -- each number of a pass was given
+    -- a pass stands on some seat for each number that was given, and for no other
+    pub there : (number : ℕ) → number < founder.made → (seat : ℕ) × (pass : PassNote) × Bears state seat pass × (pass.number ≡ number)
     pub made : (seat : ℕ) (pass : PassNote) → Bears state seat pass → pass.number < founder.made
 
   pub record InPlainWords (hall : HallNote) : Type 0 where
