@@ -264,7 +264,7 @@ module _ {S : Type 0} (noted : S → Option HallNote) where
           let v = with_passes (p ∷ q ∷ []) spent in
           let one : (m : ℕ) (x : PassNote) → m ≢ p.number → get_elem? b.passes m ≡ some x → m ≢ q.number → Stands (set s.views id w) (a.holder m) x =
           λ m x ne e nq. stands_on s.views id v w (a.holder m) x at
-              (⊎_elim (λ (same : x ≡ p). absurd (ne (number_at b m x p o.sound e same))) (⊎_elim (λ (same : x ≡ q). absurd (nq (number_at b m x q o.sound e same))) (λ (none : IsAmong x []). absurd none))) (o.placed m x e) in
+          (⊎_elim (λ (same : x ≡ p). absurd (ne (number_at b m x p o.sound e same))) (⊎_elim (λ (same : x ≡ q). absurd (nq (number_at b m x q o.sound e same))) (λ (none : IsAmong x []). absurd none))) (o.placed m x e) in
           let first = each_set (λ m x. m ≢ q.number → Stands (set s.views id w) (a.holder m) x) b.passes p.number p' one (λ _. comes s id v w (a.holder p.number) p' at c.1 (inl refl)) in
           let placed = each_set (λ m x. Stands (set s.views id w) (a.holder m) x) ps q.number q' (λ m x ne e. first m x e ne) (comes s id v w (a.holder q.number) q' at d.1 (inr (inl refl))) in
           let here = plain_fits a' gate id (p' ∷ q' ∷ []) (
@@ -339,7 +339,7 @@ module _ {S : Type 0} (noted : S → Option HallNote) where
           let stands : Stands views id q = (w, set_else (set s.views id w) other id spent (λ z. differ (sym z)) ∙ set_here s.views id w (at_below s.views id v at), inl refl) in
           subst (λ (t : ℕ × PassNote). Stands views t.0 t.1) (λ i. (id_is i, one i)) stands) in
           let stay = λ (m : ℕ) (x : PassNote) (ne : m ≢ n) (e : get_elem? b.passes m ≡ some x). subst (λ (j : ℕ). Stands views j x) (sym (moved_else a.holder n id m ne))
-              (stands_on (set s.views id w) other (bearing q) spent (a.holder m) x there (⊎_elim (λ (same : x ≡ q). absurd (ne (number_at b m x q o.sound e same))) (λ (none : IsAmong x []). none)) (stands_on s.views id v w (a.holder m) x at (λ (r : IsAmong x v.passes). inr r) (o.placed m x e))) in
+          (stands_on (set s.views id w) other (bearing q) spent (a.holder m) x there (⊎_elim (λ (same : x ≡ q). absurd (ne (number_at b m x q o.sound e same))) (λ (none : IsAmong x []). none)) (stands_on s.views id v w (a.holder m) x at (λ (r : IsAmong x v.passes). inr r) (o.placed m x e))) in
           let placed = λ (m : ℕ) (x : PassNote) (e : get_elem? b.passes m ≡ some x). dite (ℕ_discrete m n) (λ same. come m x same e) (λ ne. stay m x ne e) in
           inr (a', gate, record { words = o.words; home = o.home; sound = o.sound; fits = each_set (Fits a' gate) (set s.views id w) other spent (λ j u ne x. first j u x ne) (plain_fits a' gate other [] tt); placed = placed })
 
