@@ -31,10 +31,8 @@ enum Found {
     Cell(Cell, SiteRule, SiteField),
     /// The first cell whose change a count refuses.
     Full(Cell),
-    /// The source failed.
-    Source,
-    /// Memory was wanting.
-    OutOfMemory,
+    /// The source failed, or memory was wanting.
+    Nothing,
 }
 
 /// Which counts are the greatest there are.
@@ -93,8 +91,7 @@ fn found_fault(fault: &ImportFault) -> Found {
         ImportFault::Line { number, fault } => Found::Line(*number, rule_of(fault)),
         ImportFault::Cell(fault) => Found::Cell(fault.cell, fault.rule, fault.field),
         ImportFault::Full(cell) => Found::Full(*cell),
-        ImportFault::Source => Found::Source,
-        ImportFault::OutOfMemory => Found::OutOfMemory,
+        ImportFault::Source | ImportFault::OutOfMemory => Found::Nothing,
     }
 }
 
@@ -191,8 +188,13 @@ fn sources_that_fail(rt: HostRuntime) -> Result<(), Fail> {
     let alloc = rt.alloc();
     let source = MemorySource::new(Vec::from_slice(alloc, STARTER)?, 100);
     let mut failing = source.failing_at(vec![in alloc; 2]?);
-    let found = found_by(alloc, &mut failing, true, Full::Nothing)?;
-    assert!(rt; matches!(found, Found::Source));
+    let counts = Counts::new(alloc);
+    assert!(rt;
+        matches!(
+            import(alloc, &mut failing, Onto::Empty(&counts)),
+            Err(ImportFault::Source)
+        )
+    );
     Ok(())
 }
 
