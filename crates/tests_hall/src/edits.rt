@@ -6,6 +6,7 @@ ghost use Rattle.site_commands.specs.Right.{IsRight};
 use crate::site::{GUARD, Title, full_hall, hall, newest, retitled, sent};
 use cacheability::Tag;
 use content_rows::{Cell, Row};
+use content_state::Rows;
 use site_commands::{Answer, Command, Done, Refusal};
 use site_hall::Hall;
 use site_keeper::{Fail, Keeper, MemoryKeeper};
@@ -247,16 +248,19 @@ fn a_count_cannot_be_raised(rt: HostRuntime) {
     assert!(rt; differs.is_none(), "{differs:?}");
 }
 
+// The version of the first node.
+fn version(rows: &Rows) -> Option<u32> {
+    match rows.get(Cell::Node(1)) {
+        Some(Row::Node(node)) => Some(node.vid),
+        _ => None,
+    }
+}
+
 // The number that a hall's keeper holds, and the version of the first node there.
 fn held(alloc: Global, hall: Hall<MemoryKeeper>) -> Option<(u64, u32)> {
     let mut keeper = hall.into_keeper();
-    let Ok(stored) = keeper.load(alloc) else {
-        return None;
-    };
-    match stored.rows.get(Cell::Node(1)) {
-        Some(Row::Node(node)) => Some((stored.head, node.vid)),
-        _ => None,
-    }
+    let stored = keeper.load(alloc).ok()?;
+    Some((stored.head, version(&stored.rows)?))
 }
 
 // What is held after these edits.
