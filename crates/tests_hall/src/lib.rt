@@ -1,8 +1,9 @@
-//! Tests of halls over a keeper in memory, by public calls alone.
+//! Tests of halls over a keeper in memory, by public calls alone: as they are opened, and by connections of a caller that has
+//! one for itself.
 #![tactic(auto)]
 
 #[cfg(test)]
-mod edits;
+mod connections;
 #[cfg(test)]
 mod opening;
 #[cfg(test)]
