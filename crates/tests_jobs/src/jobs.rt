@@ -46,7 +46,7 @@ struct Ran {
 }
 
 /// The program on these words and this input, whose reads of these numbers fail, where the sink holds so many bytes.
-fn ran(
+fn run(
     rt: &HostRuntime,
     at: MemoryPlace,
     words: &[&str],
@@ -90,7 +90,7 @@ fn step(
     let Some(place) = place_over(rt.alloc(), stored, &[], &[])? else {
         return Ok(None);
     };
-    let ran = ran(rt, place, &[job, "--store", "s"], input, &[], 10_000)?;
+    let ran = run(rt, place, &[job, "--store", "s"], input, &[], 10_000)?;
     if ran.status != status || ran.sink.bytes() != printed {
         return Ok(None);
     }
@@ -179,7 +179,7 @@ fn ends(rt: &HostRuntime, row: &Row<'_>) -> Result<bool, AllocError> {
     let Some(place) = place_over(rt.alloc(), stored, row.calls, row.openings)? else {
         return Ok(false);
     };
-    let ran = ran(rt, place, row.words, row.input, row.reads, row.capacity)?;
+    let ran = run(rt, place, row.words, row.input, row.reads, row.capacity)?;
     Ok(ran.status == row.status && ran.sink.bytes() == row.printed)
 }
 
@@ -310,7 +310,7 @@ fn left_after(rt: &HostRuntime, kept: bool) -> Result<Option<(u64, bool)>, Alloc
     let Some(place) = place_over(alloc, nothing(alloc, 0), &fails, &[])? else {
         return Ok(None);
     };
-    let ran = ran(rt, place, IMPORT, STARTER, &[], 100)?;
+    let ran = run(rt, place, IMPORT, STARTER, &[], 100)?;
     match left_by(alloc, ran.place) {
         Some(left) => Ok(Some((left.head, left.rows.get(Cell::Site).is_some()))),
         None => Ok(None),
