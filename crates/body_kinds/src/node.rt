@@ -7,7 +7,7 @@ ghost use Rattle.body_kinds.specs.Bodies.{new_node_in, node_patch_in, changes_in
 
 use crate::read::{ReadBody, sent};
 use content_rows::Items;
-use row_kinds::{Read, name_in, read_at, texts_at};
+use row_kinds::{Read, both, name_in, read_at, texts_at};
 use serde_json::{Map, Value};
 use site_commands::{FieldChange, NewNode, NodePatch};
 use std::alloc::{AllocError, Global};
@@ -16,19 +16,34 @@ impl ReadBody for NewNode {
     ghost of = { new_node_in };
 
     fn read_body(alloc: Global, value: &Value) -> Result<Self, AllocError> {
+        let (created, uid) = both(sent(alloc, value, "created"), sent(alloc, value, "uid"))?;
+        let (promote, status) = both(sent(alloc, value, "promote"), sent(alloc, value, "status"))?;
+        let (sticky, fields) = both(
+            read_at(alloc, value, "sticky"),
+            texts_at(alloc, value, "fields"),
+        )?;
+        let (grants, refs) = both(
+            read_at(alloc, value, "grants"),
+            read_at(alloc, value, "refs"),
+        )?;
+        let (terms, title) = both(
+            read_at(alloc, value, "terms"),
+            read_at(alloc, value, "title"),
+        )?;
+        let (uuid, path) = both(read_at(alloc, value, "uuid"), read_at(alloc, value, "path"))?;
         Ok(NewNode {
-            created: sent(alloc, value, "created")?,
-            fields: texts_at(alloc, value, "fields")?,
-            grants: read_at(alloc, value, "grants")?,
-            path: read_at(alloc, value, "path")?,
-            promote: sent(alloc, value, "promote")?,
-            refs: read_at(alloc, value, "refs")?,
-            status: sent(alloc, value, "status")?,
-            sticky: read_at(alloc, value, "sticky")?,
-            terms: read_at(alloc, value, "terms")?,
-            title: read_at(alloc, value, "title")?,
-            uid: sent(alloc, value, "uid")?,
-            uuid: read_at(alloc, value, "uuid")?,
+            created,
+            fields,
+            grants,
+            path,
+            promote,
+            refs,
+            status,
+            sticky,
+            terms,
+            title,
+            uid,
+            uuid,
         })
     }
 }
@@ -37,19 +52,28 @@ impl ReadBody for NodePatch {
     ghost of = { node_patch_in };
 
     fn read_body(alloc: Global, value: &Value) -> Result<Self, AllocError> {
+        let (created, uid) = both(sent(alloc, value, "created"), sent(alloc, value, "uid"))?;
+        let (promote, status) = both(sent(alloc, value, "promote"), sent(alloc, value, "status"))?;
+        let (sticky, vid) = both(sent(alloc, value, "sticky"), read_at(alloc, value, "vid"))?;
+        let (fields, grants) = both(
+            changes_at(alloc, value, "fields"),
+            sent(alloc, value, "grants"),
+        )?;
+        let (refs, terms) = both(sent(alloc, value, "refs"), sent(alloc, value, "terms"))?;
+        let (title, path) = both(sent(alloc, value, "title"), sent(alloc, value, "path"))?;
         Ok(NodePatch {
-            created: sent(alloc, value, "created")?,
-            fields: changes_at(alloc, value, "fields")?,
-            grants: sent(alloc, value, "grants")?,
-            path: sent(alloc, value, "path")?,
-            promote: sent(alloc, value, "promote")?,
-            refs: sent(alloc, value, "refs")?,
-            status: sent(alloc, value, "status")?,
-            sticky: sent(alloc, value, "sticky")?,
-            terms: sent(alloc, value, "terms")?,
-            title: sent(alloc, value, "title")?,
-            uid: sent(alloc, value, "uid")?,
-            vid: read_at(alloc, value, "vid")?,
+            created,
+            fields,
+            grants,
+            path,
+            promote,
+            refs,
+            status,
+            sticky,
+            terms,
+            title,
+            uid,
+            vid,
         })
     }
 }

@@ -2,7 +2,7 @@
 ghost use Rattle.body_kinds.specs.Bodies.{new_user_in, user_patch_in};
 
 use crate::read::{ReadBody, sent};
-use row_kinds::read_at;
+use row_kinds::{both, read_at};
 use serde_json::Value;
 use site_commands::{NewUser, UserPatch};
 use std::alloc::{AllocError, Global};
@@ -11,13 +11,19 @@ impl ReadBody for NewUser {
     ghost of = { new_user_in };
 
     fn read_body(alloc: Global, value: &Value) -> Result<Self, AllocError> {
+        let (grants, roles) = both(
+            read_at(alloc, value, "grants"),
+            read_at(alloc, value, "roles"),
+        )?;
+        let (name, uuid) = both(read_at(alloc, value, "name"), read_at(alloc, value, "uuid"))?;
+        let (status, pass) = both(sent(alloc, value, "status"), sent(alloc, value, "pass"))?;
         Ok(NewUser {
-            grants: read_at(alloc, value, "grants")?,
-            name: read_at(alloc, value, "name")?,
-            pass: sent(alloc, value, "pass")?,
-            roles: read_at(alloc, value, "roles")?,
-            status: sent(alloc, value, "status")?,
-            uuid: read_at(alloc, value, "uuid")?,
+            grants,
+            name,
+            pass,
+            roles,
+            status,
+            uuid,
         })
     }
 }
@@ -26,11 +32,13 @@ impl ReadBody for UserPatch {
     ghost of = { user_patch_in };
 
     fn read_body(alloc: Global, value: &Value) -> Result<Self, AllocError> {
+        let (grants, roles) = both(sent(alloc, value, "grants"), sent(alloc, value, "roles"))?;
+        let (name, pass) = both(sent(alloc, value, "name"), sent(alloc, value, "pass"))?;
         Ok(UserPatch {
-            grants: sent(alloc, value, "grants")?,
-            name: sent(alloc, value, "name")?,
-            pass: sent(alloc, value, "pass")?,
-            roles: sent(alloc, value, "roles")?,
+            grants,
+            name,
+            pass,
+            roles,
             status: sent(alloc, value, "status")?,
         })
     }

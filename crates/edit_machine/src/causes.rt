@@ -139,8 +139,10 @@ pub fn accepted(
 pub fn setting(alloc: Global, pass: u32, cell: Cell, row: Row) -> Result<Commit, AllocError>
     ensures { IfOk result (λ commit. commit ≡ commit_of pass (set cell row ∷ [])) }
 {
+    // first of all, so that no way out ends a row by itself, which is proved kind by kind
+    let write = set(alloc, cell, row)?;
     let mut writes = Vec::with_capacity(alloc, 1)?;
-    writes.push(set(alloc, cell, row)?)?;
+    writes.push(write)?;
     Ok(commit_of(alloc, pass, writes))
 }
 
@@ -154,9 +156,12 @@ pub fn creation(
 ) -> Result<Commit, AllocError>
     ensures { IfOk result (λ commit. commit ≡ commit_of pass (set Cell.Seq (Row.Seq next) ∷ set cell row ∷ [])) }
 {
+    // first of all, as in `setting`
+    let new = set(alloc, cell, row)?;
+    let ids = set(alloc, Cell::Seq, Row::Seq(next))?;
     let mut writes = Vec::with_capacity(alloc, 2)?;
-    writes.push(set(alloc, Cell::Seq, Row::Seq(next))?)?;
-    writes.push(set(alloc, cell, row)?)?;
+    writes.push(ids)?;
+    writes.push(new)?;
     Ok(commit_of(alloc, pass, writes))
 }
 

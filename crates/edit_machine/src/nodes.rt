@@ -198,7 +198,6 @@ fn new_node(
         created: new.created.unwrap_or(now),
         fields: new.fields.duplicate(alloc)?,
         grants: new.grants.duplicate(alloc)?,
-        path: new.path.duplicate(alloc)?,
         promote: new.promote.unwrap_or(true),
         refs: new.refs.duplicate(alloc)?,
         status: new.status.unwrap_or(true),
@@ -208,6 +207,7 @@ fn new_node(
         node_type: *name,
         uid: new.uid.unwrap_or(viewer.uid),
         uuid: new.uuid.duplicate(alloc)?,
+        path: new.path.duplicate(alloc)?,
         vid: 1,
     })
 }
@@ -346,7 +346,6 @@ fn patched_node(alloc: Global, node: &Node, patch: &NodePatch, now: u64) -> Resu
         created: patch.created.unwrap_or(node.created),
         fields: changed_values(alloc, &node.fields, &patch.fields)?,
         grants: sent_or(&patch.grants, &node.grants).duplicate(alloc)?,
-        path: sent_or(&patch.path, &node.path).duplicate(alloc)?,
         promote: patch.promote.unwrap_or(node.promote),
         refs: sent_or(&patch.refs, &node.refs).duplicate(alloc)?,
         status: patch.status.unwrap_or(node.status),
@@ -356,6 +355,7 @@ fn patched_node(alloc: Global, node: &Node, patch: &NodePatch, now: u64) -> Resu
         node_type: node.node_type,
         uid: patch.uid.unwrap_or(node.uid),
         uuid: node.uuid.duplicate(alloc)?,
+        path: sent_or(&patch.path, &node.path).duplicate(alloc)?,
         vid: node.vid + 1,
     })
 }

@@ -95,13 +95,13 @@ fn new_user(alloc: Global, new: &NewUser, salt: &Option<Name>, now: u64) -> Resu
 {
     Ok(User {
         created: now,
-        digest: digest_of(alloc, salt, &new.pass, &None)?,
         grants: new.grants.duplicate(alloc)?,
         name: new.name.duplicate(alloc)?,
         roles: new.roles.duplicate(alloc)?,
         salt: salt_of(alloc, salt, &new.pass, b"")?,
         status: new.status.unwrap_or(true),
         uuid: new.uuid.duplicate(alloc)?,
+        digest: digest_of(alloc, salt, &new.pass, &None)?,
     })
 }
 
@@ -179,13 +179,13 @@ fn patched_user(
 {
     Ok(User {
         created: user.created,
-        digest: digest_of(alloc, salt, &patch.pass, &user.digest)?,
         grants: sent_or(&patch.grants, &user.grants).duplicate(alloc)?,
         name: sent_or(&patch.name, &user.name).duplicate(alloc)?,
         roles: sent_or(&patch.roles, &user.roles).duplicate(alloc)?,
         salt: salt_of(alloc, salt, &patch.pass, user.salt.as_slice())?,
         status: patch.status.unwrap_or(user.status),
         uuid: user.uuid.duplicate(alloc)?,
+        digest: digest_of(alloc, salt, &patch.pass, &user.digest)?,
     })
 }
 

@@ -1,9 +1,10 @@
 //! The paths of edits.
-ghost use Rattle.std.specs.Prelude.{◌≡◌, if◌then◌else◌, IfOk, OnOk};
+ghost use Rattle.std.specs.Prelude.{◌≡◌, if◌then◌else◌, IfOk, OnOk, codes};
 ghost use Rattle.std.specs.List.{list_any};
 ghost use Rattle.std.specs.Option.{option_map};
 ghost use Rattle.content_rows.specs.IdText.{id_of};
 ghost use Rattle.content_rows.specs.Kinds.{is_slash};
+ghost use Rattle.edit_paths.specs.declared.paths.Subject.TheVariants as subject;
 ghost use Rattle.edit_paths.specs.Paired.{is_segment, segment_after, name_of, fixed, posts, patches, deletes, first_edit, forms_of, paired};
 ghost use Rattle.edit_paths.specs.Routes.{post_rows, patch_rows, delete_rows, with_config, with_route, about_of, config_front, post_of, patch_of, delete_of};
 
@@ -250,15 +251,38 @@ fn post_router(alloc: Global) -> Result<Router<Subject>, AllocError>
     ensures { IfOk result (λ router. router ≡ post_rows) }
 {
     let mut router = Router::new(alloc);
-    add_route(&mut router, "/node", Subject::Node)?;
-    add_route(&mut router, "/taxonomy/term", Subject::Term)?;
-    add_route(&mut router, "/user", Subject::User)?;
+    add_content(&mut router)?;
     add_config(&mut router)?;
-    add_route(&mut router, "/config/site", Subject::Site)?;
-    add_route(&mut router, "/user/login", Subject::Login)?;
-    add_route(&mut router, "/user/logout", Subject::Logout)?;
-    add_route(&mut router, "/cache/rebuild", Subject::Cache)?;
+    add_actions(&mut router)?;
     Ok(router)
+}
+
+/// Adds the routes by which content is made.
+fn add_content(router: &mut Router<Subject>) -> Result<(), AllocError>
+    ensures { OnOk result (router.new ≡
+        with_route (codes "/user") subject.User
+        (with_route (codes "/taxonomy/term") subject.Term
+        (with_route (codes "/node") subject.Node router.old))) }
+{
+    add_route(router, "/node", Subject::Node)?;
+    add_route(router, "/taxonomy/term", Subject::Term)?;
+    add_route(router, "/user", Subject::User)?;
+    Ok(())
+}
+
+/// Adds the routes of the settings, of logging in and out, and of what is kept of pages.
+fn add_actions(router: &mut Router<Subject>) -> Result<(), AllocError>
+    ensures { OnOk result (router.new ≡
+        with_route (codes "/cache/rebuild") subject.Cache
+        (with_route (codes "/user/logout") subject.Logout
+        (with_route (codes "/user/login") subject.Login
+        (with_route (codes "/config/site") subject.Site router.old)))) }
+{
+    add_route(router, "/config/site", Subject::Site)?;
+    add_route(router, "/user/login", Subject::Login)?;
+    add_route(router, "/user/logout", Subject::Logout)?;
+    add_route(router, "/cache/rebuild", Subject::Cache)?;
+    Ok(())
 }
 
 /// The router of the paths of a PATCH.

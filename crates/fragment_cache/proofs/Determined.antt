@@ -1,9 +1,8 @@
 -- A plan makes the same on every visit that agrees on what it needs.
-use Rattle.std.proofs.Common.{ℕ, List, ◌≡◌, ◌≤◌, ◌+◌, subst, arith}
-use Rattle.content_state.specs.declared.element.Library.{Library}
+use Rattle.std.proofs.Common.{subst, arith}
 use Rattle.content_state.specs.Read.{Answer, answer}
-use Rattle.content_state.specs.Context.{Visit, Value, value}
-use Rattle.content_state.specs.Plan.{Piece, Plan, Done, Write, Attach, Reading, Asking, Clock, Part, Needs, Made}
+use Rattle.content_state.specs.Context.{Value, value}
+use Rattle.content_state.specs.Plan.{Plan, Done, Write, Attach, Reading, Asking, Clock, Part, Made}
 use Rattle.fragment_cache.specs.Determined.{IsMadeAgain, IsDetermined, PagesAreMadeAgain, ElementsAreMadeAgain, EntriesAreMadeAgain, PagesAreDetermined, ElementsAreDetermined}
 
 pub made_again : {A : Type 0} (p : Plan A) → IsMadeAgain p

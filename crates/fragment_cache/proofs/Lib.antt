@@ -1,1 +1,4 @@
 pub mod Determined
+pub mod Fresh
+pub mod Seen
+pub mod Shelves

@@ -1,8 +1,10 @@
 //! Rows as a database holds them: each is one object of JSON.
-ghost use Rattle.std.specs.Prelude.{◌≡◌, ◌≤◌, IfOk, IfSome, Some, option_map, string_bytes};
+ghost use Rattle.std.specs.Prelude.{◌≡◌, ◌≢◌, ◌≤◌, IfOk, IfSome, None, Some, option_map, string_bytes};
 ghost use Rattle.serde_json.specs.Data.{Data, depth};
 ghost use Rattle.serde_json.specs.Read.{read, max_depth};
 ghost use Rattle.serde_json.specs.View.{view};
+ghost use Rattle.std.specs.Str.{bytes_eq};
+ghost use Rattle.content_rows.specs.CellText.{cell_text};
 ghost use Rattle.content_rows.specs.ValidRow.{IsValidRow};
 ghost use Rattle.json_keys.specs.declared.checked.Checked.TheVariants as checked;
 ghost use Rattle.row_json.specs.Reading.{reading, written};
@@ -29,6 +31,14 @@ fn value_of(alloc: Global, body: &[u8]) -> Result<Option<Value>, AllocError>
     }
 }
 
+/// Whether a cell has this text. `Err` only where memory is wanting.
+fn has_text(alloc: Global, cell: &Cell, text: &[u8]) -> Result<bool, AllocError>
+    ensures { IfOk result (λ same. same ≡ bytes_eq (cell_text cell.now) text.now) }
+{
+    let own = cell.text(alloc)?;
+    Ok(own.as_slice() == text)
+}
+
 /// A right row, where the cell that it stands in is its own. `Err` only where memory is wanting.
 fn in_its_cell(
     alloc: Global,
@@ -39,11 +49,17 @@ fn in_its_cell(
     ensures told { IfOk result (λ told. told ≡ in_its_cell cell.now (checked.Right row)) }
     ensures right { IfOk result (λ told. IfSome told (λ row. IsValidRow row.0 row.1)) }
 {
-    let own = row.0.text(alloc)?;
-    if own.as_slice() == cell {
-        Ok(Some(row))
-    } else {
-        Ok(None)
+    // a row is dropped by a call: one that ends by itself is proved kind by kind, at each way out
+    match has_text(alloc, &row.0, cell) {
+        Ok(true) => Ok(Some(row)),
+        Ok(false) => {
+            drop(row);
+            Ok(None)
+        }
+        Err(error) => {
+            drop(row);
+            Err(error)
+        }
     }
 }
 
@@ -53,9 +69,18 @@ fn row_told(alloc: Global, cell: &[u8], value: &Value) -> Result<Option<(Cell, R
     ensures right { IfOk result (λ row. IfSome row (λ row. IsValidRow row.0 row.1)) }
 {
     match row_from_json(alloc, value) {
-        Ok(row) => Ok(in_its_cell(alloc, cell, row)?),
-        Err(RowFault::Rule { .. }) => Ok(None),
-        Err(RowFault::OutOfMemory) => Err(AllocError),
+        Ok(row) => in_its_cell(alloc, cell, row),
+        Err(fault) => no_row(fault),
+    }
+}
+
+/// No row, for a rule that is broken. `Err` where memory is wanting.
+fn no_row(fault: RowFault) -> Result<Option<(Cell, Row)>, AllocError>
+    ensures { IfOk result (λ row. row ≡ None × fault ≢ RowFault.OutOfMemory) }
+{
+    match fault {
+        RowFault::Rule { .. } => Ok(None),
+        RowFault::OutOfMemory => Err(AllocError),
     }
 }
 

@@ -5,12 +5,12 @@ ghost use Rattle.site_keeper.specs.Keeper.{CountsFault};
 use crate::body::body_of;
 use crate::fault::{NoKeeper, fault_of};
 use crate::number::{count_bytes, head_text};
-use crate::statements::{Writing, make_tables, prepare, remove_row, set_row, set_tag};
+use crate::statements::{make_tables, remove_row, set_row, set_tag};
 use crate::stored::{read_head, read_stored};
 use cacheability::Tag;
 use content_state::Write;
 use site_keeper::{Batch, Keeper, KeeperFault, Stored};
-use sqlite::{Alter, Connection, File, FileStore, Transaction};
+use sqlite::{Alter, Connection, Error, File, FileStore, Transaction};
 use std::alloc::Global;
 use std::marker::Model;
 
@@ -67,7 +67,14 @@ pub fn over<S: Alter + Drop>(mut conn: Connection<S>) -> Result<SqliteKeeper<S>,
 pub fn open_keeper(rt: &HostRuntime, path: &str) -> Result<FileKeeper, NoKeeper>
     ensures { IfOk result (λ keeper. keeper ≡ 0) }
 {
-    match Connection::open(rt, path) {
+    opened(Connection::open(rt, path))
+}
+
+/// A keeper over a database, where it was opened.
+fn opened<S: Alter + Drop>(conn: Result<Connection<S>, Error>) -> Result<SqliteKeeper<S>, NoKeeper>
+    ensures { IfOk result (λ keeper. keeper ≡ 0) }
+{
+    match conn {
         Ok(conn) => over(conn),
         Err(error) => Err(NoKeeper::from(fault_of(error))),
     }
@@ -113,32 +120,36 @@ fn keep<S: Alter + Drop>(
     conn: &mut Connection<S>,
     batch: &Batch,
 ) -> Result<(), KeeperFault> {
-    let writing = match prepare(conn) {
-        Ok(writing) => writing,
-        Err(error) => return Err(fault_of(error)),
-    };
     if !conn.is_autocommit() {
         return Err(KeeperFault::Failed);
     }
     let mut turn = conn.transaction();
-    make_writes(alloc, &mut turn, &writing, batch.commit.writes.as_slice())?;
-    set_counts(alloc, &mut turn, &writing, batch.counts.as_slice())?;
-    set_head(alloc, &mut turn, &writing, batch.head)?;
+    write_batch(alloc, &mut turn, batch)?;
     match turn.commit() {
         Ok(()) => Ok(()),
         Err(_) => Err(KeeperFault::Failed),
     }
 }
 
+/// Writes all of a batch.
+fn write_batch<S: Alter>(
+    alloc: Global,
+    turn: &mut Transaction<'_, S>,
+    batch: &Batch,
+) -> Result<(), KeeperFault> {
+    make_writes(alloc, turn, batch.commit.writes.as_slice())?;
+    set_counts(alloc, turn, batch.counts.as_slice())?;
+    set_head(alloc, turn, batch.head)
+}
+
 /// Makes writes in turn.
 fn make_writes<S: Alter>(
     alloc: Global,
     turn: &mut Transaction<'_, S>,
-    writing: &Writing,
     writes: &[Write],
 ) -> Result<(), KeeperFault> {
     'writes: for write in writes {
-        make_write(alloc, turn, writing, write)?;
+        make_write(alloc, turn, write)?;
     }
     Ok(())
 }
@@ -147,16 +158,15 @@ fn make_writes<S: Alter>(
 fn make_write<S: Alter>(
     alloc: Global,
     turn: &mut Transaction<'_, S>,
-    writing: &Writing,
     write: &Write,
 ) -> Result<(), KeeperFault> {
     let cell = write.cell.text(alloc)?;
     match &write.row {
         Some(row) => {
             let body = body_of(alloc, &write.cell, row)?;
-            set_row(turn, writing, cell.as_slice(), body.as_bytes())
+            set_row(turn, cell.as_slice(), body.as_bytes())
         }
-        None => remove_row(turn, writing, cell.as_slice()),
+        None => remove_row(turn, cell.as_slice()),
     }
 }
 
@@ -164,13 +174,12 @@ fn make_write<S: Alter>(
 fn set_counts<S: Alter>(
     alloc: Global,
     turn: &mut Transaction<'_, S>,
-    writing: &Writing,
     counts: &[(Tag, u64)],
 ) -> Result<(), KeeperFault> {
     'counts: for entry in counts {
         let (tag, count) = *entry;
         let text = tag.text(alloc)?;
-        set_tag(turn, writing, text.as_slice(), &count_bytes(count))?;
+        set_tag(turn, text.as_slice(), &count_bytes(count))?;
     }
     Ok(())
 }
@@ -179,9 +188,8 @@ fn set_counts<S: Alter>(
 fn set_head<S: Alter>(
     alloc: Global,
     turn: &mut Transaction<'_, S>,
-    writing: &Writing,
     head: u64,
 ) -> Result<(), KeeperFault> {
     let text = head_text(alloc, head)?;
-    set_row(turn, writing, b"head", text.as_bytes())
+    set_row(turn, b"head", text.as_bytes())
 }

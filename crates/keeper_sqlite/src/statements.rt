@@ -4,7 +4,7 @@ ghost use Rattle.std.specs.Prelude.{◌≡◌, IfErr};
 use crate::fault::fault_of;
 use site_keeper::KeeperFault;
 use sqlite::types::ValueRef;
-use sqlite::{Alter, Connection, Error, Row, Statement, Transaction};
+use sqlite::{Alter, Connection, Error, Row, Transaction};
 
 const MAKE_ROWS: &str =
     "CREATE TABLE IF NOT EXISTS cell_row(cell TEXT PRIMARY KEY, body TEXT NOT NULL)";
@@ -26,14 +26,6 @@ const REMOVE_ROW: &str = "DELETE FROM cell_row WHERE cell = ?1";
 const SET_TAG: &str =
     "INSERT INTO cachetags (tag, invalidations) VALUES (?1, ?2) ON CONFLICT (tag) DO UPDATE SET invalidations = excluded.invalidations";
 
-/// The statements that write, prepared.
-#[derive(Drop)]
-pub(crate) struct Writing {
-    set_row: Statement,
-    remove_row: Statement,
-    set_tag: Statement,
-}
-
 /// Makes the tables that are not there.
 pub(crate) fn make_tables<S: Alter + Drop>(conn: &mut Connection<S>) -> Result<(), Error> {
     conn.execute(MAKE_ROWS, &[])?;
@@ -42,64 +34,57 @@ pub(crate) fn make_tables<S: Alter + Drop>(conn: &mut Connection<S>) -> Result<(
 }
 
 /// All rows, by cell.
-pub(crate) fn all_rows<S: Alter + Drop>(conn: &mut Connection<S>) -> Result<Vec<Row>, Error> {
-    conn.query_all(ALL_ROWS, &[])
+pub(crate) fn all_rows<S: Alter + Drop>(conn: &mut Connection<S>) -> Result<Vec<Row>, KeeperFault> {
+    shown(conn.query_all(ALL_ROWS, &[]))
 }
 
 /// All tags, by tag.
-pub(crate) fn all_tags<S: Alter + Drop>(conn: &mut Connection<S>) -> Result<Vec<Row>, Error> {
-    conn.query_all(ALL_TAGS, &[])
+pub(crate) fn all_tags<S: Alter + Drop>(conn: &mut Connection<S>) -> Result<Vec<Row>, KeeperFault> {
+    shown(conn.query_all(ALL_TAGS, &[]))
 }
 
 /// The row of a cell, of which there is one or none.
 pub(crate) fn one_row<S: Alter + Drop>(
     conn: &mut Connection<S>,
     cell: &[u8],
-) -> Result<Vec<Row>, Error> {
-    conn.query_all(ONE_ROW, &[ValueRef::Text(cell)])
-}
-
-/// Prepares the statements that write.
-pub(crate) fn prepare<S: Alter + Drop>(conn: &mut Connection<S>) -> Result<Writing, Error> {
-    let set_row = conn.prepare(SET_ROW)?;
-    let remove_row = conn.prepare(REMOVE_ROW)?;
-    let set_tag = conn.prepare(SET_TAG)?;
-    Ok(Writing {
-        set_row,
-        remove_row,
-        set_tag,
-    })
+) -> Result<Vec<Row>, KeeperFault> {
+    shown(conn.query_all(ONE_ROW, &[ValueRef::Text(cell)]))
 }
 
 /// Sets the body of a cell.
 pub(crate) fn set_row<S: Alter>(
     turn: &mut Transaction<'_, S>,
-    writing: &Writing,
     cell: &[u8],
     body: &[u8],
 ) -> Result<(), KeeperFault> {
     let values = [ValueRef::Text(cell), ValueRef::Text(body)];
-    told(turn.execute_prepared(&writing.set_row, &values))
+    told(turn.execute(SET_ROW, &values))
 }
 
 /// Removes the row of a cell.
 pub(crate) fn remove_row<S: Alter>(
     turn: &mut Transaction<'_, S>,
-    writing: &Writing,
     cell: &[u8],
 ) -> Result<(), KeeperFault> {
-    told(turn.execute_prepared(&writing.remove_row, &[ValueRef::Text(cell)]))
+    told(turn.execute(REMOVE_ROW, &[ValueRef::Text(cell)]))
 }
 
 /// Sets the count of a tag.
 pub(crate) fn set_tag<S: Alter>(
     turn: &mut Transaction<'_, S>,
-    writing: &Writing,
     tag: &[u8],
     count: &[u8],
 ) -> Result<(), KeeperFault> {
     let values = [ValueRef::Text(tag), ValueRef::Blob(count)];
-    told(turn.execute_prepared(&writing.set_tag, &values))
+    told(turn.execute(SET_TAG, &values))
+}
+
+/// What came of a statement that reads.
+fn shown(read: Result<Vec<Row>, Error>) -> Result<Vec<Row>, KeeperFault> {
+    match read {
+        Ok(rows) => Ok(rows),
+        Err(error) => Err(fault_of(error)),
+    }
 }
 
 /// What came of a statement that writes.

@@ -8,7 +8,6 @@ ghost use Rattle.keeper_sqlite.specs.Bodies.{with_entry_of, with_tag_of};
 ghost use Rattle.keeper_sqlite.specs.Numbers.{head_in};
 
 use crate::body::row_of;
-use crate::fault::fault_of;
 use crate::number::{count_in, head_in};
 use crate::statements::{all_rows, all_tags, one_row};
 use crate::tag::tag_of;
@@ -33,15 +32,27 @@ pub(crate) fn read_stored<S: Alter + Drop>(
         counts: Counts::new(alloc),
         head: 0,
     };
-    match all_rows(conn) {
-        Ok(rows) => take_rows(alloc, &mut stored, &rows)?,
-        Err(error) => return Err(fault_of(error)),
+    match take_all(alloc, &mut stored, conn) {
+        Ok(()) => Ok(stored),
+        Err(fault) => {
+            drop(stored);
+            Err(fault)
+        }
     }
-    match all_tags(conn) {
-        Ok(rows) => take_tags(&mut stored.counts, &rows)?,
-        Err(error) => return Err(fault_of(error)),
-    }
-    Ok(stored)
+}
+
+/// Takes the rows of both tables.
+fn take_all<S: Alter + Drop>(
+    alloc: Global,
+    stored: &mut Stored,
+    conn: &mut Connection<S>,
+) -> Result<(), KeeperFault>
+    ensures { OnOk result (AreValidRows stored.old.rows → AreValidRows stored.new.rows) }
+{
+    let rows = all_rows(conn)?;
+    take_rows(alloc, stored, &rows)?;
+    let tags = all_tags(conn)?;
+    take_tags(&mut stored.counts, &tags)
 }
 
 /// The head that the table of cells holds; 0 where it holds none.
@@ -49,10 +60,7 @@ pub(crate) fn read_head<S: Alter + Drop>(
     alloc: Global,
     conn: &mut Connection<S>,
 ) -> Result<u64, KeeperFault> {
-    let rows = match one_row(conn, b"head") {
-        Ok(rows) => rows,
-        Err(error) => return Err(fault_of(error)),
-    };
+    let rows = one_row(conn, b"head")?;
     let Some(row) = rows.first() else {
         return Ok(0);
     };

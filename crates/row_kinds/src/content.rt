@@ -2,7 +2,7 @@
 ghost use Rattle.row_kinds.specs.Look.{nothing_said};
 ghost use Rattle.row_kinds.specs.Rows.{grant_row_in, grant_row_data, field_in, field_data, type_in, type_data, term_in, term_data, node_in, node_data, IsTypedGrantRow, IsTypedField, IsTypedType, IsTypedNode};
 
-use crate::field::{Read, Write, put_at, read_at};
+use crate::field::{Read, Write, both, put_at, read_at};
 use crate::texts::{put_texts_at, texts_at};
 use content_rows::{FieldRow, GrantRow, Node, NodeType, Term};
 use serde_json::{Map, Value};
@@ -128,22 +128,47 @@ impl Read for Node {
     ghost of = { node_in };
 
     fn read(alloc: Global, value: &Value) -> Result<Self, AllocError> {
+        let (changed, created) = both(
+            read_at(alloc, value, "changed"),
+            read_at(alloc, value, "created"),
+        )?;
+        let (promote, status) = both(
+            read_at(alloc, value, "promote"),
+            read_at(alloc, value, "status"),
+        )?;
+        let (sticky, node_type) = both(
+            read_at(alloc, value, "sticky"),
+            read_at(alloc, value, "type"),
+        )?;
+        let (uid, vid) = both(read_at(alloc, value, "uid"), read_at(alloc, value, "vid"))?;
+        let (fields, grants) = both(
+            texts_at(alloc, value, "fields"),
+            read_at(alloc, value, "grants"),
+        )?;
+        let (refs, terms) = both(
+            read_at(alloc, value, "refs"),
+            read_at(alloc, value, "terms"),
+        )?;
+        let (title, uuid) = both(
+            read_at(alloc, value, "title"),
+            read_at(alloc, value, "uuid"),
+        )?;
         Ok(Node {
-            changed: read_at(alloc, value, "changed")?,
-            created: read_at(alloc, value, "created")?,
-            fields: texts_at(alloc, value, "fields")?,
-            grants: read_at(alloc, value, "grants")?,
+            changed,
+            created,
+            fields,
+            grants,
             path: read_at(alloc, value, "path")?,
-            promote: read_at(alloc, value, "promote")?,
-            refs: read_at(alloc, value, "refs")?,
-            status: read_at(alloc, value, "status")?,
-            sticky: read_at(alloc, value, "sticky")?,
-            terms: read_at(alloc, value, "terms")?,
-            title: read_at(alloc, value, "title")?,
-            node_type: read_at(alloc, value, "type")?,
-            uid: read_at(alloc, value, "uid")?,
-            uuid: read_at(alloc, value, "uuid")?,
-            vid: read_at(alloc, value, "vid")?,
+            promote,
+            refs,
+            status,
+            sticky,
+            terms,
+            title,
+            node_type,
+            uid,
+            uuid,
+            vid,
         })
     }
 }

@@ -1,5 +1,5 @@
 //! Values that stand in JSON: what is read of every value, and how each is written.
-ghost use Rattle.std.specs.Prelude.{◌≡◌, IfOk, OnOk, IsTrue};
+ghost use Rattle.std.specs.Prelude.{◌≡◌, Ok, IfOk, OnOk, IsTrue};
 ghost use Rattle.std.specs.List.{AllByRecursion};
 ghost use Rattle.serde_json.specs.Data.{boolean, array, put};
 ghost use Rattle.serde_json.specs.View.{view, items_view, members_view, number_view};
@@ -73,6 +73,16 @@ pub fn read_at<T: Read>(alloc: Global, value: &Value, key: &str) -> Result<T, Al
         Some(found) => T::read(alloc, found),
         None => T::read(alloc, &Value::Null),
     }
+}
+
+/// Both of two values. `Err` where memory was wanting for one of them.
+pub fn both<A: Drop, B: Drop>(
+    first: Result<A, AllocError>,
+    second: Result<B, AllocError>,
+) -> Result<(A, B), AllocError>
+    ensures { IfOk result (λ values. (first ≡ Ok values.0) × (second ≡ Ok values.1)) }
+{
+    Ok((first?, second?))
 }
 
 /// Writes a value at a key.

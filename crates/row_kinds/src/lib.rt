@@ -14,6 +14,6 @@ mod tables;
 mod texts;
 mod words;
 
-pub use field::{Read, Write, name_bytes, name_in, name_of, put_at, read_at, read_checked};
+pub use field::{Read, Write, both, name_bytes, name_in, name_of, put_at, read_at, read_checked};
 pub use tables::{BLOCK, LISTING, MENU, NODE, ROLE, SEQ, SESSION, SITE, TERM, TYPE, USER};
 pub use texts::texts_at;

@@ -2,7 +2,7 @@
 ghost use Rattle.row_kinds.specs.Look.{nothing_said};
 ghost use Rattle.row_kinds.specs.Rows.{grant_in, grant_data, role_in, role_data, user_in, user_data, session_in, session_data, IsTypedGrant, IsTypedRole, IsTypedUser};
 
-use crate::field::{Read, Write, put_at, read_at};
+use crate::field::{Read, Write, both, put_at, read_at};
 use content_rows::{Grant, Role, Session, User};
 use serde_json::{Map, Value};
 use std::alloc::{AllocError, Global};
@@ -63,15 +63,28 @@ impl Read for User {
     ghost of = { user_in };
 
     fn read(alloc: Global, value: &Value) -> Result<Self, AllocError> {
+        let (created, status) = both(
+            read_at(alloc, value, "created"),
+            read_at(alloc, value, "status"),
+        )?;
+        let (grants, roles) = both(
+            read_at(alloc, value, "grants"),
+            read_at(alloc, value, "roles"),
+        )?;
+        let (name, salt) = both(read_at(alloc, value, "name"), read_at(alloc, value, "salt"))?;
+        let (uuid, digest) = both(
+            read_at(alloc, value, "uuid"),
+            read_at(alloc, value, "digest"),
+        )?;
         Ok(User {
-            created: read_at(alloc, value, "created")?,
-            digest: read_at(alloc, value, "digest")?,
-            grants: read_at(alloc, value, "grants")?,
-            name: read_at(alloc, value, "name")?,
-            roles: read_at(alloc, value, "roles")?,
-            salt: read_at(alloc, value, "salt")?,
-            status: read_at(alloc, value, "status")?,
-            uuid: read_at(alloc, value, "uuid")?,
+            created,
+            digest,
+            grants,
+            name,
+            roles,
+            salt,
+            status,
+            uuid,
         })
     }
 }

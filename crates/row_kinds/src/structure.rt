@@ -2,7 +2,7 @@
 ghost use Rattle.row_kinds.specs.Look.{nothing_said};
 ghost use Rattle.row_kinds.specs.Rows.{link_in, link_data, site_in, site_data, seq_in, seq_data, menu_in, menu_data, listing_in, listing_data, block_in, block_data, IsTypedLink, IsTypedSeq, IsTypedMenu, IsTypedListing, IsTypedBlock};
 
-use crate::field::{Read, Write, put_at, read_at};
+use crate::field::{Read, Write, both, put_at, read_at};
 use content_rows::{Block, Link, Listing, Menu, Seq, Site};
 use serde_json::{Map, Value};
 use std::alloc::{AllocError, Global};
@@ -149,17 +149,31 @@ impl Read for Block {
     ghost of = { block_in };
 
     fn read(alloc: Global, value: &Value) -> Result<Self, AllocError> {
+        let (age, name) = both(read_at(alloc, value, "age"), read_at(alloc, value, "name"))?;
+        let (hide, kind) = both(read_at(alloc, value, "hide"), read_at(alloc, value, "kind"))?;
+        let (region, weight) = both(
+            read_at(alloc, value, "region"),
+            read_at(alloc, value, "weight"),
+        )?;
+        let (label, paths) = both(
+            read_at(alloc, value, "label"),
+            read_at(alloc, value, "paths"),
+        )?;
+        let (roles, text) = both(
+            read_at(alloc, value, "roles"),
+            read_at(alloc, value, "text"),
+        )?;
         Ok(Block {
-            age: read_at(alloc, value, "age")?,
-            hide: read_at(alloc, value, "hide")?,
-            kind: read_at(alloc, value, "kind")?,
-            label: read_at(alloc, value, "label")?,
-            name: read_at(alloc, value, "name")?,
-            paths: read_at(alloc, value, "paths")?,
-            region: read_at(alloc, value, "region")?,
-            roles: read_at(alloc, value, "roles")?,
-            text: read_at(alloc, value, "text")?,
-            weight: read_at(alloc, value, "weight")?,
+            age,
+            hide,
+            kind,
+            label,
+            name,
+            paths,
+            region,
+            roles,
+            text,
+            weight,
         })
     }
 }

@@ -1,15 +1,15 @@
 -- From loading the rows of a file to what a replay of it does.
-use Rattle.std.proofs.Common.{◌≡◌, ◌⊎◌, inl, inr, ℕ, List, Option, Some, None, subst, arith}
+use Rattle.std.proofs.Common.{◌≡◌, ◌⊎◌, inl, inr, refl, ℕ, List, Option, Some, None, subst, arith}
 use Rattle.std.specs.Prelude.{◌<◌, ◌≤◌}
 use Rattle.content_state.specs.State.{State}
 use Rattle.site_io.specs.Told.{Rose}
 use Rattle.site_files.specs.Rows.{IsToldBy, IsSiteFault}
 use Rattle.site_files.specs.declared.fault.ReadFault.{ReadFault}
 use Rattle.site_files.specs.declared.fault.ReadFault.TheVariants as why
-use Rattle.site_cli.specs.Place.{PlaceView, HasTold, OpeningFails, RowsFail}
+use Rattle.site_places.specs.Place.{PlaceView, HasTold, OpeningFails, RowsFail}
 use Rattle.site_cli.specs.Run.{IsSiteOf, ReplaysOrStarves, ReplaysFileOrStarves, Runs}
 use Rattle.site_cli.specs.Outside.{Outside, Starves}
-use Rattle.site_cli.specs.Words.{Asked, replay, imports, exports, checks}
+use Rattle.site_cli.specs.Words.{Asked, replay, serves, imports, exports, checks}
 
 -- rows that a device told are those that the place told of it beforehand
 pub told_before : (bytes left : Option (List ℕ)) (P : List ℕ → Type 0) → HasTold bytes left → IsToldBy left P → IsToldBy bytes P
@@ -47,11 +47,15 @@ over_file path base left written reading writing before mid new status same site
     go (inl replays) = inl (inl (record { base = base; site = site; replays = replays }))
     go (inr starves) = inr (inr starves)
 
+starves : (here : Outside) → Starves here here 9
+starves here = record { source = refl; sink = refl; place = refl; status_is = refl }
+
 -- whatever the words ask for, memory may be wanting for it
-pub starved : (job : Option Asked) (old new : Outside) (status : ℕ) → Starves old new status → Runs job old new status
-starved None old new status starves = inr starves
-starved (Some (replay None)) old new status starves = inr starves
-starved (Some (replay (Some path))) old new status starves = inr (inr starves)
-starved (Some (imports path)) old new status starves = inr (inr starves)
-starved (Some (exports path)) old new status starves = inr (inr starves)
-starved (Some (checks path)) old new status starves = inr (inr starves)
+pub starved : (job : Option Asked) (here : Outside) → Runs job here here 9
+starved None here = inr (starves here)
+starved (Some (replay None)) here = inr (starves here)
+starved (Some (replay (Some path))) here = inr (inr (starves here))
+starved (Some (serves what)) here = inr (starves here)
+starved (Some (imports path)) here = inr (inr (starves here))
+starved (Some (exports path)) here = inr (inr (starves here))
+starved (Some (checks path)) here = inr (inr (starves here))

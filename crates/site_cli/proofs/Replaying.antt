@@ -1,5 +1,5 @@
 -- From what a connection promises to what a replay does.
-use Rattle.std.proofs.Common.{◌≡◌, ◌∙◌, ◌≤◌, ◌+◌, ◌⊎◌, List, [], ℕ, Option, Some, None, true, min, drop, ap, refl, sym, subst, arith, inl, inr}
+use Rattle.std.proofs.Common.{◌≡◌, ◌∙◌, ◌⊎◌, List, [], ℕ, Option, Some, None, drop, ap, refl, sym, subst, arith, inl, inr}
 use Rattle.content_state.specs.State.{State}
 use Rattle.content_state.specs.declared.commit.Commit.{Commit}
 use Rattle.site_io.specs.declared.device.Point.{Point}
@@ -9,8 +9,8 @@ use Rattle.site_house.specs.History.{History, newest, newest_of}
 use Rattle.site_house.specs.House.{HouseView, Moves, CountRose, history_of}
 use Rattle.site_http.specs.Connection.{Around, Connection}
 use Rattle.site_cli.specs.House.{opened_on}
-use Rattle.site_cli.specs.Place.{next_list, none_given, clock_given, entropy_given, IsNoneReached}
-use Rattle.site_cli.specs.Run.{around, status_of, Replays}
+use Rattle.site_places.specs.Place.{next_list, none_given, clock_given, entropy_given, IsNoneReached}
+use Rattle.site_cli.specs.Run.{status_of, Replays}
 use Rattle.site_cli.specs.Outside.{Outside}
 
 -- what has given nothing has given what its list has first

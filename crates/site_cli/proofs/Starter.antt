@@ -8,6 +8,7 @@ use Rattle.content_rows.specs.StarterRows.{starter_rows}
 use Rattle.content_rows.specs.ValidRow.{IsValidRow}
 use Rattle.content_rows.specs.Permission.{anonymous, authenticated}
 use Rattle.content_rows.proofs.StarterLemmas.{in_cell_order, starter_valid}
+use Rattle.content_state.specs.State.{State}
 use Rattle.content_state.specs.SiteRules.{InOrder, MeetsSiteRules, IsValidState}
 use Rattle.content_state.proofs.Faults.{found_present}
 use Rattle.site_cli.specs.Run.{rows_of, starter_site}
@@ -32,3 +33,6 @@ valid = record {
   rows = subst (λ rows. All (λ e. IsValidRow e.0 e.1) rows) (sym in_turn) starter_valid;
   together = subst MeetsSiteRules (sym in_turn) meets;
 }
+
+pub valid_as : (state : State) → state ≡ starter_site → IsValidState state
+valid_as state is = subst IsValidState (sym is) valid

@@ -6,7 +6,7 @@ use Rattle.site_jobs.specs.Jobs.{Around, Imports, TellsBy}
 use Rattle.site_jobs.specs.declared.job.JobEnd.{JobEnd}
 use Rattle.site_jobs.specs.declared.job.JobEnd.TheVariants as end
 use Rattle.site_cli.specs.Outside.{Outside, Starves}
-use Rattle.site_cli.specs.Place.{PlaceView, keeper_given, HoldsTold, KeeperFails, OpeningFails}
+use Rattle.site_places.specs.Place.{PlaceView, keeper_given, HoldsTold, KeeperFails, OpeningFails}
 
 -- the status of a job's end
 abbrev pub status_of_job : JobEnd → ℕ

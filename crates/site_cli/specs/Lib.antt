@@ -1,6 +1,5 @@
 pub mod Words
 pub mod Run
-pub mod Place
 pub mod Outside
 pub mod House
 pub mod Load

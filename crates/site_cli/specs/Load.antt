@@ -3,9 +3,9 @@ use Rattle.std.specs.Prelude.{ℕ, List, ◌≡◌, ◌≢◌, ◌⊎◌, Option
 use Rattle.site_files.specs.Rows.{IsSiteFault}
 use Rattle.site_files.specs.declared.fault.ReadFault.{ReadFault}
 use Rattle.site_files.specs.declared.fault.ReadFault.TheVariants as why
-use Rattle.site_cli.specs.Place.{PlaceView, OpeningFails, RowsFail}
-use Rattle.site_cli.specs.declared.place.NoDevice.{NoDevice}
-use Rattle.site_cli.specs.declared.place.NoDevice.TheVariants as device
+use Rattle.site_places.specs.Place.{PlaceView, OpeningFails, RowsFail}
+use Rattle.site_places.specs.declared.place.NoDevice.{NoDevice}
+use Rattle.site_places.specs.declared.place.NoDevice.TheVariants as device
 use Rattle.site_jobs.specs.Texts.{fault_text}
 use Rattle.site_cli.specs.declared.load.NoSite.{NoSite}
 use Rattle.site_cli.specs.declared.load.NoSite.TheVariants as none

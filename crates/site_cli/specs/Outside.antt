@@ -1,7 +1,7 @@
 -- What stands outside the program, and by which counts its statuses are told.
 use Rattle.std.specs.Prelude.{ℕ, List, ◌≡◌, ◌≢◌, ◌⊎◌, Option}
 use Rattle.site_io.specs.Told.{Rose}
-use Rattle.site_cli.specs.Place.{PlaceView}
+use Rattle.site_places.specs.Place.{PlaceView}
 
 -- What stands outside the program: the bytes that are left to read, those that were written, how often the input and the
 -- output have failed, and its place.

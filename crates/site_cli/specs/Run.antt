@@ -1,5 +1,5 @@
 -- What the program does, by its words, and the status that it ends with.
-use Rattle.std.specs.Prelude.{ℕ, List, [], ◌≡◌, ◌≢◌, ◌⊎◌, Option, Some, None, Ok, fold}
+use Rattle.std.specs.Prelude.{ℕ, List, [], ◌≡◌, ◌⊎◌, Option, Some, None, Ok, fold}
 use Rattle.site_io.specs.declared.ended.Ended.{Ended}
 use Rattle.site_io.specs.declared.ended.Ended.TheVariants as ended
 use Rattle.site_io.specs.Told.{after, AddsFront, Rose}
@@ -16,10 +16,10 @@ use Rattle.content_state.specs.declared.commit.Commit.{Commit}
 use Rattle.content_state.specs.SiteRules.{IsValidState}
 use Rattle.site_files.specs.Rows.{rows_of as rows_of_file, IsToldBy, IsSiteFault}
 use Rattle.site_files.specs.declared.fault.ReadFault.{ReadFault}
-use Rattle.site_cli.specs.Place.{PlaceView, next_list, clock_given, entropy_given, none_given, IsNoneReached, OpeningFails, RowsFail}
+use Rattle.site_places.specs.Place.{next_list, clock_given, entropy_given, none_given, IsNoneReached, OpeningFails, RowsFail}
 use Rattle.site_cli.specs.Outside.{Outside, Starves}
 use Rattle.site_cli.specs.Jobs.{ImportsOrNot, TellsOrNot}
-use Rattle.site_cli.specs.Words.{usage, Asked, replay, imports, exports, checks}
+use Rattle.site_cli.specs.Words.{usage, Asked, replay, serves, imports, exports, checks}
 use Rattle.site_jobs.specs.Jobs.{checked, exported}
 use Rattle.site_jobs.specs.Texts.{fault_text}
 
@@ -129,6 +129,7 @@ abbrev pub Runs : Option Asked → Outside → Outside → ℕ → Type 0
 Runs None old new status = Refuses old new status ⊎ Starves old new status
 Runs (Some (replay None)) old new status = ReplaysOrStarves starter_site old new status
 Runs (Some (replay (Some path))) old new status = ReplaysFileOrStarves path old new status
+Runs (Some (serves what)) old new status = Refuses old new status ⊎ Starves old new status
 Runs (Some (imports path)) old new status = ImportsOrNot path old new status
 Runs (Some (exports path)) old new status = TellsOrNot exported path old new status
 Runs (Some (checks path)) old new status = TellsOrNot checked path old new status

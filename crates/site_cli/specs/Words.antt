@@ -1,21 +1,41 @@
 -- The command line.
-use Rattle.std.specs.Prelude.{ℕ, List, [], ◌∷◌, codes, true, if◌then◌else◌, Option, Some, None, option_map}
+use Rattle.std.specs.Prelude.{ℕ, List, [], ◌∷◌, codes, true, nat_le, if◌then◌else◌, Option, Some, None, option_map, option_and_then}
 use Rattle.std.specs.String.{string_bytes}
 use Rattle.std.specs.Str.{bytes_eq}
 use Rattle.clap.specs.Words.{App, Row, Rule, Text, new_app, new_rule, with_rule, with_subcommand, subcommand_of, fault_of, first_of, Kinds}
+use Rattle.content_rows.specs.IdText.{id_of}
+use Rattle.site_cli.specs.declared.serving.Serving.{Serving}
 use Rattle.site_cli.specs.declared.words.Job.{Job}
 use Rattle.site_cli.specs.declared.words.Job.TheVariants as job
 
+-- what is to be served: the store of a path, at an address, by so many workers, and how many connections
+pub record ToServe : Type 0 where
+  pub store : List ℕ
+  pub address : List ℕ
+  pub workers : ℕ
+  pub limit : ℕ
+
 -- what the words after the program's name ask for: one connection, over the site of the file of rows of that path, or
--- over the starter site; or to fill the store of that path with rows, to write its rows out, or to check it
+-- over the starter site; or to serve the site of a store; or to fill the store of that path with rows, to write its rows out,
+-- or to check it
 pub data Asked : Type 0 where
   replay : Option (List ℕ) → Asked
+  serves : ToServe → Asked
   imports : List ℕ → Asked
   exports : List ℕ → Asked
   checks : List ℕ → Asked
 
+abbrev pub to_serve : Serving → ToServe
+to_serve serving = record {
+  store = string_bytes serving.store;
+  address = string_bytes serving.address;
+  workers = serving.workers;
+  limit = serving.limit;
+}
+
 abbrev pub asked_of : Job → Asked
 asked_of (job.Replay path) = replay (option_map string_bytes path)
+asked_of (job.Serve serving) = serves (to_serve serving)
 asked_of (job.Import path) = imports (string_bytes path)
 asked_of (job.Export path) = exports (string_bytes path)
 asked_of (job.Check path) = checks (string_bytes path)
@@ -24,13 +44,22 @@ asked_of (job.Check path) = checks (string_bytes path)
 abbrev pub replay_app : App
 replay_app = with_rule (new_app (codes "replay")) (new_rule (codes "ROWS"))
 
--- `--store PATH`, which is to be given
-abbrev pub store_rule : Rule
-store_rule = record (new_rule (codes "store")) { long = Some (codes "store"); required = true }
+-- an option with this name, which is given or not, and one that is to be given
+abbrev pub option_rule : List ℕ → Rule
+option_rule name = record (new_rule name) { long = Some name }
+
+abbrev pub required_rule : List ℕ → Rule
+required_rule name = record (new_rule name) { long = Some name; required = true }
+
+-- `serve --store PATH --listen ADDR [--workers N] [--limit M]`
+abbrev pub serve_app : App
+serve_app =
+    with_rule (with_rule (with_rule (with_rule (new_app (codes "serve")) (required_rule (codes "store")))
+    (required_rule (codes "listen"))) (option_rule (codes "workers"))) (option_rule (codes "limit"))
 
 -- a subcommand that works on a store
 abbrev pub store_app : List ℕ → App
-store_app name = with_rule (new_app name) store_rule
+store_app name = with_rule (new_app name) (required_rule (codes "store"))
 
 -- `site`, of whose subcommands one is to be named; the program's name isn't among the words
 abbrev pub site_app : App
@@ -38,7 +67,7 @@ site_app = record (new_app (codes "site")) { top = record (new_app (codes "site"
 
 abbrev pub synopsis : App
 synopsis =
-    with_subcommand (with_subcommand (with_subcommand (with_subcommand site_app replay_app.top)
+    with_subcommand (with_subcommand (with_subcommand (with_subcommand (with_subcommand site_app replay_app.top) serve_app.top)
     (store_app (codes "import")).top) (store_app (codes "export")).top) (store_app (codes "check")).top
 
 -- the job of that name on the store of a path
@@ -49,10 +78,33 @@ store_job name (Some path) =
     if bytes_eq name (codes "export") then Some (exports path) else
     if bytes_eq name (codes "check") then Some (checks path) else None
 
+-- the number that a text writes in decimal, without a sign or a leading zero: from 1 to the greatest, which has 9 digits at most
+abbrev pub number_to : ℕ → List ℕ → Option ℕ
+number_to greatest text = option_and_then (λ number. if nat_le number greatest then Some number else None) (id_of text)
+
+-- the number that is given, or the one that stands for none
+abbrev pub number_or : ℕ → ℕ → Option (List ℕ) → Option ℕ
+number_or default greatest None = Some default
+number_or default greatest (Some text) = number_to greatest text
+
+-- how many workers there are: from 1 to 16, and 4 where none is given
+abbrev pub workers_in : List Row → Option ℕ
+workers_in found = number_or 4 16 (first_of (codes "workers") found)
+
+-- how many connections are served: from 1 to 1,000,000, and 2^63 where none is given
+abbrev pub limit_in : List Row → Option ℕ
+limit_in found = number_or 9223372036854775808 1000000 (first_of (codes "limit") found)
+
+-- what is to be served, where all of it is said
+abbrev pub serve_job : Option (List ℕ) → Option (List ℕ) → Option ℕ → Option ℕ → Option Asked
+serve_job (Some store) (Some address) (Some workers) (Some limit) = Some (serves (record { store = store; address = address; workers = workers; limit = limit }))
+serve_job _ _ _ _ = None
+
 -- the job of a subcommand, by its name and what was found of its arguments
 abbrev pub named_job : List ℕ → List Row → Option Asked
 named_job name found =
     if bytes_eq name (codes "replay") then Some (replay (first_of (codes "ROWS") found)) else
+    if bytes_eq name (codes "serve") then serve_job (first_of (codes "store") found) (first_of (codes "listen") found) (workers_in found) (limit_in found) else
     store_job name (first_of (codes "store") found)
 
 abbrev pub job_of : Option (Text × List Row) → Option Asked

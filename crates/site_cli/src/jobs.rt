@@ -4,8 +4,8 @@ ghost use Rattle.site_cli.specs.Jobs.{status_of_job, ImportsOrNot, TellsOrNot};
 ghost use Rattle.site_cli.specs.Outside.{HasCause};
 ghost use Rattle.site_jobs.specs.Jobs.{checked, exported};
 
-use crate::place::{NoDevice, Place};
 use site_jobs::{JobEnd, check_site, export_rows, import_rows};
+use site_places::{NoDevice, Place};
 use std::alloc::Global;
 
 /// The status of a job's end.

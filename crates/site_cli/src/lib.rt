@@ -4,11 +4,14 @@
 mod alone;
 mod jobs;
 mod load;
-mod place;
 mod run;
+mod serving;
 mod words;
 
 pub use alone::alone_with;
-pub use place::{MemoryFile, MemoryPlace, MemoryStore, NoDevice, Place, SystemPlace};
 pub use run::{refuse_words, rows_of, run_site, starter_is_valid};
+pub use serving::Serving;
+pub use site_places::{
+    MemoryFile, MemoryPlace, MemoryPort, MemoryStore, NoDevice, Place, SystemPlace,
+};
 pub use words::{Job, WordFault, WordsFault, command_words, read_words, words_fault, words_of};

@@ -3,11 +3,11 @@ ghost use Rattle.std.specs.Prelude.{◌≡◌, IfOk, IfErr};
 ghost use Rattle.site_cli.specs.Load.{IsNoSiteOf, Says};
 ghost use Rattle.site_cli.specs.Run.{IsSiteOf};
 
-use crate::place::{NoDevice, Place};
 use content_rows::Text;
 use content_state::State;
 use site_files::{ReadFault, read_site};
 use site_jobs::{cell_fault_text, line_text};
+use site_places::{NoDevice, Place};
 use std::alloc::{AllocError, Global};
 
 /// Why no site was loaded.

@@ -10,12 +10,12 @@ ghost use Rattle.site_cli.specs.Run.{rows_of, starter_site, status_of, ReplaysFi
 use crate::alone::alone_with;
 use crate::jobs::{check_job, export_job, import_job};
 use crate::load::{NoSite, load};
-use crate::place::Place;
 use crate::words::{Job, WordFault, read_words};
 use content_rows::{Cell, Row, starter};
 use content_state::{Rows, State};
 use site_http::serve_connection;
 use site_io::{Ended, Sink, Source, write_whole};
+use site_places::Place;
 use std::alloc::{AllocError, Global};
 use std::sync::Arc;
 use tag_counts::Counts;
@@ -64,9 +64,10 @@ pub fn starter_is_valid()
     ensures { IsValidState starter_site }
 {}
 
-/// The starter site.
+/// The starter site, which is valid.
 fn starter_state(alloc: Global) -> Result<State, AllocError>
-    ensures { IfOk result (λ s. s ≡ starter_site) }
+    ensures same { IfOk result (λ s. s ≡ starter_site) }
+    ensures valid { IfOk result IsValidState }
 {
     let rows = rows_of(alloc, starter(alloc)?)?;
     State::new(alloc, rows, Counts::new(alloc), 0)
@@ -202,6 +203,7 @@ pub fn run_site<P: Place>(
         Ok(Job::Replay(Some(path))) => {
             replay_file(rt, alloc, path.as_str(), place, input, output)
         }
+        Ok(Job::Serve(_)) => refuse_words(output),
         Ok(Job::Import(path)) => import_job(alloc, path.as_str(), place, input, output),
         Ok(Job::Export(path)) => export_job(alloc, path.as_str(), place, input, output),
         Ok(Job::Check(path)) => check_job(alloc, path.as_str(), place, input, output),

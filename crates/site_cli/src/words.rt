@@ -1,15 +1,17 @@
 //! The words of the command line.
-ghost use Rattle.std.specs.Prelude.{◌≡◌, ◌≢◌, [], false, true, IfOk, IfErr, Some, None, codes, drop, map, option_map};
+ghost use Rattle.std.specs.Prelude.{◌≡◌, ◌≢◌, ◌≤◌, ◌^◌, [], false, true, IfOk, IfErr, IfSome, Some, None, codes, drop, map, option_map};
 ghost use Rattle.std.specs.String.{string_bytes};
 ghost use Rattle.std.specs.Vec.Iter.{into_iter_items};
 ghost use Rattle.std.specs.IoError.{error_kind};
 ghost use Rattle.clap.specs.Words.{app_of, fault_of, first_of, found_of, kind_of, rows_of, rule_of, subcommand_of, subcommand_rows_of, with_subcommand};
 ghost use Rattle.clap.specs.declared.builder.command.Command.TheViews.{out-Command as fields_of};
 ghost use Rattle.clap.specs.declared.error.kind.ErrorKind.TheVariants as kind;
-ghost use Rattle.site_cli.specs.Words.{asked, asked_of, named_job, replay_app, site_app, store_app, store_job, store_rule, synopsis};
+ghost use Rattle.site_cli.specs.Words.{asked, asked_of, limit_in, named_job, number_or, number_to, option_rule, replay_app, required_rule, serve_app, serve_job, site_app, store_app, store_job, synopsis, workers_in};
 
+use crate::serving::Serving;
 use clap::error::ErrorKind as ClapKind;
 use clap::{Arg, ArgMatches, Command, Error as ClapError};
+use content_rows::id_of;
 use std::alloc::{AllocError, Global};
 use std::env::Args;
 use std::io::ErrorKind;
@@ -21,6 +23,8 @@ pub enum Job {
     /// `replay [ROWS]`: answer one connection, from the input to the output, over the site of the file of rows of that
     /// path, or over the starter site.
     Replay(Option<String>),
+    /// `serve --store PATH --listen ADDR [--workers N] [--limit M]`: serve the site of the store of that path.
+    Serve(Serving),
     /// `import --store PATH`: fill the store of that path with the rows of the input.
     Import(String),
     /// `export --store PATH`: write the rows of the store of that path out.
@@ -55,12 +59,32 @@ fn replay_command<'a>(alloc: Global) -> Result<Command<'a>, AllocError>
     Command::new(alloc, "replay").arg(Arg::new(alloc, "ROWS"))
 }
 
-/// `--store PATH`.
-fn store_arg<'a>(alloc: Global) -> Arg<'a>
-    ensures rule { rule_of result ≡ store_rule }
+/// An option with this name, which is given or not.
+fn option_arg<'a>(alloc: Global, name: &'a str) -> Arg<'a>
+    ensures rule { rule_of result ≡ option_rule name.entry.now }
     ensures local { result.global ≡ false }
 {
-    Arg::new(alloc, "store").long("store").required(true)
+    Arg::new(alloc, name).long(name)
+}
+
+/// One that is to be given.
+fn required_arg<'a>(alloc: Global, name: &'a str) -> Arg<'a>
+    ensures rule { rule_of result ≡ required_rule name.entry.now }
+    ensures local { result.global ≡ false }
+{
+    Arg::new(alloc, name).long(name).required(true)
+}
+
+/// `serve`, with its options.
+fn serve_command<'a>(alloc: Global) -> Result<Command<'a>, AllocError>
+    ensures app { IfOk result (λ c. app_of c ≡ serve_app) }
+    ensures local { IfOk result (λ c. (fields_of c).has_globals ≡ false) }
+{
+    Command::new(alloc, "serve")
+        .arg(required_arg(alloc, "store"))?
+        .arg(required_arg(alloc, "listen"))?
+        .arg(option_arg(alloc, "workers"))?
+        .arg(option_arg(alloc, "limit"))
 }
 
 /// A subcommand that works on a store.
@@ -68,7 +92,7 @@ fn store_command<'a>(alloc: Global, name: &'a str) -> Result<Command<'a>, AllocE
     ensures app { IfOk result (λ c. app_of c ≡ store_app name.entry.now) }
     ensures local { IfOk result (λ c. (fields_of c).has_globals ≡ false) }
 {
-    Command::new(alloc, name).arg(store_arg(alloc))
+    Command::new(alloc, name).arg(required_arg(alloc, "store"))
 }
 
 /// A command with one more subcommand that works on a store.
@@ -92,12 +116,19 @@ fn replay_site<'a>(alloc: Global) -> Result<Command<'a>, AllocError>
     site.subcommand(replay_command(alloc)?)
 }
 
+/// The program with `replay` and `serve`.
+fn serving_site<'a>(alloc: Global) -> Result<Command<'a>, AllocError>
+    ensures { IfOk result (λ c. app_of c ≡ with_subcommand (with_subcommand site_app replay_app.top) serve_app.top) }
+{
+    replay_site(alloc)?.subcommand(serve_command(alloc)?)
+}
+
 /// The program's commands.
 fn site_command<'a>(alloc: Global) -> Result<Command<'a>, AllocError>
     ensures { IfOk result (λ c. app_of c ≡ synopsis) }
 {
-    let replaying = replay_site(alloc)?;
-    let importing = with_store_command(alloc, replaying, "import")?;
+    let serving = serving_site(alloc)?;
+    let importing = with_store_command(alloc, serving, "import")?;
     let exporting = with_store_command(alloc, importing, "export")?;
     let checking = with_store_command(alloc, exporting, "check")?;
     Ok(checking)
@@ -140,6 +171,68 @@ fn text_given(
     }
 }
 
+/// The number that a text writes in decimal: from 1 to the greatest, without a sign or a leading zero.
+fn number_to(greatest: u64, text: &str) -> Option<u64>
+    ensures number { result ≡ number_to greatest text.now }
+    ensures from { IfSome result (λ number. 1 ≤ number) }
+    ensures to { IfSome result (λ number. number ≤ greatest) }
+{
+    let number = u64::from(id_of(text.as_bytes())?);
+    if number <= greatest {
+        Some(number)
+    } else {
+        None
+    }
+}
+
+/// How many workers there are.
+fn workers_given(matches: &ArgMatches<'_>) -> Option<u64>
+    ensures workers { result ≡ workers_in (rows_of (found_of matches.now)) }
+    ensures from { IfSome result (λ number. 1 ≤ number) }
+    ensures to { IfSome result (λ number. number ≤ 16) }
+{
+    match matches.get_str("workers") {
+        Some(text) => number_to(16, text),
+        None => Some(4),
+    }
+}
+
+/// How many connections are taken.
+fn limit_given(matches: &ArgMatches<'_>) -> Option<u64>
+    ensures limit { result ≡ limit_in (rows_of (found_of matches.now)) }
+    ensures from { IfSome result (λ number. 1 ≤ number) }
+    ensures to { IfSome result (λ number. number ≤ 2 ^ 63) }
+{
+    match matches.get_str("limit") {
+        Some(text) => number_to(1_000_000, text),
+        None => Some(1 << 63),
+    }
+}
+
+/// The job of serving, where all of it is said.
+fn serve_job(alloc: Global, matches: &ArgMatches<'_>) -> Result<Option<Job>, AllocError>
+    ensures { IfOk result (λ job. option_map asked_of job ≡ serve_job (first_of (codes "store") (rows_of (found_of matches.now))) (first_of (codes "listen") (rows_of (found_of matches.now))) (workers_in (rows_of (found_of matches.now))) (limit_in (rows_of (found_of matches.now)))) }
+{
+    let Some(store) = text_given(alloc, matches, "store")? else {
+        return Ok(None);
+    };
+    let Some(address) = text_given(alloc, matches, "listen")? else {
+        return Ok(None);
+    };
+    let Some(workers) = workers_given(matches) else {
+        return Ok(None);
+    };
+    let Some(limit) = limit_given(matches) else {
+        return Ok(None);
+    };
+    Ok(Some(Job::Serve(Serving {
+        store,
+        address,
+        workers,
+        limit,
+    })))
+}
+
 /// The job of that name on the store of a path.
 fn store_job(name: &str, path: String) -> Option<Job>
     ensures { option_map asked_of result ≡ store_job name.now (Some (string_bytes path)) }
@@ -161,6 +254,9 @@ fn named_job(alloc: Global, name: &str, matches: &ArgMatches<'_>) -> Result<Opti
 {
     if name == "replay" {
         return Ok(Some(Job::Replay(text_given(alloc, matches, "ROWS")?)));
+    }
+    if name == "serve" {
+        return serve_job(alloc, matches);
     }
     match text_given(alloc, matches, "store")? {
         Some(path) => Ok(store_job(name, path)),

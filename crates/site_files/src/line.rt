@@ -1,5 +1,6 @@
 //! The row that a line is.
 ghost use Rattle.std.specs.Prelude.{◌≡◌, IfOk, IfErr, OnOk, Ok, Some, option_map};
+ghost use Rattle.std.specs.Arc.{arc_value};
 ghost use Rattle.serde_json.specs.View.{view};
 ghost use Rattle.content_rows.specs.ValidRow.{IsValidRow};
 ghost use Rattle.content_state.specs.SiteRules.{AreValidRows};
@@ -98,14 +99,20 @@ pub(crate) fn add_line(
     ensures fault { IfErr result (IsLineFault number (with_one_more rows.old (row_of_line line.now))) }
 {
     let (cell, row) = row_of_line(alloc, number, line)?;
+    // first of all, so that no way out ends a row by itself, which is proved kind by kind
+    let row = shared(alloc, row)?;
     if rows.get(cell).is_some() {
         return Err(broken(number, Text::copied(alloc, b"cell")?, Rule::Twice));
     }
-    let Ok(shared) = Arc::new(alloc, row) else {
-        return Err(ReadFault::OutOfMemory);
-    };
-    let Ok(()) = rows.set(cell, shared) else {
+    let Ok(()) = rows.set(cell, row) else {
         return Err(ReadFault::OutOfMemory);
     };
     Ok(())
+}
+
+/// A row, to be shared. `Err` only where memory is wanting.
+fn shared(alloc: Global, row: Row) -> Result<Arc<Row>, AllocError>
+    ensures { IfOk result (λ shared. arc_value shared ≡ row) }
+{
+    Ok(Arc::new(alloc, row)?)
 }

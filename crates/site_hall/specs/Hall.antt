@@ -1,5 +1,5 @@
 -- The hall of a site: the one place where its edits are judged, kept and published, one after the other.
-use Rattle.std.specs.Prelude.{ℕ, List, [], ◌∷◌, ◌++◌, ◌≡◌, ◌+◌, ◌==◌, ◌⊎◌, Bool, true, Option, Some, None, if◌then◌else◌}
+use Rattle.std.specs.Prelude.{ℕ, List, [], ◌∷◌, ◌++◌, ◌≡◌, ◌+◌, ◌==◌, ◌⊎◌, Bool, true, false, Option, Some, None, if◌then◌else◌}
 use Rattle.content_state.specs.State.{State}
 use Rattle.content_state.specs.Replay.{step, replay}
 use Rattle.content_state.specs.declared.ask.Ask.{Ask}
@@ -89,12 +89,14 @@ pub record Settles (old new : HallView) : Type 0 where
 abbrev pub IsAcceptedOn : HallView → Ask → Option (List ℕ) → Command → ℕ → ℕ → Commit → Done → Type 0
 IsAcceptedOn hall ask csrf command now pass commit done = judged hall.base hall.log ask csrf command now pass ≡ Accepted commit done
 
--- An edit is accepted: it is judged once what was pending is settled; it is kept, and stands last in the log.
+-- An edit is accepted: it is judged once what was pending is settled; it is kept, and stands last in the log. It bears the number
+-- of the caller's pass.
 pub record Accepts (old new : HallView) (ask : Ask) (csrf : Option (List ℕ)) (command : Command) (now pass : ℕ) (done : Done) (number : ℕ) : Type 0 where
   pub settled : HallView
   pub settles : Settles old settled
   pub commit : Commit
   pub accepted : IsAcceptedOn settled ask csrf command now pass commit done
+  pub pass_is : commit.pass ≡ pass
   pub published : new ≡ record settled {
     log = settled.log ++ commit ∷ [];
     kept = and_batch settled.kept (batch_of (replay settled.base settled.log) commit);
@@ -113,13 +115,14 @@ pub record FailsHead (old new : HallView) : Type 0 where
   pub was_pending : old.pending ≡ Some pending
   pub stays : new ≡ record old { faults = new.faults }
 
--- the keeper failed to keep an accepted edit, or kept it and didn't say so: it is pending
+-- the keeper failed to keep an accepted edit, or kept it and didn't say so: it is pending, and bears the number of the caller's pass
 pub record FailsApply (old new : HallView) (ask : Ask) (csrf : Option (List ℕ)) (command : Command) (now pass : ℕ) : Type 0 where
   pub settled : HallView
   pub settles : Settles old settled
   pub commit : Commit
   pub done : Done
   pub accepted : IsAcceptedOn settled ask csrf command now pass commit done
+  pub pass_is : commit.pass ≡ pass
   pub kept_or_not :
       (new.kept ≡ settled.kept) ⊎ (new.kept ≡ and_batch settled.kept (batch_of (replay settled.base settled.log) commit))
   pub stays : new ≡ record settled { pending = Some commit; kept = new.kept; faults = new.faults }
@@ -139,3 +142,11 @@ Answers (answer.Done done number) old new ask csrf command now pass = Accepts ol
 Answers (answer.Refused refusal number) old new ask csrf command now pass = Refuses old new ask csrf command now pass refusal number
 Answers answer.Keeper old new ask csrf command now pass = Fails old new ask csrf command now pass
 Answers answer.OutOfMemory old new ask csrf command now pass = Starves old new
+
+-- whether an edit was handed to the keeper, which didn't refuse it for want of memory, by the answer
+abbrev pub Tells : Answer → Bool → HallView → HallView → Ask → Option (List ℕ) → Command → ℕ → ℕ → Type 0
+Tells (answer.Done done number) handed old new ask csrf command now pass = handed ≡ true
+Tells (answer.Refused refusal number) handed old new ask csrf command now pass = handed ≡ false
+Tells answer.Keeper true old new ask csrf command now pass = FailsApply old new ask csrf command now pass
+Tells answer.Keeper false old new ask csrf command now pass = FailsHead old new
+Tells answer.OutOfMemory handed old new ask csrf command now pass = handed ≡ false

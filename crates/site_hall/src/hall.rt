@@ -7,7 +7,7 @@ ghost use Rattle.content_state.specs.Replay.{replay};
 ghost use Rattle.content_state.specs.SiteRules.{AreValidRows, IsRefusal};
 ghost use Rattle.site_commands.specs.Right.{IsRight};
 ghost use Rattle.site_keeper.specs.Keeper.{IfTold};
-ghost use Rattle.site_hall.specs.Hall.{IsHall, StaysSteadfast, Settles, Answers, number_of, settled_by};
+ghost use Rattle.site_hall.specs.Hall.{IsHall, StaysSteadfast, Settles, Answers, Tells, number_of, settled_by};
 ghost use Rattle.site_hall.specs.Opened.{opened_with, IsBack};
 ghost use Rattle.site_hall.specs.Ready.{IsReady, IsReadyAfter, MayBeNext, LeavesPending, Stops, IsUnready, published, LeavesReady};
 
@@ -127,18 +127,42 @@ impl<K: Keeper> Hall<K> {
         ensures never_falls { self.old.faults ≤ self.new.faults }
         ensures steadfast { StaysSteadfast self.old self.new }
     {
+        let (answer, _) = self.commit_and_tell(alloc, ask, csrf, command, now, pass);
+        answer
+    }
+
+    /// Makes an edit as `commit` does, and tells whether it was handed to the keeper, which then didn't refuse it for want of
+    /// memory: it was at `Done`, it wasn't at `Refused` and `OutOfMemory`, and at `Keeper` it was where the keeper failed at
+    /// the edit.
+    pub fn commit_and_tell(
+        &mut self,
+        alloc: Global,
+        ask: &Ask,
+        csrf: Option<&[u8]>,
+        command: &Command,
+        now: u64,
+        pass: u32,
+    ) -> (Answer, bool)
+        requires right { IsRight command.now }
+        requires moment { IsMoment now }
+        ensures answers { Answers result.0 self.old self.new ask.now (option_copied csrf.entry) command.now now pass }
+        ensures tells { Tells result.0 result.1 self.old self.new ask.now (option_copied csrf.entry) command.now now pass }
+        ensures is_hall { IsHall self.new }
+        ensures never_falls { self.old.faults ≤ self.new.faults }
+        ensures steadfast { StaysSteadfast self.old self.new }
+    {
         match self.prepare(alloc, ask, csrf, command, now, pass) {
             Ok(ready) => {
                 let done = ready.done;
                 match self.keep(alloc, ready) {
-                    Ok(()) => Answer::Done(done, self.number()),
-                    Err(KeeperFault::Failed) => Answer::Keeper,
-                    Err(KeeperFault::OutOfMemory) => Answer::OutOfMemory,
+                    Ok(()) => (Answer::Done(done, self.number()), true),
+                    Err(KeeperFault::Failed) => (Answer::Keeper, true),
+                    Err(KeeperFault::OutOfMemory) => (Answer::OutOfMemory, false),
                 }
             }
-            Err(Stop::Refused(refusal)) => Answer::Refused(refusal, self.number()),
-            Err(Stop::Failed) => Answer::Keeper,
-            Err(Stop::OutOfMemory) => Answer::OutOfMemory,
+            Err(Stop::Refused(refusal)) => (Answer::Refused(refusal, self.number()), false),
+            Err(Stop::Failed) => (Answer::Keeper, false),
+            Err(Stop::OutOfMemory) => (Answer::OutOfMemory, false),
         }
     }
 
@@ -187,8 +211,8 @@ impl<K: Keeper> Hall<K> {
         self.log.number()
     }
 
-    /// How many edits were published.
-    pub(crate) fn len(&self) -> usize
+    /// How many edits were published. What always holds of a hall holds.
+    pub fn len(&self) -> usize
         ensures len { result ≡ length self.now.log }
         ensures is_hall { IsHall self.now }
     {

@@ -1,5 +1,6 @@
 -- What a worker does: it serves the connections of a door, one after the other.
 use Rattle.std.specs.Prelude.{ℕ, zero, suc, List, ◌≡◌, ◌+◌, Option}
+use Rattle.content_state.specs.Replay.{Begins}
 use Rattle.content_state.specs.declared.commit.Commit.{Commit}
 use Rattle.site_io.specs.declared.device.Point.{Point}
 use Rattle.site_io.specs.Told.{Rose}
@@ -29,8 +30,14 @@ around_of bench line = record {
   out = record { given = bench.given; words = bench.words; points = bench.points; written = line.written; handed = bench.handed; keepers = bench.keepers };
 }
 
--- One connection was accepted, the next one to come; it has the promise of the whole over what the house had seen at its end, with
--- no number below that of what it had seen before; and it was given back with its end.
+-- the same caller has seen as much of the same site, or more
+pub record Follows (old new : History) : Type 0 where
+  pub base : new.base ≡ old.base
+  pub pass : new.pass ≡ old.pass
+  pub grows : Begins old.log new.log
+
+-- One connection was accepted, the next one to come; it has the promise of the whole over what the house had seen at its end, which
+-- begins with what it had seen before, with no number below that of this; and it was given back with its end.
 pub record ServesOne (old new : Bench) : Type 0 where
   pub line : Line
   pub back : Back
@@ -38,6 +45,7 @@ pub record ServesOne (old new : Bench) : Type 0 where
   pub later : new.coming ≡ later_lines old.coming
   pub given_back : new.returned ≡ and_back old.returned back
   pub connection : Connection back.end (around_of old line) (around_of new back.line) new.history 1000 (newest old.history)
+  pub follows : Follows old.history new.history
 
 -- one connection more, after so many
 pub record ServesLast (old new : Bench) (Before : Bench → Bench → Type 0) : Type 0 where

@@ -43,16 +43,22 @@ pub fn serve_connection<R, H: House, S: Source, O: Sink, C: Clock, E: Entropy, G
     let Ok(mut inbox) = Inbox::new(alloc) else {
         return Ended::OutOfMemory;
     };
+    // both are dropped by calls: what ends by itself is proved part by part, at each way out
     let Ok(paths) = EditPaths::new(alloc) else {
+        drop(inbox);
         return Ended::OutOfMemory;
     };
     'requests: for index in 0..LIMIT {
         if let Some(ended) = turn(
             alloc, &paths, house, source, sink, clock, entropy, gate, &mut inbox, index,
         ) {
+            drop(paths);
+            drop(inbox);
             return ended;
         }
     }
+    drop(paths);
+    drop(inbox);
     Ended::Spent
 }
 

@@ -1,5 +1,5 @@
 //! A worker: connections, one after the other.
-ghost use Rattle.std.specs.Prelude.{◌≡◌, false};
+ghost use Rattle.std.specs.Prelude.{◌≡◌, false, true};
 ghost use Rattle.site_house.specs.House.{Moves, history_of};
 ghost use Rattle.site_io.specs.Series.{GivesInTurn, last_moment, last_word};
 ghost use Rattle.site_http.specs.Work.{CountsDoor, Works};
@@ -22,7 +22,7 @@ pub enum Worked {
 /// Serves the connections of a door, one after the other: it asks for leave to take one more, waits for it, answers its
 /// requests, and gives it back with its end.
 ///
-/// `NoMore` comes where leave wasn't given, `DoorFault` exactly where the door's count of faults rose; of the leave that was
+/// `NoMore` comes only where leave wasn't given, `DoorFault` exactly where the door's count of faults rose; of the leave that was
 /// given for the connection that didn't come, nothing came. However a connection ends, the next one is taken.
 pub fn work<R: Wait, H: House, D: Door, C: Clock, E: Entropy, G: Gate, M: More>(
     rt: &R,
@@ -41,6 +41,8 @@ pub fn work<R: Wait, H: House, D: Door, C: Clock, E: Entropy, G: Gate, M: More>(
         (M.claims more.old) (M.claims more.new) }
     ensures door { CountsDoor result (D.faults door.old) (D.faults door.new) }
     ensures none_out { D.is_out door.new ≡ false }
+    ensures over { result ≡ Worked.NoMore → M.is_over more.new ≡ true }
+    ensures same { M.name more.new ≡ M.name more.old }
     ensures moves { Moves (H.sees house.old) (H.sees house.new) }
     ensures moments { GivesInTurn last_moment (C.moments clock.old) (C.moments clock.new) (C.given clock.old) (C.given clock.new) }
     ensures words { GivesInTurn last_word (E.words entropy.old) (E.words entropy.new) (E.given entropy.old) (E.given entropy.new) }

@@ -11,11 +11,11 @@ pub trait Door {
     ghost use Rattle.site_io.specs.Doors.{Line, Back, IsNext, later_lines, and_back};
     ghost use Rattle.site_io.specs.declared.ended.Ended.{Ended};
 
-    /// What a connection's bytes are read from.
-    type In: Source + Drop;
+    /// What a connection's bytes are read from. A door may be sent to another thread, and so may these.
+    type In: Source + Drop + Send;
 
     /// What they are written to.
-    type Out: Sink + Drop;
+    type Out: Sink + Drop + Send;
 
     /// What the connections tell that are to come, in order, where the door tells it.
     ghost coming: { Self → Option (List Line) };
@@ -62,7 +62,15 @@ pub trait More {
     /// How often it gave leave.
     ghost claims: { Self → ℕ };
 
+    /// What it shares with others, by a name, where it shares anything.
+    ghost name: { Self → List ℕ };
+
+    /// Whether no leave is left to give.
+    ghost is_over: { Self → Bool };
+
     /// Whether one connection more may be taken; the count of claims rises by one exactly where it may.
     fn more(&mut self) -> bool
-        ensures { claims self.new ≡ (if result then claims self.old + 1 else claims self.old) };
+        ensures counted { claims self.new ≡ (if result then claims self.old + 1 else claims self.old) }
+        ensures over { result ≡ false → is_over self.new ≡ true }
+        ensures same { name self.new ≡ name self.old };
 }

@@ -1,5 +1,5 @@
 //! Workers that serve the connections of a door in memory.
-ghost use Rattle.std.specs.Prelude.{◌≡◌, false, IfOk};
+ghost use Rattle.std.specs.Prelude.{◌≡◌, ◌==◌, [], false, IfOk};
 ghost use Rattle.content_state.specs.SiteRules.{IsValidState};
 
 use content_rows::starter;
@@ -26,9 +26,9 @@ struct Leave {
 impl Model for Leave {
     ghost use Rattle.std.specs.Prelude.{ℕ, ◌+◌, ◌≤◌, ◌^◌, ◌<◌};
 
-    ghost Value = { ℕ };
+    ghost Value = { ℕ × ℕ };
 
-    ghost view = { λ l. l.given };
+    ghost view = { λ l. (l.left, l.given) };
 
     ghost invariant = { λ l. l.left + l.given < 2 ^ 32 };
 }
@@ -40,7 +40,11 @@ impl Leave {
 }
 
 impl More for Leave {
-    ghost claims = { λ l. l };
+    ghost claims = { λ l. l.1 };
+
+    ghost name = { λ _. [] };
+
+    ghost is_over = { λ l. l.0 == 0 };
 
     fn more(&mut self) -> bool {
         if self.left == 0 {

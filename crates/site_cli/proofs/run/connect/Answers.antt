@@ -1,5 +1,5 @@
 use Rattle.std.proofs.Common.{◌∙◌, ap, inl}
-use Rattle.site_cli.specs.Place.{next_list, none_given, entropy_given, PlaceView}
+use Rattle.site_places.specs.Place.{next_list, none_given, entropy_given, PlaceView}
 use Rattle.site_hall.specs.Alone.{house_of}
 use Rattle.site_cli.proofs.Replaying.{replays}
 use Rattle.site_cli.proofs.Causes.{ended_cause}

@@ -5,6 +5,6 @@ use Rattle.site_cli.proofs.words.site_command.Goals as goal
 
 pub returns : goal.returns
 returns c =
-    let imports = c.in_ok-importing.ensures ∙ ap (λ (a : App). with_subcommand a (store_app (codes "import")).top) c.in_ok-replaying.ensures in
+    let imports = c.in_ok-importing.ensures ∙ ap (λ (a : App). with_subcommand a (store_app (codes "import")).top) c.in_ok-serving.ensures in
     let exports = c.in_ok-exporting.ensures ∙ ap (λ (a : App). with_subcommand a (store_app (codes "export")).top) imports in
     c.in_ok-checking.ensures ∙ ap (λ (a : App). with_subcommand a (store_app (codes "check")).top) exports

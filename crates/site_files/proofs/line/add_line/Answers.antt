@@ -9,5 +9,5 @@ use Rattle.site_files.proofs.line.add_line.Goals as goal
 pub returns-clause-valid : goal.returns-clause-valid
 returns-clause-valid c =
     λ valid.
-    subst AreValidRows (sym c.in-Ok-set.ensures.ok)
-    (stays_valid c.args.rows.now c.in_ok-cell.cell (arc_value c.in-Ok.shared) (subst (λ (r : Row). IsValidRow c.in_ok-cell.cell r) (sym c.in-Ok.ensures.ok) c.in_ok-cell.ensures.right) valid)
+    subst AreValidRows (sym c.in-Ok.ensures.ok)
+    (stays_valid c.args.rows.now c.in_ok-cell.cell (arc_value c.in_ok-row.row) (subst (λ (r : Row). IsValidRow c.in_ok-cell.cell r) (sym c.in_ok-row.ensures) c.in_ok-cell.ensures.right) valid)

@@ -12,17 +12,19 @@ connections-preserved g c =
     let line : Line = record { left = g.D.In.Source.left c.in-Ok.source; written = g.D.Out.Sink.written c.in-Ok.sink } in
     let back : Back = record { line = record { left = g.D.In.Source.left served.new.source; written = g.D.Out.Sink.written served.new.sink }; end = served.result } in
     record {
-      serves = one_more before.serves c.if-not-more.ensures (record {
+      serves = one_more before.serves c.if-not-more.ensures.counted (record {
         line = line;
         back = back;
         next = c.in-Ok.ensures.next;
         later = c.done.ensures.coming ∙ c.in-Ok.ensures.later;
         given_back = c.done.ensures.back ∙ ap (λ backs. and_back backs back) c.in-Ok.ensures.returned;
         connection = served.ensures.connection;
+        follows = record { base = served.ensures.moves.base; pass = served.ensures.moves.number; grows = served.ensures.moves.grows };
       });
       moves = moves_on before.moves served.ensures.moves;
       moments = turn_more before.moments served.ensures.moments;
       words = turn_more before.words served.ensures.words;
       none_out = c.done.ensures.none_out;
+      same = c.if-not-more.ensures.same ∙ before.same;
       steady = c.done.ensures.steady ∙ c.in-Ok.ensures.steady ∙ before.steady;
     }

@@ -14,5 +14,6 @@ invariant-connections g l = record {
   moments : GivesInTurn last_moment (g.C.Clock.moments l.fn.clock) (g.C.Clock.moments l.clock) (g.C.Clock.given l.fn.clock) (g.C.Clock.given l.clock);
   words : GivesInTurn last_word (g.E.Entropy.words l.fn.entropy) (g.E.Entropy.words l.entropy) (g.E.Entropy.given l.fn.entropy) (g.E.Entropy.given l.entropy);
   none_out : g.D.Door.is_out l.door ≡ false;
+  same : g.M.More.name l.more ≡ g.M.More.name l.fn.more;
   steady : g.D.Door.faults l.door ≡ g.D.Door.faults l.fn.door;
 }

@@ -1,0 +1,4 @@
+pub mod Keys
+pub mod KeyLaws
+pub mod Entries
+pub mod Sound

@@ -1,0 +1,399 @@
+//! A place in memory, which tells what it is to give and what it is given back.
+ghost use Rattle.std.specs.Prelude.{◌≡◌, ◌≤◌, ◌<◌, IfOk, IfSome, length, map, option_map};
+ghost use Rattle.std.specs.String.{string_bytes};
+ghost use Rattle.site_io.specs.Memory.{fresh, up};
+ghost use Rattle.content_state.specs.SiteRules.{AreValidRows};
+ghost use Rattle.site_keeper.specs.Memory.{fresh as fresh_keeper, made_of};
+ghost use Rattle.site_places.specs.Place.{
+  file_at,
+  memory_view,
+  new_memory,
+  numbers,
+  place_of,
+  store_at,
+  IsNewDoor,
+};
+ghost use Rattle.site_places.specs.declared.place.NoDevice.TheVariants as why;
+
+use crate::place::{NoDevice, Place};
+use site_io::{
+    Door, ListClock, ListEntropy, MemoryDoor, MemorySink, MemorySource, OpenGate, Source,
+};
+use site_keeper::{Fail, Keeper, MemoryKeeper, Stored};
+use std::alloc::{AllocError, Global};
+use std::marker::Model;
+use std::vec::IntoIter;
+
+/// A file of a place in memory.
+#[derive(Drop)]
+pub struct MemoryFile {
+    path: String,
+    bytes: Vec<u8>,
+    failing: Vec<u64>,
+}
+
+impl Model for MemoryFile {
+    ghost use Rattle.std.specs.String.{string_bytes};
+    ghost use Rattle.site_places.specs.Place.{File};
+
+    ghost Value = { File };
+
+    ghost view = { λ f. record { path = string_bytes f.path; bytes = f.bytes.items; failing = f.failing.items } };
+}
+
+impl MemoryFile {
+    /// The file of that path and those bytes. The reads with these numbers, from 1, are to fail.
+    pub fn new(path: String, bytes: Vec<u8>, failing: Vec<u64>) -> MemoryFile
+        ensures { result ≡ record { path = string_bytes path; bytes = bytes.items; failing = failing.items } }
+    {
+        MemoryFile {
+            path,
+            bytes,
+            failing,
+        }
+    }
+
+    /// A source of its bytes, of which none is read yet.
+    fn opened(&self, alloc: Global) -> Result<MemorySource, AllocError>
+        ensures { IfOk result (λ s. (s.left ≡ self.now.bytes) × (s.calls ≡ fresh self.now.failing)) }
+    {
+        let bytes = Vec::from_slice(alloc, self.bytes.as_slice())?;
+        let failing = Vec::from_slice(alloc, self.failing.as_slice())?;
+        Ok(MemorySource::new(bytes, PIECE).failing_at(failing))
+    }
+}
+
+/// A source of a file in memory gives at most so many bytes at once.
+const PIECE: usize = 4096;
+
+/// The first file of that path.
+fn file_at<'a>(files: &'a [MemoryFile], path: &str) -> Option<&'a MemoryFile>
+    ensures { option_map (λ f. f.now) result ≡ file_at files.now path.now }
+{
+    files.iter().find(|file| file.path.as_str() == path)
+}
+
+/// A store of a place in memory. Each of its rows is right by itself.
+#[derive(Drop)]
+pub struct MemoryStore {
+    path: String,
+    stored: Stored,
+    failing: Vec<Fail>,
+}
+
+impl Model for MemoryStore {
+    ghost use Rattle.std.specs.String.{string_bytes};
+    ghost use Rattle.content_state.specs.SiteRules.{AreValidRows};
+    ghost use Rattle.site_places.specs.Place.{Store};
+
+    ghost Value = { Store };
+
+    ghost view = { λ s. record { path = string_bytes s.path; stored = s.stored; failing = s.failing.items } };
+
+    ghost invariant = { λ s. AreValidRows s.stored.rows };
+}
+
+impl MemoryStore {
+    /// The store of that path, which holds this. The calls of its keeper with these numbers are to fail.
+    pub fn new(path: String, stored: Stored, failing: Vec<Fail>) -> MemoryStore
+        requires { AreValidRows stored.rows }
+        ensures { result ≡ record { path = string_bytes path; stored = stored; failing = failing.items } }
+    {
+        MemoryStore {
+            path,
+            stored,
+            failing,
+        }
+    }
+
+    /// A keeper that holds what it holds, and has kept nothing yet.
+    fn opened(&self, alloc: Global) -> Result<MemoryKeeper, AllocError>
+        ensures { IfOk result (λ k. k ≡ record { kept = made_of self.now.stored; calls = fresh_keeper self.now.failing }) }
+    {
+        let stored = self.stored.duplicate(alloc)?;
+        let failing = Vec::from_slice(alloc, self.failing.as_slice())?;
+        Ok(MemoryKeeper::new(alloc, stored, failing))
+    }
+}
+
+/// The first store of that path.
+fn store_at<'a>(stores: &'a [MemoryStore], path: &str) -> Option<&'a MemoryStore>
+    ensures { option_map (λ s. s.now) result ≡ store_at stores.now path.now }
+{
+    stores.iter().find(|store| store.path.as_str() == path)
+}
+
+/// A port of a place in memory: an address, and a door there, at which nothing happened yet.
+#[derive(Drop)]
+pub struct MemoryPort {
+    address: String,
+    door: MemoryDoor,
+}
+
+impl Model for MemoryPort {
+    ghost use Rattle.std.specs.String.{string_bytes};
+    ghost use Rattle.site_places.specs.Place.{Port, IsNewDoor};
+
+    ghost Value = { Port };
+
+    ghost view = { λ p. record { address = string_bytes p.address; door = p.door } };
+
+    ghost invariant = { λ p. IsNewDoor p.door };
+}
+
+impl MemoryPort {
+    /// The door at that address, where no connection is out or was given back, and which has not failed.
+    pub fn new(address: String, door: MemoryDoor) -> MemoryPort
+        requires { IsNewDoor door }
+        ensures { result ≡ record { address = string_bytes address; door = door } }
+    {
+        MemoryPort { address, door }
+    }
+
+    /// The door.
+    fn into_door(self) -> MemoryDoor
+        ensures same { result ≡ self.door }
+        ensures new { IsNewDoor result }
+    {
+        let MemoryPort { address: _, door } = self;
+        door
+    }
+}
+
+/// The place in the list of the first port of that address.
+fn place_of(ports: &[MemoryPort], address: &str) -> Option<usize>
+    ensures place { result ≡ place_of address.now ports.now }
+    ensures within { IfSome result (λ index. index < length ports.now) }
+{
+    ports
+        .iter()
+        .position(|port| port.address.as_str() == address)
+}
+
+/// A place in memory: each clock gives the moments of its list, and each entropy the words of its list, its files hold
+/// bytes in memory, its stores rows and counts, and its ports have doors in memory, all of which the place tells beforehand.
+#[derive(Drop)]
+pub struct MemoryPlace {
+    moments: IntoIter<Vec<u64>>,
+    words: IntoIter<Vec<u64>>,
+    files: Vec<MemoryFile>,
+    stores: Vec<MemoryStore>,
+    ports: Vec<MemoryPort>,
+    returned: Option<MemoryKeeper>,
+    doors_back: Vec<MemoryDoor>,
+    doors_out: usize,
+    failing: Vec<u64>,
+    opened: u64,
+    faults: u64,
+    rows_faults: u64,
+    keeper_faults: u64,
+    door_faults: u64,
+    alloc: Global,
+}
+
+impl Model for MemoryPlace {
+    ghost use Rattle.std.specs.Prelude.{◌+◌, ◌≤◌, length, map, vec_capacity};
+    ghost use Rattle.std.specs.Vec.Iter.{into_iter_items};
+    ghost use Rattle.site_places.specs.Place.{Memory, numbers};
+
+    ghost Value = { Memory };
+
+    ghost view = { λ p. record { moments = map numbers (into_iter_items p.moments); words = map numbers (into_iter_items p.words); files = p.files.items; stores = p.stores.items; ports = p.ports.items; returned = p.returned; doors_back = p.doors_back.items; doors_out = p.doors_out; failing = p.failing.items; opened = p.opened; faults = p.faults; rows_faults = p.rows_faults; keeper_faults = p.keeper_faults; door_faults = p.door_faults } };
+
+    ghost invariant = { λ p. length p.doors_back.items + p.doors_out ≤ vec_capacity p.doors_back };
+}
+
+impl MemoryPlace {
+    /// The place whose clocks give these moments, one list each, in order, and whose entropies give these words. Those
+    /// past the last list have an empty one. It has neither files, stores nor ports, and nothing has failed yet.
+    pub fn new(alloc: Global, moments: Vec<Vec<u64>>, words: Vec<Vec<u64>>) -> MemoryPlace
+        ensures { result ≡ new_memory (map numbers moments.items) (map numbers words.items) }
+    {
+        MemoryPlace {
+            moments: moments.into_iter(),
+            words: words.into_iter(),
+            files: Vec::new(alloc),
+            stores: Vec::new(alloc),
+            ports: Vec::new(alloc),
+            returned: None,
+            doors_back: Vec::new(alloc),
+            doors_out: 0,
+            failing: Vec::new(alloc),
+            opened: 0,
+            faults: 0,
+            rows_faults: 0,
+            keeper_faults: 0,
+            door_faults: 0,
+            alloc,
+        }
+    }
+
+    /// The place with these files, and no others. Of two of one path the first counts.
+    pub fn with_files(self, files: Vec<MemoryFile>) -> MemoryPlace
+        ensures { result ≡ record self { files = files.items } }
+    {
+        MemoryPlace { files, ..self }
+    }
+
+    /// The place with these stores, and no others. Of two of one path the first counts.
+    pub fn with_stores(self, stores: Vec<MemoryStore>) -> MemoryPlace
+        ensures { result ≡ record self { stores = stores.items } }
+    {
+        MemoryPlace { stores, ..self }
+    }
+
+    /// The place with these ports, and no others. Of two of one address the first has the door that is given first.
+    pub fn with_ports(self, ports: Vec<MemoryPort>) -> MemoryPlace
+        ensures { result ≡ record self { ports = ports.items } }
+    {
+        MemoryPlace { ports, ..self }
+    }
+
+    /// The doors that were given back, in order.
+    pub fn doors_back(&self) -> &[MemoryDoor]
+        ensures { result.now ≡ self.now.doors_back }
+    {
+        self.doors_back.as_slice()
+    }
+
+    /// The keeper that was given back last, if one was.
+    pub fn into_returned(self) -> Option<MemoryKeeper>
+        ensures { result ≡ self.returned }
+    {
+        self.returned
+    }
+
+    /// The openings with these numbers are to fail, counted from here on and from 1. The count stays at the greatest u64.
+    pub fn failing_at(self, failing: Vec<u64>) -> MemoryPlace
+        ensures { result ≡ record self { failing = failing.items; opened = 0 } }
+    {
+        MemoryPlace {
+            failing,
+            opened: 0,
+            ..self
+        }
+    }
+
+    /// Counts a fault of the place.
+    fn fault(&mut self) -> NoDevice
+        ensures counted { self.new ≡ record self.old { faults = up self.old.faults } }
+        ensures never_falls { self.old.faults ≤ self.new.faults }
+        ensures why { result ≡ why.Failed }
+    {
+        self.faults = self.faults.saturating_add(1);
+        NoDevice::Failed
+    }
+}
+
+impl Place for MemoryPlace {
+    type In = MemorySource;
+
+    type Out = MemorySink;
+
+    type Rows = MemorySource;
+
+    type Keeper = MemoryKeeper;
+
+    type Door = MemoryDoor;
+
+    type Clock = ListClock;
+
+    type Entropy = ListEntropy;
+
+    type Gate = OpenGate;
+
+    ghost sees = { memory_view };
+
+    fn rows(&mut self, path: &str) -> Result<MemorySource, NoDevice> {
+        self.opened = self.opened.saturating_add(1);
+        if self.failing.contains(&self.opened) {
+            return Err(self.fault());
+        }
+        match file_at(self.files.as_slice(), path) {
+            Some(file) => Ok(file.opened(self.alloc)?),
+            None => Err(self.fault()),
+        }
+    }
+
+    fn rows_back(&mut self, rows: MemorySource) {
+        if rows.faults() > 0 {
+            self.rows_faults = self.rows_faults.saturating_add(1);
+        }
+    }
+
+    fn keeper(&mut self, path: &str) -> Result<MemoryKeeper, NoDevice> {
+        self.opened = self.opened.saturating_add(1);
+        if self.failing.contains(&self.opened) {
+            return Err(self.fault());
+        }
+        match store_at(self.stores.as_slice(), path) {
+            Some(store) => Ok(store.opened(self.alloc)?),
+            None => Err(self.fault()),
+        }
+    }
+
+    fn keeper_back(&mut self, keeper: MemoryKeeper) {
+        if keeper.faults() > 0 {
+            self.keeper_faults = self.keeper_faults.saturating_add(1);
+        }
+        self.returned = Some(keeper);
+    }
+
+    fn door(&mut self, address: &str) -> Result<MemoryDoor, NoDevice> {
+        self.opened = self.opened.saturating_add(1);
+        if self.failing.contains(&self.opened) {
+            return Err(self.fault());
+        }
+        let Some(out) = self.doors_out.checked_add(1) else {
+            return Err(NoDevice::OutOfMemory);
+        };
+        let Some(index) = place_of(self.ports.as_slice(), address) else {
+            return Err(self.fault());
+        };
+        self.doors_back.reserve(out)?;
+        self.doors_out = out;
+        Ok(self.ports.remove(index).into_door())
+    }
+
+    fn door_back(&mut self, door: MemoryDoor) {
+        if door.faults() > 0 {
+            self.door_faults = self.door_faults.saturating_add(1);
+        }
+        self.doors_out -= 1;
+        self.doors_back.push_reserved(door);
+    }
+
+    fn faults(&self) -> u64 {
+        self.faults
+    }
+
+    fn rows_faults(&self) -> u64 {
+        self.rows_faults
+    }
+
+    fn keeper_faults(&self) -> u64 {
+        self.keeper_faults
+    }
+
+    fn door_faults(&self) -> u64 {
+        self.door_faults
+    }
+
+    fn clock(&mut self) -> ListClock {
+        match self.moments.next() {
+            Some(list) => ListClock::new(list),
+            None => ListClock::new(Vec::new(self.alloc)),
+        }
+    }
+
+    fn entropy(&mut self) -> ListEntropy {
+        match self.words.next() {
+            Some(list) => ListEntropy::new(list),
+            None => ListEntropy::new(Vec::new(self.alloc)),
+        }
+    }
+
+    fn gate(&mut self) -> OpenGate {
+        OpenGate
+    }
+}

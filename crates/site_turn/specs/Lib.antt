@@ -1,0 +1,5 @@
+pub mod Views
+pub mod Turns
+pub mod Houses
+pub mod Closing
+pub mod Working

@@ -1,0 +1,89 @@
+-- A site and its passes, as contracts see them.
+use Rattle.std.specs.Prelude.{◌≡◌, ℕ, List, [], ◌∷◌, false, Option, Some, None}
+use Rattle.atomic_table.specs.Seated.{TableId}
+use Rattle.turn_rule.specs.declared.notes.HallNote.{HallNote}
+use Rattle.turn_rule.specs.declared.notes.PassNote.{PassNote}
+use Rattle.turn_rule.specs.declared.notes.FounderNote.{FounderNote}
+use Rattle.turn_rule.specs.declared.notes.Note.{Note}
+use Rattle.turn_rule.specs.Steps.{zeros, bearing, founding}
+use Rattle.site_hall.specs.Hall.{HallView}
+
+-- a pass: the table that its site lies in, and what the pass knows
+pub record PassView : Type 0 where
+  pub table : TableId
+  pub note : PassNote
+
+-- a site: its table, and what the founder of its passes knows
+pub record SiteView : Type 0 where
+  pub table : TableId
+  pub founder : FounderNote
+
+-- ---- halls
+
+-- what is noted of a hall. It has no caches yet, so that nothing is counted
+abbrev pub noted : HallView → HallNote
+noted hall = record {
+  loaded = record { base = hall.base; told = hall.opened; steadfast = hall.steadfast };
+  log = hall.log;
+  pending = hall.pending;
+  faults = hall.faults;
+  tally = zeros;
+}
+
+-- what is noted of the slot of a table, where a hall lies or none does
+abbrev pub noted_in : Option HallView → Option HallNote
+noted_in None = None
+noted_in (Some hall) = Some (noted hall)
+
+-- the table of a site has two words, and one slot
+abbrev pub IsRoom : TableId → Type 0
+IsRoom table = (table.words ≡ 2) × (table.slots ≡ 1)
+
+-- ---- what is read off the seats' notes
+
+-- what stands for a note where there is none
+abbrev no_hall : HallNote
+no_hall = record {
+  loaded = record { base = record { rows = []; counts = []; number = 0 }; told = None; steadfast = false };
+  log = [];
+  pending = None;
+  faults = 0;
+  tally = zeros;
+}
+
+abbrev no_pass : PassNote
+no_pass = record { number = 0; opened = no_hall; seen = []; handed = []; faults = 0; tally = zeros }
+
+abbrev no_founder : FounderNote
+no_founder = record { made = 0; opened = no_hall }
+
+-- the first of these passes
+abbrev pub first_pass : List PassNote → PassNote
+first_pass [] = no_pass
+first_pass (pass ∷ passes) = pass
+
+abbrev pub pass_of : List Note → PassNote
+pass_of [] = no_pass
+pass_of (note ∷ notes) = first_pass note.passes
+
+abbrev pub founder_in : Option FounderNote → FounderNote
+founder_in None = no_founder
+founder_in (Some founder) = founder
+
+abbrev pub founder_of : List Note → FounderNote
+founder_of [] = no_founder
+founder_of (note ∷ notes) = founder_in note.founder
+
+-- What always holds of a pass, by the notes of its seat, its number and its count of faults.
+pub record HasPass (notes : List Note) (number faults : ℕ) : Type 0 where
+  pub bears : notes ≡ bearing (pass_of notes) ∷ []
+  pub number_is : number ≡ (pass_of notes).number
+  pub faults_is : faults ≡ (pass_of notes).faults
+
+-- What always holds of a site, by its table, and the table and the notes of the founder's seat.
+pub record HasFounder (table seat : TableId) (notes : List Note) (made faults : ℕ) : Type 0 where
+  pub room : IsRoom table
+  pub one_table : seat ≡ table
+  pub founds : notes ≡ founding (founder_of notes) ∷ []
+  pub made_is : made ≡ (founder_of notes).made
+  pub faults_is : faults ≡ (founder_of notes).opened.faults

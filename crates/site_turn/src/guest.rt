@@ -1,0 +1,82 @@
+//! A pass at work on its site.
+ghost use Rattle.std.specs.Prelude.{◌≡◌, ℕ};
+ghost use Rattle.site_turn.specs.Views.{IsRoom};
+ghost use Rattle.site_turn.specs.Houses.{keepers_after};
+
+use crate::pass::Pass;
+use crate::rules::Room;
+use content_state::{Ask, State};
+use site_commands::{Answer, Command};
+use site_house::House;
+use site_keeper::Keeper;
+use std::alloc::{AllocError, Global};
+use std::sync::{Arc, Wait};
+
+/// A pass at work on its site, as a house. Each call of the house that wants the hall is one turn of the pass, which waits until nobody else
+/// has the hall.
+#[derive(Drop)]
+pub struct Guest<'a, R: Wait, K: Keeper> {
+    rt: &'a R,
+    room: &'a Room<K>,
+    pub pass: &'a mut Pass,
+    pub keepers: u64,
+    pub ghost here: { pass.now.table ≡ room.now.table_id },
+    pub ghost sized: { IsRoom room.now.table_id },
+}
+
+impl<'a, R: Wait, K: Keeper> Guest<'a, R, K> {
+    /// The guest of a site's room, with one of that site's passes. No edit was answered yet that the keeper failed.
+    pub fn new(rt: &'a R, room: &'a Room<K>, pass: &'a mut Pass) -> Guest<'a, R, K>
+        requires room { IsRoom room.now.table_id }
+        requires here { pass.old.table ≡ room.now.table_id }
+        ensures pass { result.pass.now ≡ pass.old }
+        ensures same_borrow { result.pass.ghost_name ≡ pass.entry.ghost_name }
+        ensures keepers { result.keepers ≡ 0 }
+    {
+        Guest {
+            rt,
+            room,
+            pass,
+            keepers: 0,
+        }
+    }
+}
+
+/// One more where it is answered that the keeper failed, up to the greatest u64.
+fn counted(keepers: u64, answer: &Answer) -> u64
+    ensures { result ≡ keepers_after answer.now keepers }
+{
+    match answer {
+        Answer::Keeper => keepers.saturating_add(1),
+        Answer::Done(..) | Answer::Refused(..) | Answer::OutOfMemory => keepers,
+    }
+}
+
+impl<R: Wait, K: Keeper> House for Guest<'_, R, K> {
+    ghost use Rattle.site_turn.specs.Houses.{guest_of};
+
+    ghost sees = { λ g. guest_of g.pass.now g.pass.ghost_name g.keepers };
+
+    fn snapshot(&mut self, alloc: Global) -> Result<Arc<State>, AllocError> {
+        self.pass.snapshot(self.rt, alloc, self.room)
+    }
+
+    fn commit(
+        &mut self,
+        alloc: Global,
+        ask: &Ask,
+        csrf: Option<&[u8]>,
+        command: &Command,
+        now: u64,
+    ) -> Answer {
+        let answer = self
+            .pass
+            .commit(self.rt, alloc, self.room, ask, csrf, command, now);
+        self.keepers = counted(self.keepers, &answer);
+        answer
+    }
+
+    fn faults(&self) -> u64 {
+        self.pass.faults()
+    }
+}

@@ -1,0 +1,110 @@
+//! A turn: the seat takes the hall out of the slot, and gives it back.
+ghost use Rattle.std.specs.Prelude.{◌≡◌, [], ◌∷◌, Some, None, IfSome, IfNone, All, false};
+ghost use Rattle.site_hall.specs.Hall.{IsHall};
+ghost use Rattle.turn_rule.specs.Steps.{zeros, bearing, with_hall, after_turn, Knows};
+ghost use Rattle.site_turn.specs.Views.{IsRoom, noted, first_pass, pass_of};
+ghost use Rattle.site_turn.specs.Turns.{IsOut};
+
+use crate::kinds::{Hands, Kind, Quiet};
+use crate::rules::{Following, Giving, Place, Room, Taking};
+use atomic_table::Badge;
+use site_hall::Hall;
+use site_keeper::Keeper;
+use std::sync::Wait;
+use turn_rule::Note;
+
+/// Takes the hall out, where nobody has it.
+fn try_take<K: Keeper>(room: &Room<K>, seat: &mut Place<K>) -> Option<Hall<K>>
+    requires room { (seat.old.table_id ≡ room.now.table_id) × IsRoom room.now.table_id }
+    requires note { (seat.old.me.0.fresh ≡ false) × (seat.old.me.0.hall ≡ None) }
+    requires empty { seat.old.me.1 ≡ [] }
+    ensures same { seat.new.table_id ≡ seat.old.table_id }
+    ensures taken { IfSome result (λ hall. seat.new.me ≡ (with_hall (Some (noted hall)) seat.old.me.0, (0, None) ∷ [])) }
+    ensures knows { IfSome result (λ hall. All (Knows (noted hall)) seat.old.me.0.passes) }
+    ensures none { IfNone result (seat.new.me ≡ seat.old.me) }
+{
+    if room.compare_exchange::<Taking>(seat, 1, 0, 1) != 0 {
+        return None;
+    }
+    room.exchange(seat, 0, None)
+}
+
+/// Takes the hall out, once nobody else has it. All passes on the seat know it.
+pub(crate) fn take_out<K: Keeper, R: Wait>(rt: &R, room: &Room<K>, seat: &mut Place<K>) -> Hall<K>
+    requires room { (seat.old.table_id ≡ room.now.table_id) × IsRoom room.now.table_id }
+    requires note { (seat.old.me.0.fresh ≡ false) × (seat.old.me.0.hall ≡ None) }
+    requires empty { seat.old.me.1 ≡ [] }
+    ensures same { seat.new.table_id ≡ seat.old.table_id }
+    ensures taken { seat.new.me ≡ (with_hall (Some (noted result)) seat.old.me.0, (0, None) ∷ []) }
+    ensures knows { All (Knows (noted result)) seat.old.me.0.passes }
+{
+    'tries: for _ in rt.forever() {
+        if let Some(hall) = try_take(room, seat) {
+            return hall;
+        }
+        room.park(rt, 1, 1);
+    }
+    unreachable!()
+}
+
+/// Takes the hall out for a pass.
+pub(crate) fn out<K: Keeper, R: Wait>(
+    rt: &R,
+    room: &Room<K>,
+    badge: Badge<Note>,
+) -> (Place<K>, Hall<K>)
+    requires room { (badge.table_id ≡ room.now.table_id) × IsRoom room.now.table_id }
+    requires bears { badge.views ≡ bearing (pass_of badge.views) ∷ [] }
+    ensures same { result.0.table_id ≡ badge.table_id }
+    ensures taken { result.0.me ≡ (with_hall (Some (noted result.1)) (bearing (pass_of badge.views)), (0, None) ∷ []) }
+    ensures knows { Knows (noted result.1) (pass_of badge.views) }
+{
+    let mut seat = badge.into_seat();
+    let hall = take_out(rt, room, &mut seat);
+    (seat, hall)
+}
+
+/// Gives the hall back for a pass, after a turn of this kind that found a log of this length. From then on all know what the turn did.
+fn back<T: Kind, K: Keeper>(
+    room: &Room<K>,
+    mut seat: Place<K>,
+    hall: Hall<K>,
+    before: usize,
+) -> Badge<Note>
+    requires room { (seat.table_id ≡ room.now.table_id) × IsRoom room.now.table_id }
+    requires out { IsOut T.hands seat.me hall before }
+    ensures same { result.table_id ≡ seat.table_id }
+    ensures back { result.views ≡ bearing (after_turn zeros T.hands (noted hall) (first_pass seat.me.0.passes)) ∷ [] }
+    ensures knows { Knows (noted hall) (after_turn zeros T.hands (noted hall) (first_pass seat.me.0.passes)) }
+    ensures is_hall { IsHall hall }
+{
+    let length = hall.len();
+    let slot = room.exchange(&mut seat, 0, Some(hall));
+    let None = slot else { unreachable!() };
+    room.fetch_add::<Following<T>>(&mut seat, 0, (length - before) as u64);
+    room.store::<Giving>(&mut seat, 1, 0);
+    room.wake_one(1);
+    seat.into_badge()
+}
+
+/// The same, after a turn that handed an edit in or nothing.
+pub(crate) fn back_after<K: Keeper>(
+    room: &Room<K>,
+    seat: Place<K>,
+    hall: Hall<K>,
+    before: usize,
+    hands: bool,
+) -> Badge<Note>
+    requires room { (seat.table_id ≡ room.now.table_id) × IsRoom room.now.table_id }
+    requires out { IsOut hands seat.me hall before }
+    ensures same { result.table_id ≡ seat.table_id }
+    ensures back { result.views ≡ bearing (after_turn zeros hands (noted hall) (first_pass seat.me.0.passes)) ∷ [] }
+    ensures knows { Knows (noted hall) (after_turn zeros hands (noted hall) (first_pass seat.me.0.passes)) }
+    ensures is_hall { IsHall hall }
+{
+    if hands {
+        back::<Hands, K>(room, seat, hall, before)
+    } else {
+        back::<Quiet, K>(room, seat, hall, before)
+    }
+}

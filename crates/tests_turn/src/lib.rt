@@ -1,0 +1,12 @@
+//! Tests of a hall that threads share, by public calls alone: workers that answer connections side by side, passes that meet, and
+//! sites that are closed.
+#![tactic(auto)]
+
+#[cfg(test)]
+mod closing;
+#[cfg(test)]
+mod site;
+#[cfg(test)]
+mod work;
+#[cfg(test)]
+mod workers;

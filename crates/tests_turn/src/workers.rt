@@ -1,0 +1,122 @@
+//! Workers that answer connections side by side.
+ghost use Rattle.std.specs.Prelude.{◌≡◌};
+
+use crate::closing::closed;
+use crate::site::site;
+use crate::work::Connection;
+use site_house::House;
+use site_keeper::MemoryKeeper;
+use site_turn::{Guest, Pass, Site, Worker, work_all};
+use std::alloc::{AllocError, Global};
+use std::sync::Wait;
+use std::thread::Threads;
+
+/// To give the first node the title A, in place of its version 1.
+const TITLE: &[u8] =
+    b"PATCH /node/1 HTTP/1.1\r\nHost: a\r\nCookie: SESS=abc\r\nX-CSRF-Token: ba7816bf8f01cfea414140de5dae2223\r\nContent-Type: application/json\r\nContent-Length: 21\r\n\r\n{\"title\":\"A\",\"vid\":1}";
+
+/// The same, and then the title B.
+const TITLES: &[u8] =
+    b"PATCH /node/1 HTTP/1.1\r\nHost: a\r\nCookie: SESS=abc\r\nX-CSRF-Token: ba7816bf8f01cfea414140de5dae2223\r\nContent-Type: application/json\r\nContent-Length: 21\r\n\r\n{\"title\":\"A\",\"vid\":1}PATCH /node/1 HTTP/1.1\r\nHost: a\r\nCookie: SESS=abc\r\nX-CSRF-Token: ba7816bf8f01cfea414140de5dae2223\r\nContent-Type: application/json\r\nContent-Length: 21\r\n\r\n{\"title\":\"B\",\"vid\":2}";
+
+/// To make the users `bob` and `ann`.
+const USERS: &[u8] =
+    b"POST /user HTTP/1.1\r\nHost: a\r\nCookie: SESS=abc\r\nX-CSRF-Token: ba7816bf8f01cfea414140de5dae2223\r\nContent-Type: application/json\r\nContent-Length: 39\r\n\r\n{\"name\":\"bob\",\"pass\":\"pw\",\"uuid\":\"u-2\"}POST /user HTTP/1.1\r\nHost: a\r\nCookie: SESS=abc\r\nX-CSRF-Token: ba7816bf8f01cfea414140de5dae2223\r\nContent-Type: application/json\r\nContent-Length: 39\r\n\r\n{\"name\":\"ann\",\"pass\":\"pw\",\"uuid\":\"u-3\"}";
+
+/// The first node, twice.
+const NODES: &[u8] =
+    b"GET /node/1 HTTP/1.1\r\nHost: a\r\n\r\nGET /node/1 HTTP/1.1\r\nHost: a\r\n\r\n";
+
+/// The edit is of the state 1; of the two pages the first is of the state 0 and has the old title, and the second of the state 1 and the
+/// new one.
+const TITLE_REPLY: &[u8] =
+    b"HTTP/1.1 200 OK\r\nContent-Type: application/json\r\nContent-Length: 17\r\nX-Site-State: 1\r\n\r\n{\"nid\":1,\"vid\":2}";
+
+const NODES_REPLY: &[u8] =
+    b"HTTP/1.1 200 OK\r\nContent-Type: text/html; charset=UTF-8\r\nContent-Length: 258\r\nX-Site-State: 0\r\n\r\n<!DOCTYPE html><html lang=\"en\"><head><title>First | Site</title><meta name=\"library\" content=\"node\"></head><body><header></header><main><h1>First</h1><article><div class=\"field\">Body: Hello</div></article></main><aside></aside><footer></footer></body></html>HTTP/1.1 200 OK\r\nContent-Type: text/html; charset=UTF-8\r\nContent-Length: 250\r\nX-Site-State: 1\r\n\r\n<!DOCTYPE html><html lang=\"en\"><head><title>A | Site</title><meta name=\"library\" content=\"node\"></head><body><header></header><main><h1>A</h1><article><div class=\"field\">Body: Hello</div></article></main><aside></aside><footer></footer></body></html>";
+
+// Two workers with passes of this site are done.
+fn done<R: Threads + Wait + Sync>(
+    rt: &R,
+    alloc: Global,
+    site: &Site<MemoryKeeper>,
+    one: Worker<Connection>,
+    two: Worker<Connection>,
+) -> (Worker<Connection>, Worker<Connection>)
+    requires one { one.pass.table ≡ site.now.table }
+    requires two { two.pass.table ≡ site.now.table }
+    ensures one { result.0.pass.table ≡ site.now.table }
+    ensures two { result.1.pass.table ≡ site.now.table }
+{
+    let mut workers = [one, two];
+    work_all(rt, alloc, site, &mut workers);
+    let [one, two] = workers;
+    (one, two)
+}
+
+// The number of the newest state, as a pass of this site finds it.
+fn newest<R: Wait>(
+    rt: &R,
+    alloc: Global,
+    site: &Site<MemoryKeeper>,
+    pass: &mut Pass,
+) -> Result<u64, AllocError>
+    requires { pass.old.table ≡ site.now.table }
+    ensures { pass.new.table ≡ site.now.table }
+{
+    let mut guest = Guest::new(rt, site.room(), pass);
+    let state = guest.snapshot(alloc)?;
+    Ok(state.number())
+}
+
+// Whether all edits of two workers are accepted, each worker's after each other.
+fn edits_are_accepted<R: Threads + Wait + Sync>(rt: &R, alloc: Global) -> Result<bool, AllocError> {
+    let mut site = site(alloc)?;
+    let one = Worker {
+        pass: site.new_pass(),
+        work: Connection::new(alloc, TITLES, None)?,
+    };
+    let two = Worker {
+        pass: site.new_pass(),
+        work: Connection::new(alloc, USERS, None)?,
+    };
+    let (one, two) = done(rt, alloc, &site, one, two);
+    let right = one.work.written().ends_with(b"{\"nid\":1,\"vid\":3}")
+        && two.work.written().ends_with(b"{\"uid\":3}");
+    let hall = closed(rt, alloc, site, one.pass, two.pass)?;
+    Ok(right && hall.len() == 4)
+}
+
+#[test]
+fn two_workers_edit(rt: HostRuntime) {
+    let right = edits_are_accepted(&rt, rt.alloc()).expect(&rt, "memory");
+    assert!(rt; right);
+}
+
+// Whether a page of the state 0 is written after an edit is answered that came once the page's state was taken, and each pass finds the
+// edit once they have met.
+fn readers_go_on<R: Threads + Wait + Sync>(rt: &R, alloc: Global) -> Result<bool, AllocError> {
+    let mut site = site(alloc)?;
+    let edit = Connection::new(alloc, TITLE, None)?;
+    let read = Connection::new(alloc, NODES, Some(edit.answered()?))?;
+    let one = Worker {
+        pass: site.new_pass(),
+        work: read,
+    };
+    let two = Worker {
+        pass: site.new_pass(),
+        work: edit,
+    };
+    let (mut one, mut two) = done(rt, alloc, &site, one, two);
+    let right = one.work.written() == NODES_REPLY && two.work.written() == TITLE_REPLY;
+    site.meet(&mut one.pass, &mut two.pass);
+    let first = newest(rt, alloc, &site, &mut one.pass)?;
+    let second = newest(rt, alloc, &site, &mut two.pass)?;
+    Ok(right && first >= 1 && second >= 1)
+}
+
+#[test]
+fn a_reader_goes_on_while_an_edit_is_made(rt: HostRuntime) {
+    let right = readers_go_on(&rt, rt.alloc()).expect(&rt, "memory");
+    assert!(rt; right);
+}
