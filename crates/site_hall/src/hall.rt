@@ -65,6 +65,7 @@ impl<K: Keeper> Hall<K> {
         requires rows { AreValidRows stored.rows }
         ensures opened { IfOk result (λ hall. hall ≡ opened_with stored (K.kept keeper) (K.faults keeper) (K.steadfast keeper)) }
         ensures is_hall { IfOk result (λ hall. IsHall hall) }
+        ensures small { IfOk result (λ _. stored.head ≤ 2 ^ 62) }
         ensures refused { IfErr result (λ none. IsRefusal stored.rows stored.head none.why) }
         ensures keeper_back { IfErr result (λ none. none.keeper ≡ keeper) }
         ensures stored_back { IfErr result (λ none. IsBack none.why none.stored stored) }

@@ -12,10 +12,10 @@ pub trait Door {
     ghost use Rattle.site_io.specs.declared.ended.Ended.{Ended};
 
     /// What a connection's bytes are read from. A door may be sent to another thread, and so may these.
-    type In: Source + Drop + Send;
+    type In: Source + Drop;
 
     /// What they are written to.
-    type Out: Sink + Drop + Send;
+    type Out: Sink + Drop;
 
     /// What the connections tell that are to come, in order, where the door tells it.
     ghost coming: { Self → Option (List Line) };

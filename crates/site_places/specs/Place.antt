@@ -231,6 +231,12 @@ KeeperBack kept faults old new = (faults ≡ 0 → new ≡ keeper_given kept old
 abbrev pub DoorBack : Option (List Back) → ℕ → PlaceView → PlaceView → Type 0
 DoorBack returned faults old new = (faults ≡ 0 → new ≡ door_returned returned old) × (0 < faults → DoorFails returned old new)
 
+-- the counts of a place are as they were, but that of keepers
+pub record KeepsCounts (old new : PlaceView) : Type 0 where
+  pub own : new.faults ≡ old.faults
+  pub rows : new.rows_faults ≡ old.rows_faults
+  pub doors : new.door_faults ≡ old.door_faults
+
 -- a keeper has what was told of its store beforehand
 abbrev pub HoldsTold : Option Kept → Option Kept → Type 0
 HoldsTold None kept = Unit {0}

@@ -11,24 +11,33 @@ use std::sync::atomic::AtomicBool;
 use std::sync::atomic::Ordering::SeqCst;
 use std::thread;
 
-/// A gate that waits at the first point until a connection is answered, for a million turns at most, if it waits at all.
+/// A mark that one thread sets and another waits for.
+pub type Mark = Arc<AtomicBool>;
+
+// Waits until a mark is set, for many turns at most: some seconds on a processor that has nothing else to do.
+fn wait_for(mark: &Mark) {
+    for _ in 0..20_000_000u32 {
+        if mark.load(SeqCst) {
+            return;
+        }
+        thread::yield_now();
+    }
+}
+
+/// A gate that tells that a point is reached; at the first one it waits for a mark, if it waits at all.
 #[derive(Drop)]
 pub struct Hold {
-    until: Option<Arc<AtomicBool>>,
+    reached: Mark,
+    until: Option<Mark>,
 }
 
 impl Gate for Hold {
     ghost reached = { λ _. None };
 
     fn reach(&mut self, _point: Point) {
-        let Some(answered) = self.until.take() else {
-            return;
-        };
-        for _ in 0..1_000_000u32 {
-            if answered.load(SeqCst) {
-                return;
-            }
-            thread::yield_now();
+        self.reached.store(true, SeqCst);
+        if let Some(until) = self.until.take() {
+            wait_for(&until);
         }
     }
 }
@@ -41,29 +50,33 @@ pub struct Connection {
     clock: ListClock,
     entropy: ListEntropy,
     gate: Hold,
-    answered: Arc<AtomicBool>,
+    after: Option<Mark>,
+    answered: Mark,
 }
 
 impl Connection {
-    /// The connection with these requests, which is held until another one is answered, if any is told.
-    pub fn new(
-        alloc: Global,
-        requests: &[u8],
-        until: Option<Arc<AtomicBool>>,
-    ) -> Result<Connection, AllocError> {
+    /// The connection with these requests, which begins at once and isn't held.
+    pub fn new(alloc: Global, requests: &[u8]) -> Result<Connection, AllocError> {
+        let gate = Hold {
+            reached: Arc::new(alloc, AtomicBool::new(false))?,
+            until: None,
+        };
         Ok(Connection {
             source: MemorySource::new(Vec::from_slice(alloc, requests)?, 64),
             sink: MemorySink::new(alloc, 4_000)?,
             clock: ListClock::new(vec![in alloc; 1_000]?),
             entropy: ListEntropy::new(Vec::new(alloc)),
-            gate: Hold { until },
+            gate,
+            after: None,
             answered: Arc::new(alloc, AtomicBool::new(false))?,
         })
     }
 
-    /// What tells that it is answered.
-    pub fn answered(&self) -> Result<Arc<AtomicBool>, AllocError> {
-        Arc::try_clone(&self.answered)
+    /// Holds this connection, once its first page's state is taken, until the other one is answered, and lets that one begin only then.
+    pub fn hold_for(&mut self, other: &mut Connection) -> Result<(), AllocError> {
+        self.gate.until = Some(Arc::try_clone(&other.answered)?);
+        other.after = Some(Arc::try_clone(&self.gate.reached)?);
+        Ok(())
     }
 
     /// What was written.
@@ -78,6 +91,9 @@ impl<R> Work<R> for Connection {
     ghost does = { λ _ _ _ _. Unit {0} };
 
     fn work<H: House>(&mut self, rt: &R, alloc: Global, house: &mut H) {
+        if let Some(mark) = &self.after {
+            wait_for(mark);
+        }
         let _ended = serve_connection(
             rt,
             alloc,

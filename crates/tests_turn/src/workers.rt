@@ -74,11 +74,11 @@ fn edits_are_accepted<R: Threads + Wait + Sync>(rt: &R, alloc: Global) -> Result
     let mut site = site(alloc)?;
     let one = Worker {
         pass: site.new_pass(),
-        work: Connection::new(alloc, TITLES, None)?,
+        work: Connection::new(alloc, TITLES)?,
     };
     let two = Worker {
         pass: site.new_pass(),
-        work: Connection::new(alloc, USERS, None)?,
+        work: Connection::new(alloc, USERS)?,
     };
     let (one, two) = done(rt, alloc, &site, one, two);
     let right = one.work.written().ends_with(b"{\"nid\":1,\"vid\":3}")
@@ -97,8 +97,9 @@ fn two_workers_edit(rt: HostRuntime) {
 // edit once they have met.
 fn readers_go_on<R: Threads + Wait + Sync>(rt: &R, alloc: Global) -> Result<bool, AllocError> {
     let mut site = site(alloc)?;
-    let edit = Connection::new(alloc, TITLE, None)?;
-    let read = Connection::new(alloc, NODES, Some(edit.answered()?))?;
+    let mut edit = Connection::new(alloc, TITLE)?;
+    let mut read = Connection::new(alloc, NODES)?;
+    read.hold_for(&mut edit)?;
     let one = Worker {
         pass: site.new_pass(),
         work: read,
