@@ -1,3 +1,3 @@
 mod Places
 mod Served
-mod Opening
+mod Openings

@@ -1,10 +1,17 @@
 -- What giving stations, and taking them back, does to a place.
-use Rattle.std.proofs.Common.{◌≡◌, ◌∙◌, ℕ, zero, suc, ◌+◌, ◌-◌, ◌<◌, ◌≤◌, min, List, [], ◌∷◌, ◌++◌, length, ◌⊎◌, inl, inr, Option, refl, sym, ap, subst, arith, le_refl, le_trans}
+use Rattle.std.proofs.Common.{◌≡◌, ◌∙◌, ℕ, Bool, true, false, zero, suc, ◌+◌, ◌-◌, ◌<◌, ◌≤◌, min, List, [], ◌∷◌, ◌++◌, length, ◌⊎◌, inl, inr, Option, refl, sym, ap, subst, arith, le_refl, le_trans}
 use Rattle.site_io.specs.Told.{Rose}
 use Rattle.site_keeper.specs.Keeper.{Kept}
-use Rattle.site_places.specs.Place.{PlaceView, door_returned, DoorBack, DoorFails, KeeperBack, KeepsCounts}
+use Rattle.std.specs.List.{All}
+use Rattle.std.proofs.lemmas.List.Elements.{All-cons, All-nil}
+use Rattle.site_places.specs.Place.{PlaceView, door_returned, DoorBack, DoorFails, IsNoDevice, KeeperBack, KeepsCounts}
+use Rattle.site_places.specs.declared.place.NoDevice.{NoDevice}
+use Rattle.site_places.specs.declared.place.NoDevice.TheVariants as why
 use Rattle.site_serve.specs.Stations.{StationView}
-use Rattle.serve_store.specs.Stations.{station_given, AllBack, AreUnused, DoorThen, DoorsBack, IsStationAt, StationsGiven}
+use Rattle.serve_store.specs.Stations.{station_given, AllBack, AreUnused, DoorThen, DoorsBack, HasFailed, IsStationAt, StationsGiven, StopsShort}
+use Rattle.serve_store.specs.Job.{KeeperRises, PlaceRises}
+use Rattle.serve_store.specs.declared.ending.ServeEnd.{ServeEnd}
+use Rattle.serve_store.specs.declared.ending.ServeEnd.TheVariants as end
 
 -- ---- giving
 
@@ -76,11 +83,6 @@ one_back station (suc faults) old new back =
       out = ap (λ (p : PlaceView). p.doors_out) fails.same;
     }
 
--- whether one of these doors has failed
-abbrev pub HasFailed : List StationView → Type 0
-HasFailed [] = ⊥
-HasFailed (station ∷ stations) = (0 < station.faults) ⊎ HasFailed stations
-
 -- what all do
 pub record GivesAll (stations : List StationView) (old new : PlaceView) : Type 0 where
   pub own : new.faults ≡ old.faults
@@ -96,6 +98,11 @@ rose_first old middle new rose up = omega arith
 
 rose_later : (old middle new : ℕ) → old ≤ middle → Rose middle new → Rose old new
 rose_later old middle new up rose = omega arith
+
+-- one that has failed is the first, or one of the others
+rises : (station : StationView) (stations : List StationView) (old middle new : PlaceView) → GivesOne station.faults old middle → GivesAll stations middle new → (0 < station.faults) ⊎ HasFailed stations → Rose old.door_faults new.door_faults
+rises station stations old middle new one rest (inl above) = rose_first old.door_faults middle.door_faults new.door_faults (one.rose above) rest.doors
+rises station stations old middle new one rest (inr failed) = rose_later old.door_faults middle.door_faults new.door_faults one.doors (rest.rose failed)
 
 pub back_counts : (stations : List StationView) (old new : PlaceView) → DoorsBack stations old new → GivesAll stations old new
 back_counts [] old new back =
@@ -123,19 +130,9 @@ back_counts (station ∷ stations) old new back =
       keepers = rest.keepers ∙ one.keepers;
       doors = omega arith;
       steady = λ unused. rest.steady unused.1 ∙ one.steady unused.0.unused;
-      rose = λ failed. rises failed;
+      rose = rises station stations old back.middle new one rest;
       out = omega arith;
     }
-  where
-    rises : (0 < station.faults) ⊎ HasFailed stations → Rose old.door_faults new.door_faults
-    rises (inl above) =
-        let one = one_back station station.faults old back.middle back.back in
-        let rest = back_counts stations back.middle new back.then in
-        rose_first old.door_faults back.middle.door_faults new.door_faults (one.rose above) rest.doors
-    rises (inr failed) =
-        let one = one_back station station.faults old back.middle back.back in
-        let rest = back_counts stations back.middle new back.then in
-        rose_later old.door_faults back.middle.door_faults new.door_faults one.doors (rest.rose failed)
 
 -- ---- all is given back
 
@@ -182,3 +179,66 @@ pub none_counts : (stations : List StationView) (kept : Option Kept) (faults : �
 none_counts stations kept faults old new unused back =
     let all = all_counts stations kept faults old new back in
     record { own = all.own; rows = all.rows; doors = all.steady unused }
+
+-- ---- how many
+
+pub many_more : (stations : List StationView) (station : StationView) (count : ℕ) → length stations ≡ count → length (stations ++ station ∷ []) ≡ count + 1
+many_more [] station count is = omega arith
+many_more (first ∷ others) station zero is = absurd (omega arith)
+many_more (first ∷ others) station (suc count) is = let rest = many_more others station count (omega arith) in omega arith
+
+-- no connection is out at any
+pub none_out : (stations : List StationView) → AreUnused stations → All (λ (s : StationView). s.is_out ≡ false) stations
+none_out [] unused = All-nil (λ (s : StationView). s.is_out ≡ false)
+none_out (station ∷ stations) unused = All-cons (λ (s : StationView). s.is_out ≡ false) station stations unused.0.none_out (none_out stations unused.1)
+
+-- ---- counts from before the stations were given
+
+both_keep : (old middle new : PlaceView) → KeepsCounts old middle → KeepsCounts middle new → KeepsCounts old new
+both_keep old middle new first second = record { own = second.own ∙ first.own; rows = second.rows ∙ first.rows; doors = second.doors ∙ first.doors }
+
+doors_stay : (why : NoDevice) (old new : PlaceView) → IsNoDevice old new why → new.doors_out ≡ old.doors_out
+doors_stay why.Failed old new stops = ap (λ (p : PlaceView). p.doors_out) stops.same
+doors_stay why.OutOfMemory old new stops = ap (λ (p : PlaceView). p.doors_out) stops
+
+keepers_stay : (why : NoDevice) (old new : PlaceView) → IsNoDevice old new why → new.keeper_faults ≡ old.keeper_faults
+keepers_stay why.Failed old new stops = ap (λ (p : PlaceView). p.keeper_faults) stops.same
+keepers_stay why.OutOfMemory old new stops = ap (λ (p : PlaceView). p.keeper_faults) stops
+
+pub place_since : (ended : ServeEnd) (old middle new : PlaceView) → KeepsCounts old middle → PlaceRises ended middle new → PlaceRises ended old new
+place_since end.PlaceFailed old middle new kept (inl rose) = inl (subst (λ (n : ℕ). Rose n new.faults) kept.own rose)
+place_since end.PlaceFailed old middle new kept (inr rose) = inr (subst (λ (n : ℕ). Rose n new.door_faults) kept.doors rose)
+place_since end.Served old middle new kept rises = both_keep old middle new kept rises
+place_since end.Refused old middle new kept rises = both_keep old middle new kept rises
+place_since end.KeeperFailed old middle new kept rises = both_keep old middle new kept rises
+place_since end.OutputFailed old middle new kept rises = both_keep old middle new kept rises
+place_since end.OutOfMemory old middle new kept rises = both_keep old middle new kept rises
+
+pub keeper_since : (ended : ServeEnd) (old middle new : ℕ) → middle ≡ old → KeeperRises ended middle new → KeeperRises ended old new
+keeper_since ended old middle new is rises = subst (λ (n : ℕ). KeeperRises ended n new) is rises
+
+-- ---- where a door wasn't opened
+
+-- the doors that were given are out
+pub short_out : (address : List ℕ) (stations : List StationView) (why : NoDevice) (old new : PlaceView) → StopsShort address stations why old new → length stations ≤ new.doors_out
+short_out address stations why old new short =
+    let out = (given_counts address stations old short.given short.stations_are).out in
+    let same = doors_stay why short.given new short.stops in
+    omega arith
+
+-- so it is told by the count of the place
+pub short_place : (address : List ℕ) (stations : List StationView) (old middle new : PlaceView) → StopsShort address stations why.Failed old middle → KeepsCounts middle new → Rose old.faults new.faults
+short_place address stations old middle new short kept =
+    let given = (given_counts address stations old short.given short.stations_are).keeps in
+    let rose = short.stops.rose in
+    subst (λ (n : ℕ). Rose n new.faults) given.own (subst (λ (n : ℕ). Rose short.given.faults n) (sym kept.own) rose)
+
+pub short_keeps : (address : List ℕ) (stations : List StationView) (old middle new : PlaceView) → StopsShort address stations why.OutOfMemory old middle → KeepsCounts middle new → KeepsCounts old new
+short_keeps address stations old middle new short kept =
+    both_keep old middle new (subst (λ (p : PlaceView). KeepsCounts old p) (sym short.stops) (given_counts address stations old short.given short.stations_are).keeps) kept
+
+pub short_keepers : (address : List ℕ) (stations : List StationView) (why : NoDevice) (old middle new : PlaceView) → StopsShort address stations why old middle → middle.keeper_faults ≤ new.keeper_faults → old.keeper_faults ≤ new.keeper_faults
+short_keepers address stations why old middle new short up =
+    let given = (given_counts address stations old short.given short.stations_are).keepers in
+    let same = keepers_stay why short.given middle short.stops in
+    omega arith

@@ -56,6 +56,15 @@ pub record ServedAt (what : ToServe) (hall : HallView) (stations : List StationV
   pub fewer : whole ≡ false → count < what.limit
   pub back : AllBack stations-after hall-after.kept hall-after.faults old new
 
+-- how it ends once the workers have stopped, and what is printed then
+abbrev pub PrintsCount : Bool → List ℕ → ServeEnd → Option (List ℕ) → Option (List ℕ) → Type 0
+PrintsCount whole text end.Served old new = (whole ≡ true) × (new ≡ after old text)
+PrintsCount whole text end.OutputFailed old new = (whole ≡ true) × AddsFront old new text
+PrintsCount whole text end.PlaceFailed old new = (whole ≡ false) × (new ≡ old)
+PrintsCount whole text end.OutOfMemory old new = ⊥
+PrintsCount whole text end.Refused old new = ⊥
+PrintsCount whole text end.KeeperFailed old new = ⊥
+
 -- nothing was served, and all was given back
 abbrev pub ServedNone : HallView → List StationView → PlaceView → PlaceView → Type 0
 ServedNone hall stations old new = AllBack stations hall.kept hall.faults old new

@@ -1,5 +1,5 @@
 -- Stations that a place gives, and takes back.
-use Rattle.std.specs.Prelude.{ℕ, List, [], ◌∷◌, ◌≡◌, false, Option}
+use Rattle.std.specs.Prelude.{ℕ, List, [], ◌∷◌, ◌≡◌, ◌<◌, ◌⊎◌, false, Option}
 use Rattle.site_places.specs.Place.{PlaceView, next_list, none_given, clock_given, door_given, entropy_given, IsDoorAt, IsNoDevice, IsNoneBack, IsNoneReached, DoorBack, KeeperBack}
 use Rattle.site_places.specs.declared.place.NoDevice.{NoDevice}
 use Rattle.site_keeper.specs.Keeper.{Kept}
@@ -34,6 +34,11 @@ pub record IsUnused (station : StationView) : Type 0 where
 abbrev pub AreUnused : List StationView → Type 0
 AreUnused [] = Unit {0}
 AreUnused (station ∷ stations) = IsUnused station × AreUnused stations
+
+-- one of their doors has failed
+abbrev pub HasFailed : List StationView → Type 0
+HasFailed [] = ⊥
+HasFailed (station ∷ stations) = (0 < station.faults) ⊎ HasFailed stations
 
 -- of so many these stations were given, and then a door wasn't, for this reason
 pub record StopsShort (address : List ℕ) (stations : List StationView) (why : NoDevice) (old new : PlaceView) : Type 0 where

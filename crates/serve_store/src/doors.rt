@@ -1,8 +1,9 @@
 //! The stations of the workers, which a place gives and takes back.
 ghost use Rattle.std.specs.Prelude.{◌≡◌, ◌≤◌, [], length, IfOk, IfErr, OnOk};
 ghost use Rattle.std.specs.Vec.{vec_capacity};
-ghost use Rattle.site_places.specs.Place.{IsNoDevice};
-ghost use Rattle.serve_store.specs.Stations.{station_given, DoorsBack, IsStationAt, StationsGiven, StopsShort};
+ghost use Rattle.site_io.specs.Told.{Rose};
+ghost use Rattle.site_places.specs.Place.{IsNoDevice, KeepsCounts};
+ghost use Rattle.serve_store.specs.Stations.{station_given, AllBack, AreUnused, DoorsBack, HasFailed, IsStationAt, StationsGiven, StopsShort};
 
 use site_places::{NoDevice, Place};
 use site_serve::Station;
@@ -55,7 +56,7 @@ pub(crate) fn open_stations<P: Place>(
 }
 
 /// Gives the doors of stations back.
-pub(crate) fn give_back<P: Place>(
+fn give_back<P: Place>(
     place: &mut P,
     stations: Vec<Station<P::Door, P::Clock, P::Entropy, P::Gate>>,
 )
@@ -66,4 +67,20 @@ pub(crate) fn give_back<P: Place>(
         let Station { door, .. } = station;
         place.door_back(door);
     }
+}
+
+/// Gives the doors of stations back, and then the keeper.
+pub(crate) fn all_back<P: Place>(
+    place: &mut P,
+    stations: Vec<Station<P::Door, P::Clock, P::Entropy, P::Gate>>,
+    keeper: P::Keeper,
+)
+    requires { length stations.items ≤ (P.sees place.old).doors_out }
+    ensures back { AllBack stations.items (P.Keeper.kept keeper) (P.Keeper.faults keeper) (P.sees place.old) (P.sees place.new) }
+    ensures steady { AreUnused stations.items → KeepsCounts (P.sees place.old) (P.sees place.new) }
+    ensures rose { HasFailed stations.items → Rose (P.sees place.old).door_faults (P.sees place.new).door_faults }
+    ensures keepers { (P.sees place.old).keeper_faults ≤ (P.sees place.new).keeper_faults }
+{
+    give_back(place, stations);
+    place.keeper_back(keeper);
 }

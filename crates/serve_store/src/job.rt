@@ -1,14 +1,14 @@
 //! The job of serving.
-ghost use Rattle.std.specs.Prelude.{◌≡◌, ◌≤◌, [], length, IfOk, None};
+ghost use Rattle.std.specs.Prelude.{◌≡◌, ◌≤◌, [], length, true, false, IfOk, None};
 ghost use Rattle.std.specs.Vec.{vec_capacity};
 ghost use Rattle.site_hall.specs.Hall.{IsHall};
 ghost use Rattle.site_jobs.specs.Ground.{IsNoSiteOf};
 ghost use Rattle.site_jobs.specs.Jobs.{CountsKeeper, IsNoBase};
-ghost use Rattle.serve_store.specs.Job.{to_serve, FindsNoSite, KeeperRises, OutputRises, PlaceRises, ServesHall, ServesOpen, ServesStore};
-ghost use Rattle.serve_store.specs.Stations.{AreUnused};
+ghost use Rattle.serve_store.specs.Job.{to_serve, FindsNoSite, KeeperRises, OutputRises, PlaceRises, PrintsCount, ServesHall, ServesOpen, ServesStore};
+ghost use Rattle.serve_store.specs.Stations.{AllBack, AreUnused, HasFailed};
 ghost use Rattle.serve_store.specs.Texts.{listening_text, served_text};
 
-use crate::doors::{NoStations, give_back, open_stations};
+use crate::doors::{NoStations, all_back, open_stations};
 use crate::ending::ServeEnd;
 use crate::opening::{Unopened, hall_of};
 use crate::serving::Serving;
@@ -44,6 +44,38 @@ fn made_ready<P: Place>(alloc: Global, serving: &Serving) -> Result<Ready<P>, Al
     })
 }
 
+/// Gives all back once the workers have stopped, and prints how many connections they served, where none stopped for its door.
+fn close<P: Place>(
+    served: Served<P::Keeper, P::Door, P::Clock, P::Entropy, P::Gate>,
+    closing: &[u8],
+    place: &mut P,
+    output: &mut P::Out,
+) -> ServeEnd
+    requires out { length served.stations.items ≤ (P.sees place.old).doors_out }
+    requires unused { served.whole ≡ true → AreUnused served.stations.items }
+    requires failed { served.whole ≡ false → HasFailed served.stations.items }
+    ensures back { AllBack served.stations.items served.hall.kept served.hall.faults (P.sees place.old) (P.sees place.new) }
+    ensures prints { PrintsCount served.whole closing.now result (P.Out.written output.old) (P.Out.written output.new) }
+    ensures output { OutputRises result (P.Out.faults output.old) (P.Out.faults output.new) }
+    ensures place { PlaceRises result (P.sees place.old) (P.sees place.new) }
+    ensures keeper { KeeperRises result (P.sees place.old).keeper_faults (P.sees place.new).keeper_faults }
+{
+    let Served {
+        hall,
+        stations,
+        count: _,
+        whole,
+    } = served;
+    all_back(place, stations, hall.into_keeper());
+    if !whole {
+        ServeEnd::PlaceFailed
+    } else if write_whole(output, closing).is_err() {
+        ServeEnd::OutputFailed
+    } else {
+        ServeEnd::Served
+    }
+}
+
 /// Serves the site of a hall at these stations, and gives all back.
 fn serve_stations<P: Place, R: Threads + Wait + Sync>(
     rt: &R,
@@ -76,32 +108,13 @@ where
         stations,
     } = ready;
     if write_whole(output, &listening).is_err() {
-        give_back(place, stations);
-        place.keeper_back(hall.into_keeper());
+        all_back(place, stations, hall.into_keeper());
         return ServeEnd::OutputFailed;
     }
     match serve_all(rt, alloc, hall, stations, serving.limit) {
-        Ok(
-            Served {
-                hall,
-                stations,
-                count: _,
-                whole,
-            },
-        ) => {
-            give_back(place, stations);
-            place.keeper_back(hall.into_keeper());
-            if !whole {
-                ServeEnd::PlaceFailed
-            } else if write_whole(output, &closing).is_err() {
-                ServeEnd::OutputFailed
-            } else {
-                ServeEnd::Served
-            }
-        }
+        Ok(served) => close(served, &closing, place, output),
         Err(Unserved { hall, stations }) => {
-            give_back(place, stations);
-            place.keeper_back(hall.into_keeper());
+            all_back(place, stations, hall.into_keeper());
             ServeEnd::OutOfMemory
         }
     }
@@ -147,8 +160,7 @@ where
             serve_stations(rt, alloc, serving, hall, ready, place, output)
         }
         Err(NoStations { stations, why }) => {
-            give_back(place, stations);
-            place.keeper_back(hall.into_keeper());
+            all_back(place, stations, hall.into_keeper());
             match why {
                 NoDevice::Failed => ServeEnd::PlaceFailed,
                 NoDevice::OutOfMemory => ServeEnd::OutOfMemory,

@@ -1,5 +1,6 @@
 -- From what a keeper holds to the hall of its site, or to why there is none.
 use Rattle.std.proofs.Common.{◌≡◌, ℕ, ◌+◌, ◌^◌, ◌≤◌, List, [], min, Bool, Option, None, refl, sym, ap, subst, ◌∙◌, arith}
+use Rattle.content_state.specs.Replay.{replay}
 use Rattle.content_state.specs.declared.site_rules.NotASite.{NotASite}
 use Rattle.content_state.specs.declared.site_rules.Refusal.{Refusal}
 use Rattle.content_state.specs.declared.site_rules.Refusal.TheVariants as refusal
@@ -21,6 +22,7 @@ use Rattle.serve_store.specs.Job.{IsOpened}
 
 opened_view : (kept kept' : Option Kept) (faults faults' : ℕ) (steadfast : Bool) (stored : Stored) → kept' ≡ kept → faults' ≡ faults → IfTold kept (λ held. stored ≡ held)
     → IsHall (opened_with stored kept' faults' steadfast) → stored.head ≤ 2 ^ 62 → IsOpened kept faults (opened_with stored kept' faults' steadfast)
+unfolding replay
 opened_view kept kept' faults faults' steadfast stored same still told is small = record {
   base = told;
   site = record { valid = is.valid.states 0; number = small };
