@@ -5,10 +5,8 @@ use site_files::STARTER;
 use site_io::{MemorySink, MemorySource, Reading, Writing};
 use site_jobs::{JobEnd, export_rows, import_rows};
 use std::alloc::{AllocError, Global};
-use std::io::{Read, Stdin, Stdout, Write};
-use std::net::{Net, SocketAddr, TcpListener, TcpStream};
-use std::sync::Wait;
-use std::thread::Threads;
+use std::io::{Read, Write};
+use std::net::{SocketAddr, TcpListener, TcpStream};
 use std::{fs, io, thread};
 
 /// A session `abc` of the first user.
@@ -61,8 +59,8 @@ fn words(alloc: Global, address: SocketAddr) -> Result<Vec<String>, AllocError> 
 }
 
 // The reply to the edit at an address, once somebody listens there.
-fn edited<R: Net>(rt: &R, alloc: Global, address: SocketAddr) -> io::Result<Vec<u8>> {
-    let mut reply = Vec::new(alloc);
+fn edited(rt: &HostRuntime, address: SocketAddr) -> io::Result<Vec<u8>> {
+    let mut reply = Vec::new(rt.alloc());
     for _ in 0..10_000_000u32 {
         let Ok(mut peer) = TcpStream::connect(rt, address) else {
             thread::yield_now();
@@ -80,48 +78,44 @@ fn free_address(rt: &HostRuntime) -> io::Result<SocketAddr> {
     TcpListener::bind(rt, "127.0.0.1:0")?.local_addr()
 }
 
-// Whether one connection is served, and its edit is answered and stored. The real input and output are handed in.
-fn is_served<R: Threads + Wait + Net + Sync>(
-    rt: &R,
-    alloc: Global,
+// The words that ask for one connection there, once the store at the place is filled.
+fn ready(
+    rt: &HostRuntime,
     address: SocketAddr,
     place: &mut SystemPlace,
-    input: &mut Reading<Stdin>,
-    output: &mut Writing<Stdout>,
-) -> io::Result<bool> {
-    let words = words(alloc, address)?;
-    if !is_filled(alloc, place)? {
-        return Ok(false);
-    }
-    let serve = || run_site(rt, alloc, &words, place, input, output);
-    let (reply, status) = thread::join(rt, || edited(rt, alloc, address), serve);
+) -> Result<Option<Vec<String>>, AllocError> {
+    let words = words(rt.alloc(), address)?;
+    let filled = is_filled(rt.alloc(), place)?;
+    Ok(if filled { Some(words) } else { None })
+}
+
+// Whether the reply is the one that is wanted, and the store has the new title.
+fn is_kept(alloc: Global, place: &mut SystemPlace, reply: &[u8]) -> Result<bool, AllocError> {
     let rows = exported(alloc, place)?;
     let title = b"\"title\":\"A\"".as_slice();
     let has_title = rows
         .bytes()
         .windows(title.len())
         .any(|piece| piece == title);
-    Ok(status == 0 && reply?.as_slice() == REPLY && has_title)
+    Ok(reply == REPLY && has_title)
 }
 
 #[test]
 fn one_connection_edits_a_store(rt: HostRuntime) {
-    let (Ok(mut place), Ok(address)) = (SystemPlace::new(rt), free_address(&rt)) else {
-        assert!(rt; false, "no chance, or no address");
-        return;
-    };
+    let mut place = SystemPlace::new(rt).expect(&rt, "chance");
+    let address = free_address(&rt).expect(&rt, "an address");
+    let words = ready(&rt, address, &mut place).expect(&rt, "memory");
+    let words = words.expect(&rt, "a store");
     let mut input = Reading::new(rt.stdin());
     let mut output = Writing::new(rt.stdout());
-    let served = is_served(
-        &rt,
-        rt.alloc(),
-        address,
-        &mut place,
-        &mut input,
-        &mut output,
-    );
+    let serve = || run_site(&rt, rt.alloc(), &words, &mut place, &mut input, &mut output);
+    let (reply, status) = thread::join(&rt, || edited(&rt, address), serve);
+    let kept = match reply {
+        Ok(reply) => is_kept(rt.alloc(), &mut place, &reply),
+        Err(_) => Ok(false),
+    };
     drop(place);
     let _gone = fs::remove_file(&rt, STORE);
     let _gone = fs::remove_file(&rt, LOG);
-    assert!(rt; served.unwrap_or(false));
+    assert!(rt; status == 0 && kept == Ok(true));
 }
