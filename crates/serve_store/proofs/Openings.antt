@@ -1,11 +1,10 @@
 -- From what a keeper holds to the hall of its site, or to why there is none.
-use Rattle.std.proofs.Common.{◌≡◌, ℕ, ◌+◌, ◌^◌, ◌≤◌, List, [], min, Bool, Option, None, refl, sym, ap, subst, ◌∙◌, arith}
+use Rattle.std.proofs.Common.{◌≡◌, ℕ, ◌^◌, ◌≤◌, Bool, Option, refl, sym, subst}
 use Rattle.content_state.specs.Replay.{replay}
-use Rattle.content_state.specs.declared.site_rules.NotASite.{NotASite}
 use Rattle.content_state.specs.declared.site_rules.Refusal.{Refusal}
 use Rattle.content_state.specs.declared.site_rules.Refusal.TheVariants as refusal
 use Rattle.content_state.specs.SiteRules.{IsRefusal}
-use Rattle.site_keeper.specs.Keeper.{Kept, IfTold, CountsFault, Rose}
+use Rattle.site_keeper.specs.Keeper.{Kept, IfTold, CountsFault}
 use Rattle.site_keeper.specs.declared.fault.KeeperFault.{KeeperFault}
 use Rattle.site_keeper.specs.declared.fault.KeeperFault.TheVariants as keeper_fault
 use Rattle.site_keeper.specs.declared.stored.Stored.{Stored}

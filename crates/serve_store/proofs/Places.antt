@@ -1,14 +1,14 @@
 -- What giving stations, and taking them back, does to a place.
-use Rattle.std.proofs.Common.{◌≡◌, ◌∙◌, ℕ, Bool, true, false, zero, suc, ◌+◌, ◌-◌, ◌<◌, ◌≤◌, min, List, [], ◌∷◌, ◌++◌, length, ◌⊎◌, inl, inr, Option, refl, sym, ap, subst, arith, le_refl, le_trans}
+use Rattle.std.proofs.Common.{◌≡◌, ◌∙◌, ℕ, false, zero, suc, ◌+◌, ◌-◌, ◌<◌, ◌≤◌, List, [], ◌∷◌, ◌++◌, length, ◌⊎◌, inl, inr, Option, refl, sym, ap, subst, arith}
 use Rattle.site_io.specs.Told.{Rose}
 use Rattle.site_keeper.specs.Keeper.{Kept}
 use Rattle.std.specs.List.{All}
 use Rattle.std.proofs.lemmas.List.Elements.{All-cons, All-nil}
-use Rattle.site_places.specs.Place.{PlaceView, door_returned, DoorBack, DoorFails, IsNoDevice, KeeperBack, KeepsCounts}
+use Rattle.site_places.specs.Place.{PlaceView, DoorBack, IsNoDevice, KeeperBack, KeepsCounts}
 use Rattle.site_places.specs.declared.place.NoDevice.{NoDevice}
 use Rattle.site_places.specs.declared.place.NoDevice.TheVariants as why
 use Rattle.site_serve.specs.Stations.{StationView}
-use Rattle.serve_store.specs.Stations.{station_given, AllBack, AreUnused, DoorThen, DoorsBack, HasFailed, IsStationAt, StationsGiven, StopsShort}
+use Rattle.serve_store.specs.Stations.{station_given, AllBack, AreUnused, DoorsBack, HasFailed, IsStationAt, StationsGiven, StopsShort}
 use Rattle.serve_store.specs.Job.{KeeperRises, PlaceRises}
 use Rattle.serve_store.specs.declared.ending.ServeEnd.{ServeEnd}
 use Rattle.serve_store.specs.declared.ending.ServeEnd.TheVariants as end

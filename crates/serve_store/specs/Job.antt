@@ -1,5 +1,5 @@
 -- What the job of serving does, by how it ends.
-use Rattle.std.specs.Prelude.{ℕ, List, [], ◌≡◌, ◌≤◌, ◌<◌, ◌⊎◌, length, Bool, true, false, Option, Some, None}
+use Rattle.std.specs.Prelude.{ℕ, List, [], ◌≡◌, ◌≤◌, ◌<◌, ◌⊎◌, length, Bool, true, false, Option, None}
 use Rattle.std.specs.String.{string_bytes}
 use Rattle.site_io.specs.Told.{after, AddsFront, Rose}
 use Rattle.site_keeper.specs.Keeper.{Kept}

@@ -1,7 +1,5 @@
 -- The statuses of serving, and the counts of its devices.
-use Rattle.std.proofs.Common.{◌≡◌, ◌≢◌, ℕ, ◌⊎◌, arith}
-use Rattle.site_io.specs.Told.{Rose}
-use Rattle.site_places.specs.Place.{KeepsCounts}
+use Rattle.std.proofs.Common.{◌≡◌, ℕ, arith}
 use Rattle.serve_store.specs.Job.{KeeperRises, OutputRises, PlaceRises}
 use Rattle.serve_store.specs.declared.ending.ServeEnd.{ServeEnd}
 use Rattle.serve_store.specs.declared.ending.ServeEnd.TheVariants as end

@@ -4,7 +4,7 @@ use Rattle.content_state.specs.declared.ask.Ask.{Ask}
 use Rattle.content_state.specs.State.{State}
 use Rattle.content_state.specs.declared.commit.Commit.{Commit}
 use Rattle.http_heads.specs.declared.request.Request.{Request}
-use Rattle.site_house.specs.History.{History, OnLog, longer, newest}
+use Rattle.site_house.specs.History.{History, longer, newest}
 use Rattle.edit_bodies.specs.declared.words.Words.{Words}
 use Rattle.site_http.specs.Called.{Called, ToRead, ToEdit, Wish, called, ask_of}
 use Rattle.site_http.specs.Reply.{Story, Says, IsRefused, IsAccepted, IsKeeper, HandedOnce, IsWanting, IsAnswer, IsText, judgement}

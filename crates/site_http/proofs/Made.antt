@@ -1,6 +1,5 @@
 -- What is made on the newest state, as a reply and its story.
-use Rattle.std.proofs.Common.{◌≡◌, ◌∙◌, List, [], ◌∷◌, ℕ, Bool, Option, Some, None, take, length, ap, sym, refl, subst, arith, inl, inr, ◌++◌, ◌+◌, ◌≤◌, ◌<◌, ◌⊎◌, length-append}
-use Rattle.std.specs.Prelude.{is_some}
+use Rattle.std.proofs.Common.{◌≡◌, ◌∙◌, List, [], ◌∷◌, ℕ, Bool, Option, None, take, length, ap, sym, refl, subst, arith, inl, inr, ◌++◌, ◌+◌, ◌≤◌, length-append}
 use Rattle.std.proofs.lemmas.List.{append-nil}
 use Rattle.content_state.specs.declared.ask.Ask.{Ask}
 use Rattle.content_state.specs.declared.commit.Commit.{Commit}
@@ -15,7 +14,7 @@ use Rattle.edit_bodies.specs.Commands.{command_in}
 use Rattle.edit_bodies.specs.declared.words.Words.{Words}
 use Rattle.edit_replies.specs.Texts.{refused_text, done_text, keeper_text}
 use Rattle.site_house.specs.House.{HouseView, AreValid, Moves, Stays, Accepts, Refuses, Fails, HandedAtMost, history_of}
-use Rattle.site_house.specs.History.{newest, log_to}
+use Rattle.site_house.specs.History.{newest}
 use Rattle.site_house.proofs.Histories.{moves_longer, newest_state, on_newest, log_to_newest}
 use Rattle.site_io.specs.Reached.{and_point}
 use Rattle.site_io.specs.Series.{last_moment}

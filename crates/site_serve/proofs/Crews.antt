@@ -1,5 +1,5 @@
 -- The crew, before and after its work.
-use Rattle.std.proofs.Common.{◌≡◌, ◌∙◌, ◌+◌, ◌==◌, ◌<◌, ◌≤◌, ◌||◌, ℕ, zero, suc, List, [], ◌∷◌, ◌++◌, Bool, true, false, All, map, length, sum_by, refl, ap, sym, subst, arith, ◌⊎◌, inl, inr}
+use Rattle.std.proofs.Common.{◌≡◌, ◌∙◌, ◌+◌, ◌==◌, ◌<◌, ◌≤◌, ◌||◌, ℕ, suc, List, [], ◌∷◌, ◌++◌, Bool, true, false, All, map, length, sum_by, refl, ap, sym, arith}
 use Rattle.std.proofs.lemmas.Bool.{eqb-false}
 use Rattle.std.proofs.lemmas.List.Sums.{sum_by-cons}
 use Rattle.std.proofs.lemmas.List.Elements.{All-nil, All-cons, All-head, All-tail}
@@ -11,7 +11,7 @@ use Rattle.site_http.specs.declared.worker.Worked.TheVariants as worked
 use Rattle.site_turn.specs.Closing.{has_number}
 use Rattle.site_turn.specs.Houses.{house_of}
 use Rattle.site_serve.specs.Stations.{StationView}
-use Rattle.site_serve.specs.Working.{Footing, Member, HasServed, AllServed, IsReady, bench_in, member_at, members, faulted}
+use Rattle.site_serve.specs.Working.{Footing, Member, AllServed, IsReady, bench_in, member_at, members, faulted}
 
 -- tables with one name are the same
 table_of : List ℕ → TableId

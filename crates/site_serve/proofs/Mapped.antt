@@ -1,5 +1,5 @@
 -- What holds of each, and of what each gives.
-use Rattle.std.proofs.Common.{◌≡◌, List, [], ◌∷◌, All, map, length, ℕ, suc, ap, refl}
+use Rattle.std.proofs.Common.{◌≡◌, List, [], ◌∷◌, All, map, length, suc, ap, refl}
 use Rattle.std.proofs.lemmas.List.Elements.{All-nil, All-cons, All-head, All-tail}
 use Rattle.std.specs.List.{AllZip}
 

@@ -1,6 +1,5 @@
 -- Connections over a log are connections over each longer one.
-use Rattle.std.proofs.Common.{◌≡◌, ◌++◌, ◌∙◌, ℕ, zero, suc, List, subst, sym, ap}
-use Rattle.content_state.specs.Replay.{Begins}
+use Rattle.std.proofs.Common.{◌≡◌, ◌∙◌, ℕ, zero, suc, List, subst, sym}
 use Rattle.content_state.specs.declared.commit.Commit.{Commit}
 use Rattle.site_io.specs.declared.ended.Ended.{Ended}
 use Rattle.site_house.specs.History.{History, longer, newest}

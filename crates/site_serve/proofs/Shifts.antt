@@ -1,5 +1,5 @@
 -- What the crew did, worker by worker.
-use Rattle.std.proofs.Common.{◌≡◌, ◌∙◌, ◌+◌, ◌==◌, ◌&&◌, ℕ, zero, suc, List, [], ◌∷◌, Bool, true, false, All, map, length, drop, sum_by, refl, ap, sym, subst, arith}
+use Rattle.std.proofs.Common.{◌≡◌, ◌∙◌, ◌+◌, ◌==◌, ◌&&◌, ℕ, List, [], ◌∷◌, Bool, All, map, length, drop, sum_by, refl, ap, sym, subst, arith}
 use Rattle.std.proofs.lemmas.Bool.{ne_eqb}
 use Rattle.std.proofs.lemmas.List.Sums.{sum_by-cons}
 use Rattle.std.proofs.lemmas.List.Elements.{All-nil, All-cons, All-head, All-tail}
@@ -7,7 +7,7 @@ use Rattle.std.specs.List.{list_all}
 use Rattle.site_hall.specs.Hall.{HallView}
 use Rattle.site_house.specs.History.{History}
 use Rattle.site_house.specs.House.{IsSublist, by_pass}
-use Rattle.site_http.specs.Work.{Bench, Serves, Works, Follows}
+use Rattle.site_http.specs.Work.{Bench, Serves, Works}
 use Rattle.site_http.specs.declared.worker.Worked.{Worked}
 use Rattle.site_http.specs.declared.worker.Worked.TheVariants as worked
 use Rattle.turn_rule.specs.Steps.{Knows}

@@ -1,14 +1,10 @@
 -- What came of all workers.
-use Rattle.std.proofs.Common.{◌≡◌, ◌∙◌, ◌+◌, ◌-◌, ◌<◌, ◌≤◌, ◌==◌, ℕ, zero, suc, List, [], ◌∷◌, ◌++◌, Bool, true, false, All, map, length, drop, sum_by, refl, ap, sym, subst, arith}
+use Rattle.std.proofs.Common.{◌≡◌, ◌∙◌, ◌-◌, ◌<◌, ◌==◌, ℕ, zero, suc, List, [], ◌∷◌, Bool, true, false, All, map, length, sum_by, refl, ap, sym, subst, arith}
 use Rattle.std.proofs.lemmas.Bool.{eqb-false}
 use Rattle.std.proofs.Math.Dec.{eqb-suc-zero}
 use Rattle.std.proofs.lemmas.List.Elements.{All-map, All-same, All-nil, All-cons, All-head, All-tail}
-use Rattle.std.specs.Prelude.{option_to_list}
-use Rattle.content_state.specs.Replay.{Begins}
-use Rattle.content_state.specs.declared.commit.Commit.{Commit}
 use Rattle.site_hall.specs.Hall.{HallView}
 use Rattle.turn_rule.specs.Steps.{Knows}
-use Rattle.turn_rule.specs.declared.notes.HallNote.{HallNote}
 use Rattle.turn_rule.specs.declared.notes.PassNote.{PassNote}
 use Rattle.turn_rule.specs.declared.notes.FounderNote.{FounderNote}
 use Rattle.site_turn.specs.Views.{PassView, noted}

@@ -1,5 +1,5 @@
 -- The crew at work.
-use Rattle.std.specs.Prelude.{ℕ, List, [], ◌∷◌, ◌≡◌, ◌+◌, Bool, true, false, All}
+use Rattle.std.specs.Prelude.{ℕ, List, [], ◌∷◌, ◌≡◌, ◌+◌, true, false}
 use Rattle.std.specs.List.{AllZip}
 use Rattle.atomic_table.specs.Seated.{TableId}
 use Rattle.site_io.specs.Series.{GivesInTurn, last_moment, last_word}

@@ -1,4 +1,3 @@
-use Rattle.std.proofs.Common.{◌≡◌}
 use Rattle.serve_store.proofs.Places.{all_counts, none_counts}
 use Rattle.serve_store.proofs.doors.all_back.Goals as goal
 

@@ -1,4 +1,4 @@
-use Rattle.std.proofs.Common.{◌≡◌, ◌++◌, ◌∷◌, [], length, subst}
+use Rattle.std.proofs.Common.{subst}
 use Rattle.site_places.specs.Place.{DoorBack}
 use Rattle.site_serve.specs.Stations.{StationView}
 use Rattle.serve_store.proofs.Places.{back_counts, back_more}

@@ -1,6 +1,5 @@
-use Rattle.std.proofs.Common.{◌≡◌, ◌+◌, ◌++◌, ◌∷◌, [], length, refl, sym, ap, subst, ◌∙◌}
+use Rattle.std.proofs.Common.{length, sym, ap, subst, ◌∙◌}
 use Rattle.serve_store.specs.Stations.{StationsGiven}
-use Rattle.site_serve.specs.Stations.{StationView}
 use Rattle.serve_store.proofs.Places.{given_more, many_more}
 use Rattle.serve_store.proofs.doors.open_stations.Goals as goal
 

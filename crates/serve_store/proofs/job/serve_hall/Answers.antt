@@ -1,4 +1,4 @@
-use Rattle.std.proofs.Common.{◌≡◌, ◌≤◌, ◌+◌, length, inl, sym, subst, arith}
+use Rattle.std.proofs.Common.{inl, subst, arith}
 use Rattle.serve_store.proofs.Places.{given_counts, given_unused, keeper_since, place_since, short_keepers, short_keeps, short_out, short_place}
 use Rattle.site_places.specs.declared.place.NoDevice.{NoDevice}
 use Rattle.serve_store.specs.Stations.{StopsShort}

@@ -1,4 +1,4 @@
-use Rattle.std.proofs.Common.{rules, ◌≡◌, ◌∙◌, ◌≤◌, ℕ, List, length, sym, subst, arith}
+use Rattle.std.proofs.Common.{rules, ◌≡◌, ◌∙◌, ℕ, List, subst, arith}
 use Rattle.site_io.specs.Told.{after}
 use Rattle.serve_store.specs.Job.{to_serve, PrintsCount}
 use Rattle.serve_store.specs.Texts.{listening_text}

@@ -1,4 +1,4 @@
-use Rattle.std.proofs.Common.{◌≡◌, ℕ, List, Option, inl, inr, subst}
+use Rattle.std.proofs.Common.{ℕ, List, Option, inl, inr, subst}
 use Rattle.site_keeper.specs.Keeper.{Kept}
 use Rattle.site_places.specs.Place.{PlaceView, HoldsTold}
 use Rattle.serve_store.specs.Job.{FindsNoSite, Front}

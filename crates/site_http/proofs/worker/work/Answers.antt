@@ -1,4 +1,4 @@
-use Rattle.std.proofs.Common.{◌∙◌, ap, arith}
+use Rattle.std.proofs.Common.{◌∙◌, ap}
 use Rattle.site_house.proofs.Moving.{moves_on}
 use Rattle.site_io.proofs.Turns.{turn_more}
 use Rattle.site_io.specs.Doors.{Line, Back, and_back}

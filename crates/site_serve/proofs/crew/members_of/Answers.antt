@@ -1,4 +1,4 @@
-use Rattle.std.proofs.Common.{◌≡◌, ◌∙◌, ap, arith, map, map-id, rules, sym}
+use Rattle.std.proofs.Common.{◌∙◌, ap, arith, map, map-id, rules, sym}
 use Rattle.std.proofs.lemmas.Iterator.Consumers.{YieldsList-end, YieldsList-turn}
 use Rattle.std.proofs.lemmas.Iterator.Adapters.{YieldsList-from_vec}
 use Rattle.site_serve.specs.Working.{member_of}

@@ -1,6 +1,5 @@
-use Rattle.std.proofs.Common.{◌≡◌, ◌∙◌, ap, arith, subst, sym, ◌<◌}
+use Rattle.std.proofs.Common.{◌∙◌, ap, arith}
 use Rattle.site_claims.specs.Claims.{ClaimsView}
-use Rattle.site_turn.specs.Views.{SiteView}
 use Rattle.turn_rule.specs.declared.notes.FounderNote.{FounderNote}
 use Rattle.site_serve.proofs.serve.serve_all.Goals as goal
 

@@ -1,12 +1,10 @@
-use Rattle.std.proofs.Common.{◌≡◌, ◌∙◌, ◌+◌, ◌-◌, ◌==◌, ◌<◌, ◌≤◌, ℕ, List, All, ap, arith, length, map, refl, subst, sum_by, sym}
-use Rattle.site_hall.specs.Hall.{HallView}
-use Rattle.site_claims.specs.Claims.{ClaimsView, as_count}
-use Rattle.turn_rule.specs.declared.notes.FounderNote.{FounderNote}
+use Rattle.std.proofs.Common.{◌≡◌, ◌∙◌, ◌-◌, ◌==◌, ℕ, List, All, ap, arith, length, map, refl, subst, sum_by, sym}
+use Rattle.site_claims.specs.Claims.{ClaimsView}
 use Rattle.site_turn.specs.Views.{PassView, SiteView, noted}
 use Rattle.site_turn.specs.Closing.{IsClosed, notes_of}
 use Rattle.site_serve.specs.Serving.{HaveServed}
 use Rattle.site_serve.specs.Stations.{StationView}
-use Rattle.site_serve.specs.Working.{Footing, Member, faulted, footing_of}
+use Rattle.site_serve.specs.Working.{Footing, Member, footing_of}
 use Rattle.site_serve.proofs.Crews.{members_length}
 use Rattle.site_serve.proofs.Together.{back_at, goes_on, have_served, none_missing, not_zero, passes_here, ready_at, served_at, zero_is}
 use Rattle.site_serve.proofs.serve.serve_at.Goals as goal
