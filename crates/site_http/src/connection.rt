@@ -7,12 +7,14 @@ ghost use Rattle.site_io.specs.declared.ended.Ended.{Ended as End};
 ghost use Rattle.site_house.specs.History.{History, longer, newest};
 ghost use Rattle.site_http.specs.Connection.{AreAsks, Around, Connection, CountsReads, CountsWrites};
 
+use crate::desk::Desk;
 use crate::next::Inbox;
 use crate::turn::{LIMIT, turn};
 use edit_paths::EditPaths;
 use site_house::House;
 use site_io::{Clock, Ended, Entropy, Gate, Sink, Source};
 use std::alloc::Global;
+use std::mem;
 
 /// Answers the requests of a connection, in order, each on the state whose number its reply carries.
 ///
@@ -40,25 +42,75 @@ pub fn serve_connection<R, H: House, S: Source, O: Sink, C: Clock, E: Entropy, G
     ensures reads { CountsReads result (S.faults source.old) (S.faults source.new) }
     ensures writes { CountsWrites result (O.faults sink.old) (O.faults sink.new) }
 {
-    let Ok(mut inbox) = Inbox::new(alloc) else {
+    let mut desk = None;
+    let ended = serve_next(alloc, &mut desk, house, source, sink, clock, entropy, gate);
+    drop(desk);
+    ended
+}
+
+/// The same with what earlier connections were answered with, if there were any; it is left for later ones.
+pub fn serve_next<H: House, S: Source, O: Sink, C: Clock, E: Entropy, G: Gate>(
+    alloc: Global,
+    desk: &mut Option<Desk>,
+    house: &mut H,
+    source: &mut S,
+    sink: &mut O,
+    clock: &mut C,
+    entropy: &mut E,
+    gate: &mut G,
+) -> Ended
+    ensures moves { Moves (H.sees house.old) (H.sees house.new) }
+    ensures connection { Connection result
+        (record { left = S.left source.old; out = record { given = C.given clock.old; words = E.given entropy.old; points = G.reached gate.old; written = O.written sink.old; handed = (H.sees house.old).handed; keepers = (H.sees house.old).keepers } })
+        (record { left = S.left source.new; out = record { given = C.given clock.new; words = E.given entropy.new; points = G.reached gate.new; written = O.written sink.new; handed = (H.sees house.new).handed; keepers = (H.sees house.new).keepers } })
+        (history_of (H.sees house.new)) 1000 (newest (history_of (H.sees house.old))) }
+    ensures moments { GivesInTurn last_moment (C.moments clock.old) (C.moments clock.new) (C.given clock.old) (C.given clock.new) }
+    ensures words { GivesInTurn last_word (E.words entropy.old) (E.words entropy.new) (E.given entropy.old) (E.given entropy.new) }
+    ensures reads { CountsReads result (S.faults source.old) (S.faults source.new) }
+    ensures writes { CountsWrites result (O.faults sink.old) (O.faults sink.new) }
+{
+    if desk.is_none() {
+        let made = Desk::new(alloc).ok();
+        drop(mem::replace(desk, made));
+    }
+    let Some(Desk { paths, inbox }) = desk else {
         return Ended::OutOfMemory;
     };
-    // both are dropped by calls: what ends by itself is proved part by part, at each way out
-    let Ok(paths) = EditPaths::new(alloc) else {
-        drop(inbox);
-        return Ended::OutOfMemory;
-    };
+    serve_at(
+        alloc, paths, inbox, house, source, sink, clock, entropy, gate,
+    )
+}
+
+/// The same with routers and an inbox, whatever came into it before.
+fn serve_at<H: House, S: Source, O: Sink, C: Clock, E: Entropy, G: Gate>(
+    alloc: Global,
+    paths: &EditPaths,
+    inbox: &mut Inbox,
+    house: &mut H,
+    source: &mut S,
+    sink: &mut O,
+    clock: &mut C,
+    entropy: &mut E,
+    gate: &mut G,
+) -> Ended
+    ensures moves { Moves (H.sees house.old) (H.sees house.new) }
+    ensures connection { Connection result
+        (record { left = S.left source.old; out = record { given = C.given clock.old; words = E.given entropy.old; points = G.reached gate.old; written = O.written sink.old; handed = (H.sees house.old).handed; keepers = (H.sees house.old).keepers } })
+        (record { left = S.left source.new; out = record { given = C.given clock.new; words = E.given entropy.new; points = G.reached gate.new; written = O.written sink.new; handed = (H.sees house.new).handed; keepers = (H.sees house.new).keepers } })
+        (history_of (H.sees house.new)) 1000 (newest (history_of (H.sees house.old))) }
+    ensures moments { GivesInTurn last_moment (C.moments clock.old) (C.moments clock.new) (C.given clock.old) (C.given clock.new) }
+    ensures words { GivesInTurn last_word (E.words entropy.old) (E.words entropy.new) (E.given entropy.old) (E.given entropy.new) }
+    ensures reads { CountsReads result (S.faults source.old) (S.faults source.new) }
+    ensures writes { CountsWrites result (O.faults sink.old) (O.faults sink.new) }
+{
+    inbox.clear();
     'requests: for index in 0..LIMIT {
         if let Some(ended) = turn(
-            alloc, &paths, house, source, sink, clock, entropy, gate, &mut inbox, index,
+            alloc, paths, house, source, sink, clock, entropy, gate, inbox, index,
         ) {
-            drop(paths);
-            drop(inbox);
             return ended;
         }
     }
-    drop(paths);
-    drop(inbox);
     Ended::Spent
 }
 

@@ -4,6 +4,7 @@
 mod answer;
 mod call;
 mod connection;
+mod desk;
 mod next;
 mod refusal;
 mod reply;

@@ -55,6 +55,13 @@ impl Inbox {
         })
     }
 
+    /// Drops all that came, and keeps the room for it.
+    pub fn clear(&mut self)
+        ensures { self.new ≡ [] }
+    {
+        self.bytes.clear();
+    }
+
     /// Adds the next piece of the source, and answers whether there was one.
     fn read_more<S: Source>(&mut self, source: &mut S) -> Result<bool, Trouble>
         ensures ok { IfOk result (λ some. ReadsMore (S.left source.old) (S.left source.new) self.old self.new some) }

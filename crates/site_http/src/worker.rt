@@ -4,7 +4,7 @@ ghost use Rattle.site_house.specs.House.{Moves, history_of};
 ghost use Rattle.site_io.specs.Series.{GivesInTurn, last_moment, last_word};
 ghost use Rattle.site_http.specs.Work.{CountsDoor, Works};
 
-use crate::connection::serve_connection;
+use crate::connection::serve_next;
 use site_house::House;
 use site_io::{Clock, Door, Entropy, Gate, More};
 use std::alloc::Global;
@@ -47,16 +47,19 @@ pub fn work<R: Wait, H: House, D: Door, C: Clock, E: Entropy, G: Gate, M: More>(
     ensures moments { GivesInTurn last_moment (C.moments clock.old) (C.moments clock.new) (C.given clock.old) (C.given clock.new) }
     ensures words { GivesInTurn last_word (E.words entropy.old) (E.words entropy.new) (E.given entropy.old) (E.given entropy.new) }
 {
+    let mut desk = None;
     'connections: for _ in rt.forever() {
         if !more.more() {
+            drop(desk);
             return Worked::NoMore;
         }
         let Ok((mut source, mut sink)) = door.accept() else {
+            drop(desk);
             return Worked::DoorFault;
         };
-        let ended = serve_connection(
-            rt,
+        let ended = serve_next(
             alloc,
+            &mut desk,
             house,
             &mut source,
             &mut sink,

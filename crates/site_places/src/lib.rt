@@ -3,8 +3,10 @@
 
 mod memory;
 mod place;
+mod store;
 mod system;
 
 pub use memory::{MemoryFile, MemoryPlace, MemoryPort, MemoryStore};
 pub use place::{NoDevice, Place};
+pub use store::StoreFile;
 pub use system::SystemPlace;

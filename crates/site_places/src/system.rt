@@ -13,7 +13,8 @@ ghost use Rattle.site_places.specs.Place.{
 ghost use Rattle.site_places.specs.declared.place.NoDevice.TheVariants as why;
 
 use crate::place::{NoDevice, Place};
-use keeper_sqlite::{FileKeeper, NoKeeper, open_keeper};
+use crate::store::StoreFile;
+use keeper_sqlite::{NoKeeper, open_keeper};
 use site_io::{
     Door, NoChance, OpenGate, Reading, Seed, Source, SystemClock, SystemEntropy, TcpDoor, Writing,
 };
@@ -111,7 +112,7 @@ impl Place for SystemPlace {
 
     type Rows = Reading<File>;
 
-    type Keeper = FileKeeper;
+    type Keeper = StoreFile;
 
     type Door = TcpDoor<HostRuntime>;
 
@@ -137,15 +138,15 @@ impl Place for SystemPlace {
         }
     }
 
-    fn keeper(&mut self, path: &str) -> Result<FileKeeper, NoDevice> {
+    fn keeper(&mut self, path: &str) -> Result<StoreFile, NoDevice> {
         match open_keeper(&self.rt, path) {
-            Ok(keeper) => Ok(keeper),
+            Ok(keeper) => Ok(StoreFile::new(keeper)),
             Err(NoKeeper::OutOfMemory) => Err(NoDevice::OutOfMemory),
             Err(NoKeeper::Failed) => Err(self.fault()),
         }
     }
 
-    fn keeper_back(&mut self, keeper: FileKeeper) {
+    fn keeper_back(&mut self, keeper: StoreFile) {
         if keeper.faults() > 0 {
             self.keeper_faults = self.keeper_faults.saturating_add(1);
         }

@@ -25,7 +25,7 @@ fn a_node_is_made(rt: HostRuntime) {
         "HTTP/1.1 200 OK\r\nContent-Type: text/html; charset=UTF-8\r\nContent-Length: 253\r\nX-Site-State: 1\r\n\r\n",
         "HTTP/1.1 409 Conflict\r\nContent-Type: application/json\r\nContent-Length: 32\r\nX-Site-State: 1\r\n\r\n{\"code\":\"uuid-taken\",\"holder\":9}",
     ];
-    assert!(rt; replies(&rt, SEQ_9, &requests, &pieces));
+    assert!(rt; replies(&rt, rt.alloc(), SEQ_9, &requests, &pieces));
 }
 
 #[test]
@@ -40,7 +40,7 @@ fn a_node_is_changed(rt: HostRuntime) {
         "HTTP/1.1 409 Conflict\r\nContent-Type: application/json\r\nContent-Length: 24\r\nX-Site-State: 1\r\n\r\n{\"code\":\"stale\",\"vid\":2}",
         "X-Site-State: 1\r\n\r\n<!DOCTYPE html><html lang=\"en\"><head><title>A | Site</title>",
     ];
-    assert!(rt; replies(&rt, NEW, &requests, &pieces));
+    assert!(rt; replies(&rt, rt.alloc(), NEW, &requests, &pieces));
 }
 
 #[test]
@@ -55,7 +55,7 @@ fn a_node_is_removed(rt: HostRuntime) {
         "HTTP/1.1 200 OK\r\nContent-Type: application/json\r\nContent-Length: 11\r\nX-Site-State: 1\r\n\r\n{\"ok\":true}",
         "HTTP/1.1 404 Not Found\r\n",
     ];
-    assert!(rt; replies(&rt, NEW, &requests, &pieces));
+    assert!(rt; replies(&rt, rt.alloc(), NEW, &requests, &pieces));
 }
 
 #[test]
@@ -86,7 +86,7 @@ fn somebody_logs_in_and_out(rt: HostRuntime) {
         "{\"code\":\"denied\",\"reason\":\"A session is required.\"}",
         "HTTP/1.1 200 OK\r\nContent-Type: application/json\r\nContent-Length: 11\r\nSet-Cookie: SESS=; Path=/; Max-Age=0\r\nX-Site-State: 3\r\n\r\n{\"ok\":true}",
     ];
-    assert!(rt; replies(&rt, NEW, &requests, &pieces));
+    assert!(rt; replies(&rt, rt.alloc(), NEW, &requests, &pieces));
 }
 
 #[test]
@@ -103,7 +103,7 @@ fn what_is_no_edit(rt: HostRuntime) {
         "HTTP/1.1 400 Bad Request\r\nContent-Type: application/json\r\nContent-Length: 19\r\nX-Site-State: 0\r\n\r\n{\"code\":\"bad-json\"}",
         "HTTP/1.1 404 Not Found\r\nContent-Type: application/json\r\nContent-Length: 20\r\nX-Site-State: 0\r\n\r\n{\"code\":\"no-target\"}",
     ];
-    assert!(rt; replies(&rt, NEW, &requests, &pieces));
+    assert!(rt; replies(&rt, rt.alloc(), NEW, &requests, &pieces));
 }
 
 // Nodes of a club, a member who may edit them, and what the member may not set.
@@ -124,5 +124,5 @@ fn a_key_is_denied(rt: HostRuntime) {
         "HTTP/1.1 403 Forbidden\r\nContent-Type: application/json\r\nContent-Length: 75\r\nX-Site-State: 0\r\n\r\n{\"code\":\"denied\",\"reason\":\"The 'administer nodes' permission is required.\"}",
         "HTTP/1.1 200 OK\r\nContent-Type: application/json\r\nContent-Length: 17\r\nX-Site-State: 1\r\n\r\n{\"nid\":5,\"vid\":2}",
     ];
-    assert!(rt; replies(&rt, CLUB, &requests, &pieces));
+    assert!(rt; replies(&rt, rt.alloc(), CLUB, &requests, &pieces));
 }

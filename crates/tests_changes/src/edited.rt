@@ -4,6 +4,8 @@ use site_cli::{MemoryFile, MemoryPlace, run_site};
 use site_files::STARTER;
 use site_io::{MemorySink, MemorySource};
 use std::alloc::{AllocError, Global};
+use std::sync::Wait;
+use std::thread::Threads;
 
 /// A request: its method and path, its fields beside `Host` and `Content-Length`, and its body where it has one.
 pub type Asked = (&'static str, &'static str, &'static str);
@@ -74,8 +76,12 @@ fn place(alloc: Global, site: Site) -> Result<MemoryPlace, AllocError> {
 }
 
 /// What the program writes to these requests, over a site with the session `abc`.
-fn written(rt: &HostRuntime, site: Site, requests: &[Asked]) -> Result<Vec<u8>, AllocError> {
-    let alloc = rt.alloc();
+fn written<R: Threads + Wait + Sync>(
+    rt: &R,
+    alloc: Global,
+    site: Site,
+    requests: &[Asked],
+) -> Result<Vec<u8>, AllocError> {
     let mut input = Vec::new(alloc);
     for asked in requests {
         put(alloc, &mut input, *asked)?;
@@ -110,8 +116,14 @@ fn in_order(text: &[u8], pieces: &[&str]) -> bool {
 }
 
 /// Whether the replies to these requests have these pieces, in order, over a site with the session `abc`.
-pub fn replies(rt: &HostRuntime, site: Site, requests: &[Asked], pieces: &[&str]) -> bool {
-    match written(rt, site, requests) {
+pub fn replies<R: Threads + Wait + Sync>(
+    rt: &R,
+    alloc: Global,
+    site: Site,
+    requests: &[Asked],
+    pieces: &[&str],
+) -> bool {
+    match written(rt, alloc, site, requests) {
         Ok(text) => in_order(&text, pieces),
         Err(_) => false,
     }

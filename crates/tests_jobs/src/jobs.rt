@@ -7,6 +7,8 @@ use site_files::STARTER;
 use site_io::{MemorySink, MemorySource};
 use site_keeper::{Fail, Keeper, MemoryKeeper, Stored};
 use std::alloc::{AllocError, Global};
+use std::sync::Wait;
+use std::thread::Threads;
 use tag_counts::Counts;
 
 /// A store without rows, of that number.
@@ -46,15 +48,15 @@ struct Ran {
 }
 
 /// The program on these words and this input, whose reads of these numbers fail, where the sink holds so many bytes.
-fn run(
-    rt: &HostRuntime,
+fn run<R: Threads + Wait + Sync>(
+    rt: &R,
+    alloc: Global,
     at: MemoryPlace,
     words: &[&str],
     input: &[u8],
     failing: &[u64],
     capacity: usize,
 ) -> Result<Ran, AllocError> {
-    let alloc = rt.alloc();
     let mut given = Vec::new(alloc);
     for word in words {
         given.push(String::from_str(alloc, word)?)?;
@@ -79,22 +81,23 @@ fn left_by(alloc: Global, place: MemoryPlace) -> Option<Stored> {
 }
 
 /// Whether the job on the store ends with this status and prints this; and what the store holds then.
-fn step(
-    rt: &HostRuntime,
+fn step<R: Threads + Wait + Sync>(
+    rt: &R,
+    alloc: Global,
     stored: Stored,
     job: &str,
     input: &[u8],
     status: u8,
     printed: &[u8],
 ) -> Result<Option<Stored>, AllocError> {
-    let Some(place) = place_over(rt.alloc(), stored, &[], &[])? else {
+    let Some(place) = place_over(alloc, stored, &[], &[])? else {
         return Ok(None);
     };
-    let ran = run(rt, place, &[job, "--store", "s"], input, &[], 10_000)?;
+    let ran = run(rt, alloc, place, &[job, "--store", "s"], input, &[], 10_000)?;
     if ran.status != status || ran.sink.bytes() != printed {
         return Ok(None);
     }
-    Ok(left_by(rt.alloc(), ran.place))
+    Ok(left_by(alloc, ran.place))
 }
 
 #[test]
@@ -109,7 +112,7 @@ fn a_store_is_filled_checked_and_written_out(rt: HostRuntime) {
     ];
     let mut stored = nothing(rt.alloc(), 0);
     for (job, input, printed) in steps {
-        match step(&rt, stored, job, input, 0, printed) {
+        match step(&rt, rt.alloc(), stored, job, input, 0, printed) {
             Ok(Some(left)) => stored = left,
             _ => {
                 assert!(rt; false);
@@ -174,12 +177,24 @@ fn well<'a>() -> Row<'a> {
 }
 
 /// Whether a run ends as its row says.
-fn ends(rt: &HostRuntime, row: &Row<'_>) -> Result<bool, AllocError> {
-    let stored = nothing(rt.alloc(), row.head);
-    let Some(place) = place_over(rt.alloc(), stored, row.calls, row.openings)? else {
+fn ends<R: Threads + Wait + Sync>(
+    rt: &R,
+    alloc: Global,
+    row: &Row<'_>,
+) -> Result<bool, AllocError> {
+    let stored = nothing(alloc, row.head);
+    let Some(place) = place_over(alloc, stored, row.calls, row.openings)? else {
         return Ok(false);
     };
-    let ran = run(rt, place, row.words, row.input, row.reads, row.capacity)?;
+    let ran = run(
+        rt,
+        alloc,
+        place,
+        row.words,
+        row.input,
+        row.reads,
+        row.capacity,
+    )?;
     Ok(ran.status == row.status && ran.sink.bytes() == row.printed)
 }
 
@@ -220,7 +235,7 @@ fn rows_that_are_refused(rt: HostRuntime) {
             printed,
             ..well()
         };
-        assert!(rt; ends(&rt, &row) == Ok(true));
+        assert!(rt; ends(&rt, rt.alloc(), &row) == Ok(true));
     }
 }
 
@@ -276,7 +291,7 @@ fn devices_that_fail(rt: HostRuntime) {
             printed,
             ..well()
         };
-        assert!(rt; ends(&rt, &row) == Ok(true));
+        assert!(rt; ends(&rt, rt.alloc(), &row) == Ok(true));
     }
 }
 
@@ -299,18 +314,22 @@ fn words_of_jobs(rt: HostRuntime) {
             printed,
             ..well()
         };
-        assert!(rt; ends(&rt, &row) == Ok(true));
+        assert!(rt; ends(&rt, rt.alloc(), &row) == Ok(true));
     }
 }
 
 /// What is left of an import whose `apply` fails: the head, and whether the first row is there.
-fn left_after(rt: &HostRuntime, kept: bool) -> Result<Option<(u64, bool)>, AllocError> {
-    let alloc = rt.alloc();
+fn left_after<R: Threads + Wait + Sync>(
+    rt: &R,
+    alloc: Global,
+    kept: bool,
+) -> Result<Option<(u64, bool)>, AllocError> {
+    let alloc = alloc;
     let fails = [Fail { call: 2, kept }];
     let Some(place) = place_over(alloc, nothing(alloc, 0), &fails, &[])? else {
         return Ok(None);
     };
-    let ran = run(rt, place, IMPORT, STARTER, &[], 100)?;
+    let ran = run(rt, alloc, place, IMPORT, STARTER, &[], 100)?;
     match left_by(alloc, ran.place) {
         Some(left) => Ok(Some((left.head, left.rows.get(Cell::Site).is_some()))),
         None => Ok(None),
@@ -319,6 +338,6 @@ fn left_after(rt: &HostRuntime, kept: bool) -> Result<Option<(u64, bool)>, Alloc
 
 #[test]
 fn all_or_nothing_is_kept(rt: HostRuntime) {
-    assert!(rt; left_after(&rt, false) == Ok(Some((0, false))));
-    assert!(rt; left_after(&rt, true) == Ok(Some((1, true))));
+    assert!(rt; left_after(&rt, rt.alloc(), false) == Ok(Some((0, false))));
+    assert!(rt; left_after(&rt, rt.alloc(), true) == Ok(Some((1, true))));
 }

@@ -4,6 +4,8 @@ use site_cli::{MemoryFile, MemoryPlace, Place, run_site};
 use site_files::STARTER;
 use site_io::{Clock, Entropy, MemorySink, MemorySource};
 use std::alloc::{AllocError, Global};
+use std::sync::Wait;
+use std::thread::Threads;
 
 const FIRST: &[u8] = b"GET /node/1 HTTP/1.1\r\nHost: a\r\n\r\n";
 
@@ -40,15 +42,15 @@ fn place_with(
 
 // The status of the program at this place, on these words and this input, and what it writes, where the sink holds so
 // many bytes and the reads of these numbers fail.
-fn ran(
-    rt: &HostRuntime,
+fn ran<R: Threads + Wait + Sync>(
+    rt: &R,
+    alloc: Global,
     at: MemoryPlace,
     words: &[&str],
     input: &[u8],
     capacity: usize,
     failing: &[u64],
 ) -> Result<(u8, MemorySink), AllocError> {
-    let alloc = rt.alloc();
     let mut given = Vec::new(alloc);
     for word in words {
         given.push(String::from_str(alloc, word)?)?;
@@ -64,8 +66,9 @@ fn ran(
 
 // Whether the program on these words and this input ends with this status, and writes so many bytes, over a place with
 // the file of a new site, where the sink has so much room and the reads of these numbers fail.
-fn ends(
-    rt: &HostRuntime,
+fn ends<R: Threads + Wait + Sync>(
+    rt: &R,
+    alloc: Global,
     words: &[&str],
     input: &[u8],
     capacity: usize,
@@ -73,8 +76,8 @@ fn ends(
     status: u8,
     length: usize,
 ) -> Result<bool, AllocError> {
-    let place = place_with(rt.alloc(), STARTER, &[], &[])?;
-    let (ended, sink) = ran(rt, place, words, input, capacity, failing)?;
+    let place = place_with(alloc, STARTER, &[], &[])?;
+    let (ended, sink) = ran(rt, alloc, place, words, input, capacity, failing)?;
     Ok(ended == status && sink.bytes().len() == length)
 }
 
@@ -91,7 +94,16 @@ fn connections_of_the_program(rt: HostRuntime) {
         (TWICE, 1000, &[6], 5, 710),
     ];
     for (input, capacity, failing, status, length) in cases {
-        let ended = ends(&rt, &["replay"], input, capacity, failing, status, length);
+        let ended = ends(
+            &rt,
+            rt.alloc(),
+            &["replay"],
+            input,
+            capacity,
+            failing,
+            status,
+            length,
+        );
         assert!(rt; ended == Ok(true));
     }
 }
@@ -110,7 +122,7 @@ fn words_that_name_no_job(rt: HostRuntime) {
         (&["replay", "-x"], 1000, 51),
     ];
     for (words, capacity, length) in cases {
-        assert!(rt; ends(&rt, words, FIRST, capacity, &[], 2, length) == Ok(true));
+        assert!(rt; ends(&rt, rt.alloc(), words, FIRST, capacity, &[], 2, length) == Ok(true));
     }
 }
 
@@ -123,22 +135,23 @@ fn words_that_name_a_file(rt: HostRuntime) {
         (&["replay", "replay"], 7, 0),
     ];
     for (words, status, length) in cases {
-        assert!(rt; ends(&rt, words, FIRST, 1000, &[], status, length) == Ok(true));
+        assert!(rt; ends(&rt, rt.alloc(), words, FIRST, 1000, &[], status, length) == Ok(true));
     }
 }
 
 // Whether the program on a file of these bytes, whose reads and openings of these numbers fail, ends with this status,
 // and prints this.
-fn reads(
-    rt: &HostRuntime,
+fn reads<R: Threads + Wait + Sync>(
+    rt: &R,
+    alloc: Global,
     bytes: &[u8],
     failing: &[u64],
     openings: &[u64],
     status: u8,
     printed: &[u8],
 ) -> Result<bool, AllocError> {
-    let place = place_with(rt.alloc(), bytes, failing, openings)?;
-    let (ended, sink) = ran(rt, place, &["replay", "rows"], b"", 1000, &[])?;
+    let place = place_with(alloc, bytes, failing, openings)?;
+    let (ended, sink) = ran(rt, alloc, place, &["replay", "rows"], b"", 1000, &[])?;
     Ok(ended == status && sink.bytes() == printed)
 }
 
@@ -168,7 +181,7 @@ fn files_of_rows(rt: HostRuntime) {
         ),
     ];
     for (bytes, failing, openings, status, printed) in cases {
-        assert!(rt; reads(&rt, bytes, failing, openings, status, printed) == Ok(true));
+        assert!(rt; reads(&rt, rt.alloc(), bytes, failing, openings, status, printed) == Ok(true));
     }
 }
 

@@ -8,7 +8,7 @@ use Rattle.site_http.proofs.worker.work.Goals as goal
 pub connections-preserved : goal.connections-preserved
 connections-preserved g c =
     let before = c.connections.invariant in
-    let served = c.serve_connection-ended in
+    let served = c.serve_next-ended in
     let line : Line = record { left = g.D.In.Source.left c.in-Ok.source; written = g.D.Out.Sink.written c.in-Ok.sink } in
     let back : Back = record { line = record { left = g.D.In.Source.left served.new.source; written = g.D.Out.Sink.written served.new.sink }; end = served.result } in
     record {

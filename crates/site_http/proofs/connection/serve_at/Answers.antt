@@ -4,21 +4,9 @@ use Rattle.site_house.specs.History.{newest}
 use Rattle.site_house.specs.House.{history_of}
 use Rattle.site_http.specs.Connection.{Around, CountsReads, CountsWrites}
 use Rattle.site_io.proofs.Turns.{turn_same, turn_more}
-use Rattle.site_http.proofs.Progress.{Progress, begun, spent_at, starved_first}
+use Rattle.site_http.proofs.Progress.{Progress, begun, spent_at}
 use Rattle.site_http.proofs.Ends.{ended_in, goes_in}
-use Rattle.site_http.proofs.connection.serve_connection.Goals as goal
-
-pub returns-in_default-clause-connection : goal.returns-in_default-clause-connection
-returns-in_default-clause-connection g c =
-    let house = g.H.House.sees c.args.house.now in
-    let old : Around = record { left = g.S.Source.left c.args.source.now; out = record { given = g.C.Clock.given c.args.clock.now; words = g.E.Entropy.given c.args.entropy.now; points = g.G.Gate.reached c.args.gate.now; written = g.O.Sink.written c.args.sink.now; handed = house.handed; keepers = house.keepers } } in
-    starved_first old (history_of house) 1000
-
-pub returns-in_default-new-clause-connection : goal.returns-in_default-new-clause-connection
-returns-in_default-new-clause-connection g c =
-    let house = g.H.House.sees c.args.house.now in
-    let old : Around = record { left = g.S.Source.left c.args.source.now; out = record { given = g.C.Clock.given c.args.clock.now; words = g.E.Entropy.given c.args.entropy.now; points = g.G.Gate.reached c.args.gate.now; written = g.O.Sink.written c.args.sink.now; handed = house.handed; keepers = house.keepers } } in
-    starved_first old (history_of house) 1000
+use Rattle.site_http.proofs.connection.serve_at.Goals as goal
 
 pub returns-in-Some-clause-moves : goal.returns-in-Some-clause-moves
 returns-in-Some-clause-moves g c = moves_on c.requests.invariant.moves c.in-Some.ensures.moves
@@ -29,7 +17,7 @@ requests-init g c =
     let old : Around = record { left = g.S.Source.left c.args.source.now; out = record { given = g.C.Clock.given c.args.clock.now; words = g.E.Entropy.given c.args.entropy.now; points = g.G.Gate.reached c.args.gate.now; written = g.O.Sink.written c.args.sink.now; handed = house.handed; keepers = house.keepers } } in
     record {
       moves = moves_same house;
-      progress = subst (λ (b : List ℕ). Progress old old (history_of house) 1000 (newest (history_of house)) 0 (newest (history_of house)) b) (sym c.in-Ok.ensures) (begun old (history_of house) 1000);
+      progress = subst (λ (b : List ℕ). Progress old old (history_of house) 1000 (newest (history_of house)) 0 (newest (history_of house)) b) (sym c.clear.ensures) (begun old (history_of house) 1000);
       moments = turn_same (g.C.Clock.moments c.args.clock.now) (g.C.Clock.given c.args.clock.now);
       words = turn_same (g.E.Entropy.words c.args.entropy.now) (g.E.Entropy.given c.args.entropy.now);
       reading = refl;
@@ -51,12 +39,12 @@ returns-in-Some-clause-writes g c =
 
 pub requests-preserved : goal.requests-preserved
 requests-preserved g c = record {
-  moves = moves_on c.requests.invariant.moves c.in_default-turn.ensures.moves;
-  progress = goes_in {house = g.H.House.sees c.requests.house} {house' = g.H.House.sees c.turn.new.house} c.turn.new.inbox (omega arith) c.in_default-turn.ensures.moves c.requests.invariant.progress c.in_default-turn.ensures.turned;
-  moments = turn_more c.requests.invariant.moments c.in_default-turn.ensures.moments;
-  words = turn_more c.requests.invariant.words c.in_default-turn.ensures.words;
-  reading = c.in_default-turn.ensures.reads ∙ c.requests.invariant.reading;
-  writing = c.in_default-turn.ensures.writes ∙ c.requests.invariant.writing;
+  moves = moves_on c.requests.invariant.moves c.in_default.ensures.moves;
+  progress = goes_in {house = g.H.House.sees c.requests.house} {house' = g.H.House.sees c.turn.new.house} c.turn.new.inbox (omega arith) c.in_default.ensures.moves c.requests.invariant.progress c.in_default.ensures.turned;
+  moments = turn_more c.requests.invariant.moments c.in_default.ensures.moments;
+  words = turn_more c.requests.invariant.words c.in_default.ensures.words;
+  reading = c.in_default.ensures.reads ∙ c.requests.invariant.reading;
+  writing = c.in_default.ensures.writes ∙ c.requests.invariant.writing;
 }
 
 pub returns-clause-connection : goal.returns-clause-connection

@@ -3,7 +3,7 @@ use Rattle.site_house.specs.House.{Moves, history_of}
 use Rattle.site_io.specs.Series.{GivesInTurn, last_moment, last_word}
 use Rattle.site_house.specs.History.{newest}
 use Rattle.site_http.proofs.Progress.{Progress}
-use Rattle.site_http.proofs.connection.serve_connection.Given as goal
+use Rattle.site_http.proofs.connection.serve_at.Given as goal
 
 abbrev pub invariant-requests : goal.invariant-requests
 invariant-requests g l = record {

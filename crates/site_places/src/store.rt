@@ -1,0 +1,57 @@
+//! The store of the real program.
+ghost use Rattle.std.specs.Prelude.{◌≡◌};
+
+use keeper_sqlite::FileKeeper;
+use site_keeper::{Batch, Keeper, KeeperFault, Stored};
+use std::alloc::Global;
+use std::marker::Model;
+
+/// A keeper over a file, whose type has no parameters: what a file and a database are made of stays here, and a program over it
+/// is checked without them.
+#[derive(Drop)]
+pub struct StoreFile {
+    keeper: FileKeeper,
+}
+
+impl Model for StoreFile {
+    ghost use Rattle.std.specs.Prelude.{ℕ};
+
+    ghost Value = { ℕ };
+
+    ghost view = { λ s. s.keeper };
+}
+
+impl StoreFile {
+    /// The same keeper.
+    pub fn new(keeper: FileKeeper) -> StoreFile
+        ensures { result ≡ keeper }
+    {
+        StoreFile { keeper }
+    }
+}
+
+impl Keeper for StoreFile {
+    ghost use Rattle.std.specs.Prelude.{None, false};
+
+    ghost kept = { λ s. None };
+
+    ghost faults = { λ s. s };
+
+    ghost steadfast = { λ s. false };
+
+    fn load(&mut self, alloc: Global) -> Result<Stored, KeeperFault> {
+        self.keeper.load(alloc)
+    }
+
+    fn apply(&mut self, alloc: Global, batch: &Batch) -> Result<(), KeeperFault> {
+        self.keeper.apply(alloc, batch)
+    }
+
+    fn head(&mut self, alloc: Global) -> Result<u64, KeeperFault> {
+        self.keeper.head(alloc)
+    }
+
+    fn faults(&self) -> u64 {
+        self.keeper.faults()
+    }
+}
