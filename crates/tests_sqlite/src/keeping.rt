@@ -1,31 +1,18 @@
-//! What a keeper over a database holds, and which rows of its tables it refuses.
+//! What a keeper over a database holds, which rows of its tables it refuses, and that it goes on after a fault.
 
-use crate::batches::{FIRST, NOTHING, SECOND, Seen, first, held_by, second};
-use keeper_sqlite::{open_keeper, over};
-use site_keeper::{Batch, Keeper, KeeperFault};
-use sqlite::{Connection, Error, MemStore};
+use crate::batches::{
+    BEGIN, BEGUN, EDIT, EDITED, GONE_ON, LAST, NOTHING, Seen, Words, batch_of, held_by,
+};
+use keeper_sqlite::{NoKeeper, SqliteKeeper, open_keeper, over};
+use site_keeper::{Keeper, KeeperFault};
+use sqlite::{Alter, Connection, Error, MemStore};
 use std::alloc::Global;
 use std::fs;
 use std::test::Fail;
 
-fn sendable<T: Send>(_: &T) {}
-
-/// A new store holds nothing; then it holds what the batches make.
-#[test]
-fn batches_are_kept(rt: HostRuntime) -> Result<(), Fail> {
-    let alloc = rt.alloc();
-    let mut keeper = over(Connection::open_in_memory(alloc)?)?;
-    sendable(&keeper);
-    assert_eq!(rt; held_by(alloc, &mut keeper), Ok(NOTHING));
-    assert_eq!(rt; keeper.head(alloc), Ok(0));
-    assert_eq!(rt; keeper.apply(alloc, &first(alloc)?), Ok(()));
-    assert_eq!(rt; held_by(alloc, &mut keeper), Ok(FIRST));
-    assert_eq!(rt; keeper.head(alloc), Ok(7));
-    assert_eq!(rt; keeper.apply(alloc, &second(alloc)?), Ok(()));
-    assert_eq!(rt; held_by(alloc, &mut keeper), Ok(SECOND));
-    assert_eq!(rt; keeper.faults(), 0);
-    Ok(())
-}
+/// The two tables.
+const TABLES: &str =
+    "CREATE TABLE cell_row(cell TEXT PRIMARY KEY, body TEXT NOT NULL); CREATE TABLE cachetags(tag TEXT PRIMARY KEY, invalidations BLOB NOT NULL)";
 
 /// A store that has these rows too is loaded as that.
 const BROKEN: [(&str, Result<u64, KeeperFault>); 11] = [
@@ -72,66 +59,116 @@ const BROKEN: [(&str, Result<u64, KeeperFault>); 11] = [
     ),
 ];
 
-/// The head of a store with one more row, and how often its keeper has failed then.
-fn head_with(alloc: Global, row: &str) -> Result<(Result<u64, KeeperFault>, u64), Error> {
+/// Tables that refuse a row of `EDIT`: its first write, a count, and the head.
+const REFUSING: [&str; 3] = [
+    "CREATE TABLE cell_row(cell TEXT PRIMARY KEY, body TEXT NOT NULL CHECK (cell <> 'node:1' OR body LIKE '%First%')); CREATE TABLE cachetags(tag TEXT PRIMARY KEY, invalidations BLOB NOT NULL)",
+    "CREATE TABLE cell_row(cell TEXT PRIMARY KEY, body TEXT NOT NULL); CREATE TABLE cachetags(tag TEXT PRIMARY KEY, invalidations BLOB NOT NULL CHECK (invalidations <> x'0000000000000003'))",
+    "CREATE TABLE cell_row(cell TEXT PRIMARY KEY, body TEXT NOT NULL CHECK (body <> '18446744073709551615')); CREATE TABLE cachetags(tag TEXT PRIMARY KEY, invalidations BLOB NOT NULL)",
+];
+
+/// A database in memory after these statements.
+fn database(alloc: Global, statements: &[&str]) -> Result<Connection<MemStore>, Error> {
     let mut conn = Connection::open_in_memory(alloc)?;
-    conn.execute_batch(
-        "CREATE TABLE cell_row(cell TEXT PRIMARY KEY, body TEXT NOT NULL); CREATE TABLE cachetags(tag TEXT PRIMARY KEY, invalidations BLOB NOT NULL)",
-    )?;
-    conn.execute(row, &[])?;
-    Ok(loaded(alloc, conn))
+    for statement in statements {
+        conn.execute_batch(statement)?;
+    }
+    Ok(conn)
 }
 
 /// The head that a store is loaded with, and how often its keeper has failed then.
-fn loaded(alloc: Global, conn: Connection<MemStore>) -> (Result<u64, KeeperFault>, u64) {
-    match over(conn) {
-        Ok(mut keeper) => {
-            let head = head_of(held_by(alloc, &mut keeper));
-            (head, keeper.faults())
-        }
-        Err(_) => (Err(KeeperFault::OutOfMemory), 0),
-    }
-}
-
-fn head_of(seen: Result<Seen, KeeperFault>) -> Result<u64, KeeperFault> {
-    match seen {
+fn loaded<S: Alter + Drop>(
+    alloc: Global,
+    mut keeper: SqliteKeeper<S>,
+) -> (Result<u64, KeeperFault>, u64) {
+    let head = match held_by(alloc, &mut keeper) {
         Ok(seen) => Ok(seen.head),
         Err(fault) => Err(fault),
-    }
+    };
+    (head, keeper.faults())
 }
 
 #[test]
 fn broken_rows_are_faults(rt: HostRuntime) -> Result<(), Fail> {
     for (row, want) in BROKEN {
-        let (head, faults) = head_with(rt.alloc(), row)?;
+        let keeper = over(database(rt.alloc(), &[TABLES, row])?)?;
+        let (head, faults) = loaded(rt.alloc(), keeper);
         assert_eq!(rt; head, want, "{row}");
         assert_eq!(rt; faults, u64::from(want.is_err()), "{row}");
     }
     Ok(())
 }
 
-/// What a file holds, and what it holds once a batch is kept.
-fn kept(rt: &HostRuntime, path: &str, batch: &Batch) -> Result<(Seen, Seen), KeeperFault> {
-    let Ok(mut keeper) = open_keeper(rt, path) else {
-        return Err(KeeperFault::Failed);
+/// What a keeper holds once a batch is kept.
+fn kept_by<S: Alter + Drop>(
+    alloc: Global,
+    keeper: &mut SqliteKeeper<S>,
+    words: &Words,
+) -> Result<Seen, KeeperFault> {
+    let Some(batch) = batch_of(alloc, words) else {
+        return Err(KeeperFault::OutOfMemory);
     };
-    sendable(&keeper);
-    let before = held_by(rt.alloc(), &mut keeper)?;
-    keeper.apply(rt.alloc(), batch)?;
-    let after = held_by(rt.alloc(), &mut keeper)?;
-    Ok((before, after))
+    let kept = keeper.apply(alloc, &batch);
+    drop(batch);
+    match kept {
+        Ok(()) => held_by(alloc, keeper),
+        Err(fault) => Err(fault),
+    }
+}
+
+/// What a keeper tells of three batches, and how often it has failed then.
+fn told_of_three<S: Alter + Drop>(
+    alloc: Global,
+    mut keeper: SqliteKeeper<S>,
+) -> ([Result<Seen, KeeperFault>; 3], u64) {
+    let first = kept_by(alloc, &mut keeper, &BEGIN);
+    let second = kept_by(alloc, &mut keeper, &EDIT);
+    let third = kept_by(alloc, &mut keeper, &LAST);
+    ([first, second, third], keeper.faults())
+}
+
+/// Of a batch that is refused at some statement nothing is kept, and the next one is.
+#[test]
+fn a_keeper_goes_on_after_a_fault(rt: HostRuntime) -> Result<(), Fail> {
+    for tables in REFUSING {
+        let keeper = over(database(rt.alloc(), &[tables])?)?;
+        let (told, faults) = told_of_three(rt.alloc(), keeper);
+        let wanted = [Ok(BEGUN), Err(KeeperFault::Failed), Ok(GONE_ON)];
+        assert!(rt; told == wanted, "{tables}");
+        assert_eq!(rt; faults, 1, "{tables}");
+    }
+    Ok(())
+}
+
+/// What a keeper holds, if there is one, and what it holds once a batch is kept.
+fn kept_in<S: Alter + Drop>(
+    alloc: Global,
+    keeper: Result<SqliteKeeper<S>, NoKeeper>,
+    words: &Words,
+) -> [Result<Seen, KeeperFault>; 2] {
+    match keeper {
+        Ok(mut keeper) => {
+            let before = held_by(alloc, &mut keeper);
+            let after = kept_by(alloc, &mut keeper, words);
+            [before, after]
+        }
+        Err(_) => [Err(KeeperFault::Failed), Err(KeeperFault::Failed)],
+    }
+}
+
+/// The same of a file.
+fn kept_at(rt: &HostRuntime, path: &str, words: &Words) -> [Result<Seen, KeeperFault>; 2] {
+    kept_in(rt.alloc(), open_keeper(rt, path), words)
 }
 
 /// A file that is opened again holds what was kept. A file that cannot be made is refused.
 #[test]
 fn a_file_is_opened_again(rt: HostRuntime) -> Result<(), Fail> {
     let path = "kept.db";
-    let first = first(rt.alloc())?;
-    let second = second(rt.alloc())?;
-    assert_eq!(rt; kept(&rt, path, &first), Ok((NOTHING, FIRST)));
-    assert_eq!(rt; kept(&rt, path, &second), Ok((FIRST, SECOND)));
+    let refused = Err(KeeperFault::Failed);
+    assert!(rt; kept_at(&rt, path, &BEGIN) == [Ok(NOTHING), Ok(BEGUN)]);
+    assert!(rt; kept_at(&rt, path, &EDIT) == [Ok(BEGUN), Ok(EDITED)]);
     fs::remove_file(&rt, path)?;
     fs::remove_file(&rt, "kept.db-wal")?;
-    assert!(rt; kept(&rt, "no folder/kept.db", &first).is_err());
+    assert!(rt; kept_at(&rt, "no folder/kept.db", &BEGIN) == [refused, refused]);
     Ok(())
 }

@@ -7,3 +7,5 @@ mod batches;
 mod crashes;
 #[cfg(test)]
 mod keeping;
+#[cfg(test)]
+mod written;
