@@ -1,0 +1,88 @@
+//! Devices in memory, as a case sets them.
+
+use case_files::{Section, number, numbers};
+use site_io::{MemorySink, MemorySource};
+use std::alloc::{AllocError, Global};
+
+/// What comes in, how much comes or goes at once, and which calls fail.
+#[derive(Drop)]
+pub struct Devices {
+    pub input: Vec<u8>,
+    pub callers: Vec<Vec<u8>>,
+    piece: u64,
+    reads: Vec<u64>,
+    room: u64,
+    writes: Vec<u64>,
+}
+
+impl Devices {
+    /// Nothing comes in: it would in pieces of 64 bytes. There is room for 400,000 of output, and no call fails.
+    pub fn new(alloc: Global) -> Devices {
+        Devices {
+            input: Vec::new(alloc),
+            callers: Vec::new(alloc),
+            piece: 64,
+            reads: Vec::new(alloc),
+            room: 400_000,
+            writes: Vec::new(alloc),
+        }
+    }
+
+    /// Sets what comes in. False where the word names something else.
+    fn set_input(&mut self, alloc: Global, word: &[u8], text: &[u8]) -> Result<bool, AllocError> {
+        match word {
+            b"input" => self.input = Vec::from_slice(alloc, text)?,
+            b"caller" => self.callers.push(Vec::from_slice(alloc, text)?)?,
+            _ => return Ok(false),
+        }
+        Ok(true)
+    }
+
+    /// Sets a number. False where the word names none.
+    fn set_number(&mut self, word: &[u8], number: u64) -> bool {
+        match word {
+            b"piece" => self.piece = number,
+            b"room" => self.room = number,
+            _ => return false,
+        }
+        true
+    }
+
+    /// Sets which calls fail. False where the word names none.
+    fn set_failing(&mut self, alloc: Global, word: &[u8], text: &[u8]) -> Result<bool, AllocError> {
+        match word {
+            b"reads" => self.reads = numbers(alloc, text)?,
+            b"writes" => self.writes = numbers(alloc, text)?,
+            _ => return Ok(false),
+        }
+        Ok(true)
+    }
+
+    /// Sets what a section says. False where it says something else.
+    pub fn set(&mut self, alloc: Global, section: &Section) -> Result<bool, AllocError> {
+        let word = section.word.as_slice();
+        let rest = section.rest.as_slice();
+        let first = number(rest).unwrap_or(0);
+        if self.set_number(word, first) {
+            return Ok(true);
+        }
+        if self.set_failing(alloc, word, rest)? {
+            return Ok(true);
+        }
+        self.set_input(alloc, word, section.text.as_slice())
+    }
+
+    /// A source of this input.
+    pub fn source(&self, alloc: Global, input: &[u8]) -> Result<MemorySource, AllocError> {
+        let reads = Vec::from_slice(alloc, self.reads.as_slice())?;
+        let piece = usize::try_from(self.piece).unwrap_or(1);
+        Ok(MemorySource::new(Vec::from_slice(alloc, input)?, piece).failing_at(reads))
+    }
+
+    /// Where to is written.
+    pub fn sink(&self, alloc: Global) -> Result<MemorySink, AllocError> {
+        let writes = Vec::from_slice(alloc, self.writes.as_slice())?;
+        let room = usize::try_from(self.room).unwrap_or(0);
+        Ok(MemorySink::new(alloc, room)?.failing_at(writes))
+    }
+}

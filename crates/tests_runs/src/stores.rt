@@ -1,0 +1,46 @@
+//! What a keeper holds, from the rows of a text, and as text.
+
+use cacheability::Tag;
+use case_files::number;
+use site_files::read_rows;
+use site_io::MemorySource;
+use site_keeper::Stored;
+use std::alloc::{AllocError, Global};
+use tag_counts::Counts;
+
+/// The rows of a text, without counts. None where they are no rows.
+pub fn stored_of(alloc: Global, text: &[u8]) -> Result<Option<Stored>, AllocError> {
+    let mut source = MemorySource::new(Vec::from_slice(alloc, text)?, 4096);
+    match read_rows(alloc, &mut source) {
+        Ok(rows) => Ok(Some(Stored {
+            rows,
+            counts: Counts::new(alloc),
+            head: 0,
+        })),
+        Err(_) => Ok(None),
+    }
+}
+
+/// Makes the count of a node's tag the greatest there is. False where the word is no such tag.
+pub fn fill(stored: &mut Stored, word: &[u8]) -> Result<bool, AllocError> {
+    let Some(digits) = word.strip_prefix(b"node:") else {
+        return Ok(false);
+    };
+    match u32::try_from(number(digits).unwrap_or(u64::MAX)) {
+        Ok(node) => {
+            stored.counts.set(&Tag::Node(node), u64::MAX)?;
+            Ok(true)
+        }
+        Err(_) => Ok(false),
+    }
+}
+
+/// The cells that have rows, one a line.
+pub fn cells_text(alloc: Global, stored: &Stored) -> Result<Vec<u8>, AllocError> {
+    let mut text = Vec::new(alloc);
+    for (cell, _) in stored.rows.iter() {
+        text.extend_from_slice(cell.text(alloc)?.as_slice())?;
+        text.push(b'\n')?;
+    }
+    Ok(text)
+}
