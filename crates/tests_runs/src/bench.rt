@@ -1,109 +1,135 @@
 //! A case, section by section.
 
-use crate::acts::{connect, open_hall, run_program, series, work_at};
-use crate::around::Around;
-use crate::devices::Devices;
-use crate::seen::{Seen, decimal};
-use crate::stores::cells_text;
-use case_files::{Found, Section, number};
+use crate::run::{Ran, run};
+use crate::stores::{cells_text, fill, stored_of};
+use case_files::{Found, Section, finds, number};
+use site_keeper::Stored;
 use std::alloc::{AllocError, Global};
 use std::sync::Wait;
+use std::thread::Threads;
 
-/// What a case has set so far, and what is seen of its last act.
+/// What is stored, and what the last run of a case wrote.
 #[derive(Drop)]
 pub struct Bench {
     alloc: Global,
-    around: Around,
-    devices: Devices,
-    seen: Seen,
+    stored: Option<Stored>,
+    status: u8,
+    output: Vec<u8>,
+    /// How much of the output the pieces that were found take.
+    passed: usize,
+}
+
+/// Whether a section with this word sets something for the runs after it.
+fn is_setting(word: &[u8]) -> bool {
+    matches!(
+        word,
+        b"file" | b"keeper" | b"openings" | b"moments" | b"chance" | b"port" | b"input" | b"piece"
+            | b"reads" | b"room" | b"writes"
+    )
+}
+
+/// A number as text.
+fn decimal(alloc: Global, number: u64) -> Result<Vec<u8>, AllocError> {
+    Ok(number.to_string(alloc)?.into_bytes())
+}
+
+/// Sets the number of what is stored, or a count.
+fn set_stored(stored: &mut Stored, section: &Section) -> Result<Found, AllocError> {
+    let rest = section.rest.as_slice();
+    if section.word.as_slice() == b"number".as_slice() {
+        stored.head = number(rest).unwrap_or(0);
+        Ok(Found::Set)
+    } else if fill(stored, rest)? {
+        Ok(Found::Set)
+    } else {
+        Ok(Found::Wrong("no such node"))
+    }
+}
+
+/// What of what is stored a section is compared with.
+fn look_at_stored(alloc: Global, stored: &Stored, word: &[u8]) -> Result<Found, AllocError> {
+    match word {
+        b"left" => Ok(Found::Rest(decimal(alloc, stored.head)?)),
+        b"cells" => Ok(Found::Text(cells_text(alloc, stored)?)),
+        _ => Ok(Found::Wrong("no such section")),
+    }
 }
 
 impl Bench {
-    /// Nothing is set or done.
+    /// Nothing is stored, and nothing ran yet.
     pub fn new(alloc: Global) -> Bench {
         Bench {
             alloc,
-            around: Around::new(alloc),
-            devices: Devices::new(alloc),
-            seen: Seen::new(alloc),
+            stored: None,
+            status: 0,
+            output: Vec::new(alloc),
+            passed: 0,
         }
     }
 
-    /// Takes the next section.
-    pub fn take<W: Wait>(
+    /// Takes the next section, after those that were before it.
+    pub fn take<R: Threads + Wait + Sync>(
         &mut self,
-        rt: &HostRuntime,
-        waits: &W,
+        rt: &R,
+        set: &[Section],
         section: &Section,
     ) -> Result<Found, AllocError> {
-        if let Some(found) = self.set(section)? {
-            return Ok(found);
-        }
-        if let Some(seen) = self.act(rt, waits, section)? {
-            self.seen = seen;
-            return Ok(Found::Set);
-        }
-        if let Some(found) = self.seen.look(self.alloc, section)? {
-            return Ok(found);
-        }
-        self.look_at_end(section.word.as_slice())
-    }
-
-    /// Sets what the section says. None where it sets nothing.
-    fn set(&mut self, section: &Section) -> Result<Option<Found>, AllocError> {
-        let alloc = self.alloc;
-        if self.devices.set(alloc, section)? {
-            return Ok(Some(Found::Set));
-        }
-        if let Some(found) = self.around.set_held(alloc, section)? {
-            return Ok(Some(found));
-        }
-        if let Some(found) = self.around.set_place(alloc, section)? {
-            return Ok(Some(found));
-        }
-        self.around.set_stored(section)
-    }
-
-    /// Does what the section says. None where it does nothing.
-    fn act<W: Wait>(
-        &mut self,
-        rt: &HostRuntime,
-        waits: &W,
-        section: &Section,
-    ) -> Result<Option<Seen>, AllocError> {
-        let alloc = self.alloc;
-        let rest = section.rest.as_slice();
-        let seen = match section.word.as_slice() {
-            b"run" => run_program(rt, alloc, &mut self.around, &self.devices, rest)?,
-            b"connect" => connect(rt, alloc, &self.around, &self.devices)?,
-            b"work" => {
-                let leave = number(rest).unwrap_or(0);
-                work_at(waits, alloc, &self.around, &self.devices, leave)?
+        match section.word.as_slice() {
+            b"run" => {
+                let ran = run(rt, self.alloc, set, &self.stored, section.rest.as_slice())?;
+                self.keep(ran);
+                Ok(Found::Set)
             }
-            b"open" => open_hall(alloc, &self.around)?,
-            b"series" => series(alloc, &self.around)?,
-            _ => return Ok(None),
-        };
-        Ok(Some(seen))
-    }
-
-    /// How the last act ended, and what is stored then.
-    fn look_at_end(&self, word: &[u8]) -> Result<Found, AllocError> {
-        match self.seen.look_at_end(self.alloc, word)? {
-            Some(found) => Ok(found),
-            None => self.look_at_stored(word),
+            b"store" => {
+                self.stored = stored_of(self.alloc, section.text.as_slice())?;
+                Ok(Found::Set)
+            }
+            word if is_setting(word) => Ok(Found::Set),
+            _ => self.look(section),
         }
     }
 
-    /// What is stored.
-    fn look_at_stored(&self, word: &[u8]) -> Result<Found, AllocError> {
-        let Some(stored) = &self.around.stored else {
+    /// Keeps what a run left.
+    fn keep(&mut self, ran: Ran) {
+        let Ran {
+            status,
+            output,
+            stored,
+        } = ran;
+        self.status = status;
+        self.output = output;
+        self.passed = 0;
+        if stored.is_some() {
+            self.stored = stored;
+        }
+    }
+
+    /// What a section is compared with.
+    fn look(&mut self, section: &Section) -> Result<Found, AllocError> {
+        let alloc = self.alloc;
+        let output = self.output.as_slice();
+        match section.word.as_slice() {
+            b"status" => Ok(Found::Rest(decimal(alloc, u64::from(self.status))?)),
+            b"output" => Ok(Found::Text(Vec::from_slice(alloc, output)?)),
+            b"begins" => Ok(Found::Front(Vec::from_slice(alloc, output)?)),
+            b"length" => Ok(Found::Rest(decimal(alloc, output.len() as u64)?)),
+            b"has" => {
+                let piece = section.text.as_slice();
+                Ok(Found::Piece(finds(output, &mut self.passed, piece)))
+            }
+            _ => self.look_inside(section),
+        }
+    }
+
+    /// What is stored, as a section sets it or is compared with it.
+    fn look_inside(&mut self, section: &Section) -> Result<Found, AllocError> {
+        let alloc = self.alloc;
+        let Some(stored) = &mut self.stored else {
             return Ok(Found::Wrong("no such section, or nothing is stored"));
         };
-        match word {
-            b"left" => Ok(Found::Rest(decimal(self.alloc, stored.head)?)),
-            b"cells" => Ok(Found::Text(cells_text(self.alloc, stored)?)),
-            _ => Ok(Found::Wrong("no such section")),
+        match section.word.as_slice() {
+            b"number" | b"full" => set_stored(stored, section),
+            word => look_at_stored(alloc, stored, word),
         }
     }
 }

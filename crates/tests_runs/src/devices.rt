@@ -1,88 +1,44 @@
-//! Devices in memory, as a case sets them.
+//! What the sections of a case set, and devices in memory that are as they say.
 
 use case_files::{Section, number, numbers};
 use site_io::{MemorySink, MemorySource};
 use std::alloc::{AllocError, Global};
 
-/// What comes in, how much comes or goes at once, and which calls fail.
-#[derive(Drop)]
-pub struct Devices {
-    pub input: Vec<u8>,
-    pub callers: Vec<Vec<u8>>,
-    piece: u64,
-    reads: Vec<u64>,
-    room: u64,
-    writes: Vec<u64>,
+/// The last section with that word, if there is one.
+pub fn last<'a>(set: &'a [Section], word: &[u8]) -> Option<&'a Section> {
+    set.iter()
+        .rev()
+        .find(|section| section.word.as_slice() == word)
 }
 
-impl Devices {
-    /// Nothing comes in: it would in pieces of 64 bytes. There is room for 400,000 of output, and no call fails.
-    pub fn new(alloc: Global) -> Devices {
-        Devices {
-            input: Vec::new(alloc),
-            callers: Vec::new(alloc),
-            piece: 64,
-            reads: Vec::new(alloc),
-            room: 400_000,
-            writes: Vec::new(alloc),
-        }
+/// The rest of the head of the last section with that word, empty where there is none.
+pub fn rest_of<'a>(set: &'a [Section], word: &[u8]) -> &'a [u8] {
+    match last(set, word) {
+        Some(section) => section.rest.as_slice(),
+        None => &[],
     }
+}
 
-    /// Sets what comes in. False where the word names something else.
-    fn set_input(&mut self, alloc: Global, word: &[u8], text: &[u8]) -> Result<bool, AllocError> {
-        match word {
-            b"input" => self.input = Vec::from_slice(alloc, text)?,
-            b"caller" => self.callers.push(Vec::from_slice(alloc, text)?)?,
-            _ => return Ok(false),
-        }
-        Ok(true)
-    }
+/// The number that was set last by that word, or another where none was.
+fn number_of(set: &[Section], word: &[u8], otherwise: u64) -> usize {
+    let number = number(rest_of(set, word)).unwrap_or(otherwise);
+    usize::try_from(number).unwrap_or(usize::MAX)
+}
 
-    /// Sets a number. False where the word names none.
-    fn set_number(&mut self, word: &[u8], number: u64) -> bool {
-        match word {
-            b"piece" => self.piece = number,
-            b"room" => self.room = number,
-            _ => return false,
-        }
-        true
-    }
+/// A source of this input, which comes in pieces of 64 bytes where nothing else is set.
+pub fn source(
+    alloc: Global,
+    set: &[Section],
+    input: &[u8],
+) -> Result<MemorySource, AllocError> {
+    let failing = numbers(alloc, rest_of(set, b"reads"))?;
+    let piece = number_of(set, b"piece", 64);
+    Ok(MemorySource::new(Vec::from_slice(alloc, input)?, piece).failing_at(failing))
+}
 
-    /// Sets which calls fail. False where the word names none.
-    fn set_failing(&mut self, alloc: Global, word: &[u8], text: &[u8]) -> Result<bool, AllocError> {
-        match word {
-            b"reads" => self.reads = numbers(alloc, text)?,
-            b"writes" => self.writes = numbers(alloc, text)?,
-            _ => return Ok(false),
-        }
-        Ok(true)
-    }
-
-    /// Sets what a section says. False where it says something else.
-    pub fn set(&mut self, alloc: Global, section: &Section) -> Result<bool, AllocError> {
-        let word = section.word.as_slice();
-        let rest = section.rest.as_slice();
-        let first = number(rest).unwrap_or(0);
-        if self.set_number(word, first) {
-            return Ok(true);
-        }
-        if self.set_failing(alloc, word, rest)? {
-            return Ok(true);
-        }
-        self.set_input(alloc, word, section.text.as_slice())
-    }
-
-    /// A source of this input.
-    pub fn source(&self, alloc: Global, input: &[u8]) -> Result<MemorySource, AllocError> {
-        let reads = Vec::from_slice(alloc, self.reads.as_slice())?;
-        let piece = usize::try_from(self.piece).unwrap_or(1);
-        Ok(MemorySource::new(Vec::from_slice(alloc, input)?, piece).failing_at(reads))
-    }
-
-    /// Where to is written.
-    pub fn sink(&self, alloc: Global) -> Result<MemorySink, AllocError> {
-        let writes = Vec::from_slice(alloc, self.writes.as_slice())?;
-        let room = usize::try_from(self.room).unwrap_or(0);
-        Ok(MemorySink::new(alloc, room)?.failing_at(writes))
-    }
+/// Where to is written, with room for 400,000 bytes where nothing else is set.
+pub fn sink(alloc: Global, set: &[Section]) -> Result<MemorySink, AllocError> {
+    let failing = numbers(alloc, rest_of(set, b"writes"))?;
+    let room = number_of(set, b"room", 400_000);
+    Ok(MemorySink::new(alloc, room)?.failing_at(failing))
 }

@@ -1,84 +1,95 @@
-//! Tests of whole runs of the program, of connections, workers and halls, by cases in files: each is run by public calls alone
-//! and compared with what its file says. docs/TESTS.md has the format.
+//! Tests of whole runs of the program, by cases in files: each is run by public calls alone and compared with what its file
+//! says. docs/TESTS.md has the format.
 #![tactic(auto)]
 
-mod acts;
-mod around;
 mod bench;
 mod devices;
-mod seen;
+mod place;
+mod run;
 mod stores;
 
 use bench::Bench;
 use case_files::{Case, Tally, Unread, read_cases};
 use site_files::STARTER;
+use std::alloc::{AllocError, Global};
 use std::sync::Wait;
+use std::thread::Threads;
 use std::{fs, io};
 
 /// The files of cases.
-const FILES: [&str; 9] = [
+const FILES: [&str; 8] = [
     "program.cases",
     "jobs.cases",
+    "serving.cases",
     "changes.cases",
     "connections.cases",
-    "halls.cases",
-    "workers.cases",
     "model_rows.cases",
     "model_pages.cases",
     "model_edits.cases",
 ];
 
-/// Prints bytes.
-fn print(rt: &HostRuntime, bytes: &[u8]) -> io::Result<()> {
-    let text = String::from_utf8_lossy(rt.alloc(), bytes)?;
-    print!(rt; "{text}")
-}
-
-/// Runs a case, and prints a line for each section of it that differs.
-fn run_case<W: Wait>(
-    rt: &HostRuntime,
-    waits: &W,
+/// Runs a case, and tells each section of it that differs, a line each.
+fn run_case<R: Threads + Wait + Sync>(
+    rt: &R,
+    alloc: Global,
     case: &Case,
     tally: &mut Tally,
-) -> io::Result<()> {
-    let alloc = rt.alloc();
+    told: &mut Vec<u8>,
+) -> Result<(), AllocError> {
     let mut bench = Bench::new(alloc);
-    tally.count_case();
-    for section in &case.sections {
-        let found = bench.take(rt, waits, section)?;
+    let sections = case.sections.as_slice();
+    for (at, section) in sections.iter().enumerate() {
+        let found = bench.take(rt, sections.get(..at).unwrap_or(&[]), section)?;
         if let Some(line) = tally.judge(alloc, case, section, &found)? {
-            print(rt, line.as_slice())?;
+            told.extend_from_slice(line.as_slice())?;
         }
     }
     Ok(())
 }
 
-/// Runs these cases, and prints how many of them agree.
-fn run_cases<W: Wait>(rt: &HostRuntime, waits: &W, name: &str, cases: &[Case]) -> io::Result<()> {
+/// Runs these cases, and tells those that differ, and how many agree.
+fn run_cases<R: Threads + Wait + Sync>(
+    rt: &R,
+    alloc: Global,
+    cases: &[Case],
+    told: &mut Vec<u8>,
+) -> Result<(), AllocError> {
     let mut tally = Tally::new();
     for case in cases {
-        run_case(rt, waits, case, &mut tally)?;
+        tally.count_case();
+        run_case(rt, alloc, case, &mut tally, told)?;
     }
-    let told = tally.told(rt.alloc())?;
-    println!(rt; "{name}: {told}")
+    told.extend_from_slice(tally.told(alloc)?.as_bytes())
 }
 
-/// Runs the cases of a file.
-fn run_file<W: Wait>(rt: &HostRuntime, waits: &W, name: &str) -> io::Result<()> {
-    let file = match fs::read(rt, name) {
-        Ok(file) => file,
-        Err(_) => return println!(rt; "{name}: no such file"),
-    };
-    match read_cases(rt.alloc(), file.as_slice(), STARTER) {
-        Ok(cases) => run_cases(rt, waits, name, cases.as_slice()),
-        Err(Unread::Line(number, why)) => println!(rt; "{name}: line {number}: {why}"),
-        Err(Unread::OutOfMemory) => println!(rt; "{name}: out of memory"),
+/// Runs the cases of a file, and answers what is told of them.
+fn run_file<R: Threads + Wait + Sync>(
+    rt: &R,
+    alloc: Global,
+    file: &[u8],
+) -> Result<Vec<u8>, AllocError> {
+    let mut told = Vec::new(alloc);
+    match read_cases(alloc, file, STARTER) {
+        Ok(cases) => run_cases(rt, alloc, cases.as_slice(), &mut told)?,
+        Err(Unread::Line(number, why)) => {
+            let line = format!(in alloc; "line {number}: {why}")?;
+            told.extend_from_slice(line.as_bytes())?;
+        }
+        Err(Unread::OutOfMemory) => return Err(AllocError),
     }
+    Ok(told)
 }
 
 fn main(rt: HostRuntime) -> io::Result<()> {
     for name in FILES {
-        run_file(&rt, &rt, name)?;
+        match fs::read(&rt, name) {
+            Ok(file) => {
+                let told = run_file(&rt, rt.alloc(), file.as_slice())?;
+                let text = String::from_utf8_lossy(rt.alloc(), told.as_slice())?;
+                println!(rt; "{name}: {text}")?;
+            }
+            Err(_) => println!(rt; "{name}: no such file")?,
+        }
     }
     Ok(())
 }

@@ -21,12 +21,9 @@ pub fn stored_of(alloc: Global, text: &[u8]) -> Result<Option<Stored>, AllocErro
     }
 }
 
-/// Makes the count of a node's tag the greatest there is. False where the word is no such tag.
-pub fn fill(stored: &mut Stored, word: &[u8]) -> Result<bool, AllocError> {
-    let Some(digits) = word.strip_prefix(b"node:") else {
-        return Ok(false);
-    };
-    match u32::try_from(number(digits).unwrap_or(u64::MAX)) {
+/// Makes the count of the tag of the node with this number the greatest there is. False where no node has it.
+pub fn fill(stored: &mut Stored, node: &[u8]) -> Result<bool, AllocError> {
+    match u32::try_from(number(node).unwrap_or(u64::MAX)) {
         Ok(node) => {
             stored.counts.set(&Tag::Node(node), u64::MAX)?;
             Ok(true)
