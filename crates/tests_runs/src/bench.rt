@@ -42,7 +42,7 @@ fn set_stored(stored: &mut Stored, section: &Section) -> Result<Found, AllocErro
     } else if fill(stored, rest)? {
         Ok(Found::Set)
     } else {
-        Ok(Found::Wrong("no such node"))
+        Ok(Found::Wrong("no such tag"))
     }
 }
 

@@ -17,12 +17,14 @@ use std::thread::Threads;
 use std::{fs, io};
 
 /// The files of cases.
-const FILES: [&str; 8] = [
+const FILES: [&str; 10] = [
     "program.cases",
     "jobs.cases",
     "serving.cases",
     "changes.cases",
     "connections.cases",
+    "rows.cases",
+    "pages.cases",
     "model_rows.cases",
     "model_pages.cases",
     "model_edits.cases",

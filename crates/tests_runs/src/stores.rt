@@ -21,14 +21,26 @@ pub fn stored_of(alloc: Global, text: &[u8]) -> Result<Option<Stored>, AllocErro
     }
 }
 
-/// Makes the count of the tag of the node with this number the greatest there is. False where no node has it.
-pub fn fill(stored: &mut Stored, node: &[u8]) -> Result<bool, AllocError> {
-    match u32::try_from(number(node).unwrap_or(u64::MAX)) {
-        Ok(node) => {
-            stored.counts.set(&Tag::Node(node), u64::MAX)?;
+/// The tag of a word: that of a node, of the list of nodes, or of the settings.
+fn tag_of(word: &[u8]) -> Option<Tag> {
+    match word {
+        b"node_list" => Some(Tag::NodeList),
+        b"config:system.site" => Some(Tag::Site),
+        _ => {
+            let node = number(word.strip_prefix(b"node:")?)?;
+            Some(Tag::Node(u32::try_from(node).ok()?))
+        }
+    }
+}
+
+/// Makes the count of the tag of that word the greatest there is. False where there is no such tag.
+pub fn fill(stored: &mut Stored, word: &[u8]) -> Result<bool, AllocError> {
+    match tag_of(word) {
+        Some(tag) => {
+            stored.counts.set(&tag, u64::MAX)?;
             Ok(true)
         }
-        Err(_) => Ok(false),
+        None => Ok(false),
     }
 }
 
