@@ -17,7 +17,7 @@ use std::thread::Threads;
 use std::{fs, io};
 
 /// The files of cases.
-const FILES: [&str; 10] = [
+const FILES: [&str; 12] = [
     "program.cases",
     "jobs.cases",
     "serving.cases",
@@ -25,6 +25,8 @@ const FILES: [&str; 10] = [
     "connections.cases",
     "rows.cases",
     "pages.cases",
+    "lists.cases",
+    "access.cases",
     "model_rows.cases",
     "model_pages.cases",
     "model_edits.cases",
