@@ -23,8 +23,17 @@ pub struct Bench {
 fn is_setting(word: &[u8]) -> bool {
     matches!(
         word,
-        b"file" | b"keeper" | b"openings" | b"moments" | b"chance" | b"port" | b"input" | b"piece"
-            | b"reads" | b"room" | b"writes"
+        b"file"
+            | b"keeper"
+            | b"openings"
+            | b"moments"
+            | b"chance"
+            | b"port"
+            | b"input"
+            | b"piece"
+            | b"reads"
+            | b"room"
+            | b"writes"
     )
 }
 

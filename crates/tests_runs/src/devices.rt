@@ -26,11 +26,7 @@ fn number_of(set: &[Section], word: &[u8], otherwise: u64) -> usize {
 }
 
 /// A source of this input, which comes in pieces of 64 bytes where nothing else is set.
-pub fn source(
-    alloc: Global,
-    set: &[Section],
-    input: &[u8],
-) -> Result<MemorySource, AllocError> {
+pub fn source(alloc: Global, set: &[Section], input: &[u8]) -> Result<MemorySource, AllocError> {
     let failing = numbers(alloc, rest_of(set, b"reads"))?;
     let piece = number_of(set, b"piece", 64);
     Ok(MemorySource::new(Vec::from_slice(alloc, input)?, piece).failing_at(failing))

@@ -137,9 +137,11 @@ pub fn place(
     let files = files(alloc, set)?;
     let ports = ports(alloc, set)?;
     let stores = stores(alloc, set, stored)?;
-    Ok(MemoryPlace::new(alloc, moments, chance)
-        .with_files(files)
-        .with_ports(ports)
-        .with_stores(stores)
-        .failing_at(openings))
+    Ok(
+        MemoryPlace::new(alloc, moments, chance)
+            .with_files(files)
+            .with_ports(ports)
+            .with_stores(stores)
+            .failing_at(openings),
+    )
 }
