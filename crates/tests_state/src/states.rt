@@ -10,10 +10,14 @@ use std::test::Fail;
 
 fn sendable<T: Send + Sync>(_: &T) {}
 
+fn is_sendable(state: &State) {
+    sendable(state);
+}
+
 #[test]
 fn what_is_read_of_a_site(rt: HostRuntime) -> Result<(), Fail> {
-    let state: State = site(rt.alloc(), "/node")?;
-    sendable(&state);
+    let state = site(rt.alloc(), "/node")?;
+    is_sendable(&state);
     assert!(rt; state.is_valid(rt.alloc())?);
     assert!(rt; state.number() == 0);
     assert!(rt; state.counts().is_empty());
