@@ -2,11 +2,14 @@
 
 use crate::site::site;
 use cacheability::Tag;
-use content_rows::{Cell, Items, Row, Seq};
-use content_state::{Commit, State, Write};
+use content_rows::{Cell, Items, Row, Seq, starter};
+use content_state::{Commit, Rows, State, Write};
+use row_json::row_to_json;
+use site_files::STARTER;
 use std::alloc::{AllocError, Global};
 use std::sync::Arc;
 use std::test::Fail;
+use tag_counts::Counts;
 
 fn sendable<T: Send + Sync>(_: &T) {}
 
@@ -60,4 +63,42 @@ fn commits_are_sendable(rt: HostRuntime) {
     let write = &commit.writes.as_slice()[0];
     assert!(rt; write.cell == Cell::Seq);
     assert!(rt; write.row.is_some());
+}
+
+/// Writes a row as a line.
+fn push_line(alloc: Global, out: &mut Vec<u8>, cell: &Cell, row: &Row) -> Result<(), Fail> {
+    let text = row_to_json(alloc, cell, row)?.to_string(alloc)?;
+    out.extend_from_slice(text.as_bytes())?;
+    out.push(b'\n')?;
+    Ok(())
+}
+
+/// The rows of the new site, written one a line, are the file of the new site.
+#[test]
+fn starter_as_lines(rt: HostRuntime) -> Result<(), Fail> {
+    let mut written = Vec::new(rt.alloc());
+    for (cell, row) in &starter(rt.alloc())? {
+        push_line(rt.alloc(), &mut written, cell, row)?;
+    }
+    assert!(rt; written.as_slice() == STARTER);
+    Ok(())
+}
+
+/// The state of one row that no site has, since an id that is next is 0.
+fn no_site(alloc: Global) -> Result<State, AllocError> {
+    let row = Row::Seq(Seq {
+        node: 2,
+        term: 0,
+        user: 2,
+    });
+    let mut rows = Rows::new(alloc);
+    rows.set(Cell::Seq, Arc::new(alloc, row)?)
+        .map_err(|_| AllocError)?;
+    State::new(alloc, rows, Counts::new(alloc), 0)
+}
+
+#[test]
+fn rows_of_no_site(rt: HostRuntime) -> Result<(), Fail> {
+    assert!(rt; !no_site(rt.alloc())?.is_valid(rt.alloc())?);
+    Ok(())
 }
