@@ -4,7 +4,8 @@ use Rattle.site_io.specs.declared.ended.Ended.{Ended}
 use Rattle.site_io.specs.declared.ended.Ended.TheVariants as ended
 use Rattle.site_http.specs.Connection.{CountsReads, CountsWrites}
 use Rattle.site_cli.specs.Run.{status_of}
-use Rattle.site_cli.specs.Outside.{Outside, HasCause, KeepsCounts}
+use Rattle.site_places.specs.Place.{KeepsCounts}
+use Rattle.site_cli.specs.Outside.{Outside, HasCause}
 
 -- neither device failed
 neither : (old new : Outside) (status : ℕ) → status ≢ 5 → status ≢ 6 → new.reading ≡ old.reading → new.writing ≡ old.writing → status ≢ 7 → status ≢ 4 → KeepsCounts old.place new.place → new.place.keeper_faults ≡ old.place.keeper_faults → HasCause old new status

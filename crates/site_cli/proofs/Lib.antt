@@ -3,3 +3,4 @@ pub mod Starter
 mod Causes
 mod Loading
 mod Parsing
+mod Servings

@@ -4,3 +4,4 @@ pub mod Outside
 pub mod House
 pub mod Load
 pub mod Jobs
+pub mod Serving

@@ -1,7 +1,7 @@
 -- What stands outside the program, and by which counts its statuses are told.
 use Rattle.std.specs.Prelude.{ℕ, List, ◌≡◌, ◌≢◌, ◌⊎◌, Option}
 use Rattle.site_io.specs.Told.{Rose}
-use Rattle.site_places.specs.Place.{PlaceView}
+use Rattle.site_places.specs.Place.{PlaceView, KeepsCounts}
 
 -- What stands outside the program: the bytes that are left to read, those that were written, how often the input and the
 -- output have failed, and its place.
@@ -18,11 +18,6 @@ pub record Starves (old new : Outside) (status : ℕ) : Type 0 where
   pub sink : new.written ≡ old.written
   pub place : new.place ≡ old.place
   pub status_is : status ≡ 9
-
--- the counts of a place are as they were
-pub record KeepsCounts (old new : PlaceView) : Type 0 where
-  pub own : new.faults ≡ old.faults
-  pub rows : new.rows_faults ≡ old.rows_faults
 
 -- A fault of the input is told exactly where its count rose, and one of the output likewise, but that printing how the
 -- program is called, or what is wrong with the rows, may fail too. A fault of the place is told exactly where one of its

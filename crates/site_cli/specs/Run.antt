@@ -17,8 +17,9 @@ use Rattle.content_state.specs.SiteRules.{IsValidState}
 use Rattle.site_files.specs.Rows.{rows_of as rows_of_file, IsToldBy, IsSiteFault}
 use Rattle.site_files.specs.declared.fault.ReadFault.{ReadFault}
 use Rattle.site_places.specs.Place.{next_list, clock_given, entropy_given, none_given, IsNoneReached, OpeningFails, RowsFail}
-use Rattle.site_cli.specs.Outside.{Outside, Starves}
+use Rattle.site_cli.specs.Outside.{Outside, Starves, HasCause}
 use Rattle.site_cli.specs.Jobs.{ImportsOrNot, TellsOrNot}
+use Rattle.site_cli.specs.Serving.{HasServingCause, Serves}
 use Rattle.site_cli.specs.Words.{usage, Asked, replay, serves, imports, exports, checks}
 use Rattle.site_jobs.specs.Jobs.{checked, exported}
 use Rattle.site_jobs.specs.Texts.{fault_text}
@@ -129,7 +130,16 @@ abbrev pub Runs : Option Asked → Outside → Outside → ℕ → Type 0
 Runs None old new status = Refuses old new status ⊎ Starves old new status
 Runs (Some (replay None)) old new status = ReplaysOrStarves starter_site old new status
 Runs (Some (replay (Some path))) old new status = ReplaysFileOrStarves path old new status
-Runs (Some (serves what)) old new status = Refuses old new status ⊎ Starves old new status
+Runs (Some (serves what)) old new status = Serves what old new status ⊎ Starves old new status
 Runs (Some (imports path)) old new status = ImportsOrNot path old new status
 Runs (Some (exports path)) old new status = TellsOrNot exported path old new status
 Runs (Some (checks path)) old new status = TellsOrNot checked path old new status
+
+-- by which counts the status is told, by the same job
+abbrev pub RunsWithCause : Option Asked → Outside → Outside → ℕ → Type 0
+RunsWithCause None old new status = HasCause old new status
+RunsWithCause (Some (replay path)) old new status = HasCause old new status
+RunsWithCause (Some (serves what)) old new status = HasServingCause old new status
+RunsWithCause (Some (imports path)) old new status = HasCause old new status
+RunsWithCause (Some (exports path)) old new status = HasCause old new status
+RunsWithCause (Some (checks path)) old new status = HasCause old new status

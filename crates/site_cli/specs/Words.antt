@@ -4,16 +4,9 @@ use Rattle.std.specs.String.{string_bytes}
 use Rattle.std.specs.Str.{bytes_eq}
 use Rattle.clap.specs.Words.{App, Row, Rule, Text, new_app, new_rule, with_rule, with_subcommand, subcommand_of, fault_of, first_of, Kinds}
 use Rattle.content_rows.specs.IdText.{id_of}
-use Rattle.site_cli.specs.declared.serving.Serving.{Serving}
+use Rattle.serve_store.specs.Job.{ToServe, to_serve}
 use Rattle.site_cli.specs.declared.words.Job.{Job}
 use Rattle.site_cli.specs.declared.words.Job.TheVariants as job
-
--- what is to be served: the store of a path, at an address, by so many workers, and how many connections
-pub record ToServe : Type 0 where
-  pub store : List ℕ
-  pub address : List ℕ
-  pub workers : ℕ
-  pub limit : ℕ
 
 -- what the words after the program's name ask for: one connection, over the site of the file of rows of that path, or
 -- over the starter site; or to serve the site of a store; or to fill the store of that path with rows, to write its rows out,
@@ -24,14 +17,6 @@ pub data Asked : Type 0 where
   imports : List ℕ → Asked
   exports : List ℕ → Asked
   checks : List ℕ → Asked
-
-abbrev pub to_serve : Serving → ToServe
-to_serve serving = record {
-  store = string_bytes serving.store;
-  address = string_bytes serving.address;
-  workers = serving.workers;
-  limit = serving.limit;
-}
 
 abbrev pub asked_of : Job → Asked
 asked_of (job.Replay path) = replay (option_map string_bytes path)

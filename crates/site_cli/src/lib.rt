@@ -10,7 +10,7 @@ mod words;
 
 pub use alone::alone_with;
 pub use run::{refuse_words, rows_of, run_site, starter_is_valid};
-pub use serving::Serving;
+pub use serve_store::Serving;
 pub use site_places::{
     MemoryFile, MemoryPlace, MemoryPort, MemoryStore, NoDevice, Place, SystemPlace,
 };

@@ -5,19 +5,21 @@ ghost use Rattle.site_io.specs.Told.{after, AddsFront, Rose};
 ghost use Rattle.content_state.specs.SiteRules.{IsValidState};
 ghost use Rattle.site_cli.specs.Words.{asked, usage};
 ghost use Rattle.site_cli.specs.Outside.{HasCause};
-ghost use Rattle.site_cli.specs.Run.{rows_of, starter_site, status_of, ReplaysFileOrStarves, ReplaysOrStarves, Runs};
+ghost use Rattle.site_cli.specs.Run.{rows_of, starter_site, status_of, ReplaysFileOrStarves, ReplaysOrStarves, Runs, RunsWithCause};
 
 use crate::alone::alone_with;
 use crate::jobs::{check_job, export_job, import_job};
 use crate::load::{NoSite, load};
+use crate::serving::serve_job;
 use crate::words::{Job, WordFault, read_words};
 use content_rows::{Cell, Row, starter};
 use content_state::{Rows, State};
 use site_http::serve_connection;
-use site_io::{Ended, Sink, Source, write_whole};
+use site_io::{Door, Ended, Sink, Source, write_whole};
 use site_places::Place;
 use std::alloc::{AllocError, Global};
-use std::sync::Arc;
+use std::sync::{Arc, Wait};
+use std::thread::Threads;
 use tag_counts::Counts;
 
 /// Prints how the program is called.
@@ -84,8 +86,8 @@ fn refuse_rows<O: Sink>(output: &mut O, text: &[u8]) -> u8
 }
 
 /// Answers one connection over a site.
-fn connect<P: Place>(
-    rt: &HostRuntime,
+fn connect<P: Place, R>(
+    rt: &R,
     alloc: Global,
     state: State,
     place: &mut P,
@@ -124,8 +126,8 @@ fn connect<P: Place>(
 }
 
 /// Answers one connection over the starter site.
-fn replay<P: Place>(
-    rt: &HostRuntime,
+fn replay<P: Place, R>(
+    rt: &R,
     alloc: Global,
     place: &mut P,
     input: &mut P::In,
@@ -148,8 +150,8 @@ fn replay<P: Place>(
 
 /// Answers one connection over the site of the file of rows of that path.
 #[tactic(auto, using(crate::proofs::Loading::over_file, crate::proofs::Loading::one_rose))]
-fn replay_file<P: Place>(
-    rt: &HostRuntime,
+fn replay_file<P: Place, R>(
+    rt: &R,
     alloc: Global,
     path: &str,
     place: &mut P,
@@ -175,25 +177,29 @@ fn replay_file<P: Place>(
 
 /// Does what the words ask for, and answers the status of the program.
 ///
-/// 0: the connection was answered to its end, or the job over the store was done. 2: the words are no command line, and
-/// how the program is called was printed. 3: the rows of the file, of the input or of the store are refused, and the first
-/// fault was printed. 4: the store's keeper failed, and the place's count of those rose; nothing was printed. 5, 6: the
-/// input or the output failed, and its count of faults rose. 7: the file of rows or the store wasn't opened, or reading
-/// the file failed, and one of the place's counts rose. 8: the connection was refused, or its input ended within a request.
-/// 9: memory was wanting. What the place gave to read the rows, and the keeper of the store, are given back.
-pub fn run_site<P: Place>(
-    rt: &HostRuntime,
+/// 0: the connection was answered to its end, the job over the store was done, or as many connections were served as there
+/// was leave for. 2: the words are no command line, and how the program is called was printed. 3: the rows of the file, of
+/// the input or of the store are refused, and the first fault was printed. 4: the store's keeper failed to load or at an
+/// import, and the place's count of those rose; nothing was printed. 5, 6: the input or the output failed, and its count of
+/// faults rose. 7: the file of rows, the store or a door wasn't opened, reading the file failed, or a worker stopped for its
+/// door, and one of the place's counts rose. 8: the connection was refused, or its input ended within a request. 9: memory
+/// was wanting. What the place gave to read the rows, the keeper of the store and the doors are given back.
+pub fn run_site<P: Place, R: Threads + Wait + Sync>(
+    rt: &R,
     alloc: Global,
     words: &[String],
     place: &mut P,
     input: &mut P::In,
     output: &mut P::Out,
 ) -> u8
+where
+    <P::Door as Door>::In: Send,
+    <P::Door as Door>::Out: Send,
     ensures runs { Runs (asked (map string_bytes words.now))
         (record { left = P.In.left input.old; written = P.Out.written output.old; reading = P.In.faults input.old; writing = P.Out.faults output.old; place = P.sees place.old })
         (record { left = P.In.left input.new; written = P.Out.written output.new; reading = P.In.faults input.new; writing = P.Out.faults output.new; place = P.sees place.new })
         result }
-    ensures cause { HasCause
+    ensures cause { RunsWithCause (asked (map string_bytes words.now))
         (record { left = P.In.left input.old; written = P.Out.written output.old; reading = P.In.faults input.old; writing = P.Out.faults output.old; place = P.sees place.old })
         (record { left = P.In.left input.new; written = P.Out.written output.new; reading = P.In.faults input.new; writing = P.Out.faults output.new; place = P.sees place.new })
         result }
@@ -203,7 +209,7 @@ pub fn run_site<P: Place>(
         Ok(Job::Replay(Some(path))) => {
             replay_file(rt, alloc, path.as_str(), place, input, output)
         }
-        Ok(Job::Serve(_)) => refuse_words(output),
+        Ok(Job::Serve(serving)) => serve_job(rt, alloc, &serving, place, input, output),
         Ok(Job::Import(path)) => import_job(alloc, path.as_str(), place, input, output),
         Ok(Job::Export(path)) => export_job(alloc, path.as_str(), place, input, output),
         Ok(Job::Check(path)) => check_job(alloc, path.as_str(), place, input, output),

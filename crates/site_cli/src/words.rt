@@ -8,10 +8,10 @@ ghost use Rattle.clap.specs.declared.builder.command.Command.TheViews.{out-Comma
 ghost use Rattle.clap.specs.declared.error.kind.ErrorKind.TheVariants as kind;
 ghost use Rattle.site_cli.specs.Words.{asked, asked_of, limit_in, named_job, number_or, number_to, option_rule, replay_app, required_rule, serve_app, serve_job, site_app, store_app, store_job, synopsis, workers_in};
 
-use crate::serving::Serving;
 use clap::error::ErrorKind as ClapKind;
 use clap::{Arg, ArgMatches, Command, Error as ClapError};
 use content_rows::id_of;
+use serve_store::Serving;
 use std::alloc::{AllocError, Global};
 use std::env::Args;
 use std::io::ErrorKind;

@@ -35,7 +35,7 @@ fn has_none(rows: &Rows) -> bool
 }
 
 /// Why rows that are no site end a job.
-fn no_site(alloc: Global, why: Refusal) -> NoJob
+pub fn no_site(alloc: Global, why: Refusal) -> NoJob
     ensures { SaysRefusal why result }
 {
     match why {

@@ -11,6 +11,7 @@ mod telling;
 mod texts;
 
 pub use fault::NoJob;
+pub use ground::no_site;
 pub use importing::{Counted, import_into};
 pub use job::{JobEnd, import_rows};
 pub use telling::{check_site, export_rows};

@@ -34,5 +34,5 @@ pub returns-clause-cause : goal.returns-clause-cause
 returns-clause-cause g c =
     let place = c.gate-gate.ensures.steady ∙ c.entropy-entropy.ensures.later ∙ ap entropy_given c.clock-clock.ensures.later in
     ended_cause c.serve_connection-ended.result _ _ c.status_of.result c.status_of.ensures c.serve_connection-ended.ensures.reads c.serve_connection-ended.ensures.writes
-    (record { own = ap (λ (v : PlaceView). v.faults) place; rows = ap (λ (v : PlaceView). v.rows_faults) place })
+    (record { own = ap (λ (v : PlaceView). v.faults) place; rows = ap (λ (v : PlaceView). v.rows_faults) place; doors = ap (λ (v : PlaceView). v.door_faults) place })
     (ap (λ (v : PlaceView). v.keeper_faults) place)

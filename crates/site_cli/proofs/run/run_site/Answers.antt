@@ -4,8 +4,8 @@ use Rattle.site_cli.specs.Words.{asked}
 use Rattle.site_cli.proofs.Loading.{starved}
 use Rattle.site_cli.proofs.run.run_site.Goals as goal
 
-pub returns-clause-runs : goal.returns-clause-runs
-returns-clause-runs g c =
+pub returns-in-Err-OutOfMemory-clause-runs : goal.returns-in-Err-OutOfMemory-clause-runs
+returns-in-Err-OutOfMemory-clause-runs g c =
     starved (asked (map string_bytes c.args.words.now)) (record {
       left = g.P.In.Source.left c.args.input.now;
       written = g.P.Out.Sink.written c.args.output.now;
