@@ -1,5 +1,0 @@
-//! Tests of whole connections, by public calls alone.
-#![tactic(auto)]
-
-#[cfg(test)]
-mod connections;

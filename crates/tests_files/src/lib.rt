@@ -1,5 +1,0 @@
-//! Tests of files of rows, by public calls alone.
-#![tactic(auto)]
-
-#[cfg(test)]
-mod files;

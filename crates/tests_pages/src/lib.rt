@@ -1,5 +1,0 @@
-//! Tests of pages by public calls alone.
-#![tactic(auto)]
-
-#[cfg(test)]
-mod pages;

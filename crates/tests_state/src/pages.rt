@@ -1,0 +1,63 @@
+//! What is built for pages.
+
+use crate::site::site;
+use content_rows::Text;
+use content_state::{Ask, State, Viewer};
+use render_array::{Element, build};
+use renderer::page_on;
+use std::alloc::{AllocError, Global};
+use std::test::Fail;
+
+fn sendable_and_shared<T: Send + Sync>(_: &T) {}
+
+/// A request for a path.
+fn asked(alloc: Global, path: &str) -> Result<Ask, AllocError> {
+    Ok(Ask {
+        target: Text::copied(alloc, path.as_bytes())?,
+        path: Text::copied(alloc, path.as_bytes())?,
+        query: Text::copied(alloc, b"")?,
+        cookie: None,
+    })
+}
+
+/// Whether a visitor's element of the page on a path has this status, and holds for good.
+fn is_element(alloc: Global, state: &State, path: &str, status: u16) -> Result<bool, AllocError> {
+    let viewer = Viewer {
+        uid: 0,
+        session: None,
+    };
+    let ask = asked(alloc, path)?;
+    let element = build(alloc, state, &viewer, &ask, 1_000, &Element::Page)?;
+    sendable_and_shared(&element);
+    Ok(element.status == Some(status) && element.last == u64::MAX)
+}
+
+/// Whether the page on a path has this status, and so many elements are built for it.
+fn is_page(
+    alloc: Global,
+    state: &State,
+    path: &str,
+    status: u16,
+    built: u64,
+) -> Result<bool, AllocError> {
+    let page = page_on(alloc, state, &asked(alloc, path)?, 1_000)?;
+    Ok(page.status == status && page.built == built)
+}
+
+/// The page itself, and on it a node with its embedded ones, a block with its menu, or a listing with its teasers.
+#[test]
+fn elements_of_pages(rt: HostRuntime) -> Result<(), Fail> {
+    let state = site(rt.alloc(), "/node")?;
+    let pages: [(&str, u16, u64); 5] = [
+        ("/node/1", 200, 4),
+        ("/node/2", 200, 5),
+        ("/node/3", 403, 1),
+        ("/node/9", 404, 1),
+        ("/node", 200, 3),
+    ];
+    for (path, status, built) in pages {
+        assert!(rt; is_element(rt.alloc(), &state, path, status)?);
+        assert!(rt; is_page(rt.alloc(), &state, path, status, built)?);
+    }
+    Ok(())
+}

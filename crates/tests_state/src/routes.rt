@@ -1,0 +1,122 @@
+//! Where the paths of a site lead, which tags cover that, and the tags of listings.
+
+use crate::site::site;
+use cacheability::{Name, Tag};
+use content_state::{Route, route_of};
+use site_lists::{list_tags, query_value};
+use std::alloc::Global;
+use std::test::Fail;
+
+/// What a path leads to, in a word, with its number where it has one.
+fn word(route: &Route) -> (&'static str, u32) {
+    match route {
+        Route::Node(n) => ("node", *n),
+        Route::Term(t) => ("term", *t),
+        Route::User(u) => ("user", *u),
+        Route::Listing(_) => ("listing", 0),
+        Route::Login => ("login", 0),
+        Route::Nothing => ("nothing", 0),
+    }
+}
+
+/// Whether a path leads there on the site with this front path, and these tags cover it.
+fn leads(
+    alloc: Global,
+    front: &str,
+    path: &str,
+    to: (&str, u32),
+    tags: &[Tag],
+) -> Result<bool, Fail> {
+    let state = site(alloc, front)?;
+    let (route, covering) = route_of(alloc, &state, path.as_bytes())?;
+    let (kind, number) = word(&route);
+    Ok(kind == to.0 && number == to.1 && covering.as_slice() == tags)
+}
+
+/// A number that isn't there is covered by its tag, whatever it names. `/` leads to where the front path leads, and is covered
+/// by its tags and that of the settings.
+#[test]
+fn where_paths_lead(rt: HostRuntime) -> Result<(), Fail> {
+    // the front path, the path, the word and the number of what is there, and the tags
+    let cases: [(&str, &str, (&str, u32), &[Tag]); 16] = [
+        ("/node", "/node/1", ("node", 1), &[Tag::Node(1)]),
+        ("/node", "/about", ("node", 1), &[Tag::Node(1)]),
+        ("/node", "/taxonomy/term/3", ("term", 3), &[Tag::Term(3)]),
+        ("/node", "/user/7", ("user", 7), &[Tag::User(7)]),
+        ("/node", "/user/login", ("login", 0), &[]),
+        ("/node", "/node/01", ("nothing", 0), &[Tag::NotFound]),
+        (
+            "/node",
+            "/node/4",
+            ("nothing", 0),
+            &[Tag::NotFound, Tag::Node(4)],
+        ),
+        (
+            "/node",
+            "/taxonomy/term/4",
+            ("nothing", 0),
+            &[Tag::NotFound, Tag::Term(4)],
+        ),
+        (
+            "/node",
+            "/user/8",
+            ("nothing", 0),
+            &[Tag::NotFound, Tag::User(8)],
+        ),
+        (
+            "/node",
+            "/taxonomy/term/03",
+            ("nothing", 0),
+            &[Tag::NotFound],
+        ),
+        ("/node", "/About", ("nothing", 0), &[Tag::NotFound]),
+        ("/node", "", ("nothing", 0), &[Tag::NotFound]),
+        ("/about", "/", ("node", 1), &[Tag::Node(1), Tag::Site]),
+        ("/user/login", "/", ("login", 0), &[Tag::Site]),
+        (
+            "/taxonomy/term/4",
+            "/",
+            ("nothing", 0),
+            &[Tag::NotFound, Tag::Term(4), Tag::Site],
+        ),
+        ("/nowhere", "/", ("nothing", 0), &[Tag::NotFound, Tag::Site]),
+    ];
+    for (front, path, to, tags) in cases {
+        assert!(rt; leads(rt.alloc(), front, path, to, tags)?);
+    }
+    Ok(())
+}
+
+/// A listing of every type has the tag of the list of nodes, and one of some types those of their lists.
+#[test]
+fn tags_of_listings(rt: HostRuntime) -> Result<(), Fail> {
+    let state = site(rt.alloc(), "/node")?;
+    let page = Name::new(b"page").expect(&rt, "a name");
+    let wanted: [(&[u8], Tag); 2] = [
+        (b"frontpage", Tag::NodeList),
+        (b"pages", Tag::NodeListOf(page)),
+    ];
+    for (name, tag) in wanted {
+        let name = Name::new(name).expect(&rt, "a name");
+        let listing = state.listing(name).0.expect(&rt, "a listing");
+        let tags = list_tags(rt.alloc(), listing)?;
+        assert!(rt; tags.as_slice() == [tag].as_slice());
+    }
+    Ok(())
+}
+
+#[test]
+fn values_of_queries(rt: HostRuntime) -> Result<(), Fail> {
+    let cases: [(&[u8], &[u8], Option<&[u8]>); 5] = [
+        (b"a=1&b=%41+c&b=2", b"b", Some(b"A c")),
+        (b"a=1&b=2", b"c", None),
+        (b"&&c", b"c", Some(b"")),
+        (b"a+b=1%2B2", b"a b", Some(b"1+2")),
+        (b"", b"", None),
+    ];
+    for (query, name, wanted) in cases {
+        let value = query_value(rt.alloc(), query, name)?;
+        assert!(rt; value.as_ref().map(|value| value.as_slice()) == wanted);
+    }
+    Ok(())
+}
