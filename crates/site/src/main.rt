@@ -1,7 +1,7 @@
 //! The program `site`.
 #![tactic(auto)]
 
-use site_cli::{SystemPlace, WordsFault, command_words, refuse_words, run_site};
+use site_cli::{SystemPlace, WordsFault, command_words, refuse_words, run_system};
 use site_io::{Reading, Writing};
 use std::process::ExitCode;
 
@@ -14,7 +14,7 @@ fn main(rt: HostRuntime) -> ExitCode {
         return ExitCode::from(7);
     };
     let status = match command_words(&rt) {
-        Ok(words) => run_site(&rt, rt.alloc(), &words, &mut place, &mut input, &mut output),
+        Ok(words) => run_system(&rt, rt.alloc(), &words, &mut place, &mut input, &mut output),
         Err(WordsFault::NoText) => refuse_words(&mut output),
         Err(WordsFault::OutOfMemory) => 9,
     };

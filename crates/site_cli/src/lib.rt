@@ -6,6 +6,7 @@ mod jobs;
 mod load;
 mod run;
 mod serving;
+mod system;
 mod words;
 
 pub use alone::alone_with;
@@ -14,4 +15,5 @@ pub use serve_store::Serving;
 pub use site_places::{
     MemoryFile, MemoryPlace, MemoryPort, MemoryStore, NoDevice, Place, SystemPlace,
 };
+pub use system::run_system;
 pub use words::{Job, WordFault, WordsFault, command_words, read_words, words_fault, words_of};

@@ -8,5 +8,5 @@ mod system;
 
 pub use memory::{MemoryFile, MemoryPlace, MemoryPort, MemoryStore};
 pub use place::{NoDevice, Place};
-pub use store::StoreFile;
+pub use store::{StoreFile, stores_go_between_threads};
 pub use system::SystemPlace;

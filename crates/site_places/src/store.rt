@@ -55,3 +55,10 @@ impl Keeper for StoreFile {
         self.keeper.faults()
     }
 }
+
+fn needs_send<T: Send + Drop>(_: T) {}
+
+/// A store may be sent to another thread.
+pub fn stores_go_between_threads(store: StoreFile) {
+    needs_send(store);
+}

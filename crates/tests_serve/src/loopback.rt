@@ -1,6 +1,6 @@
 //! A store in a file that is served over loopback, with its client in the same process.
 
-use site_cli::{Place, SystemPlace, run_site};
+use site_cli::{Place, SystemPlace, run_system};
 use site_files::STARTER;
 use site_io::{MemorySink, MemorySource, Reading, Writing};
 use site_jobs::{JobEnd, export_rows, import_rows};
@@ -108,7 +108,7 @@ fn one_connection_edits_a_store(rt: HostRuntime) {
     let words = words.expect(&rt, "a store");
     let mut input = Reading::new(rt.stdin());
     let mut output = Writing::new(rt.stdout());
-    let serve = || run_site(&rt, rt.alloc(), &words, &mut place, &mut input, &mut output);
+    let serve = || run_system(&rt, rt.alloc(), &words, &mut place, &mut input, &mut output);
     let (reply, status) = thread::join(&rt, || edited(&rt, address), serve);
     let kept = match reply {
         Ok(reply) => is_kept(rt.alloc(), &mut place, &reply),
