@@ -96,11 +96,11 @@ def client(address, node, edits, reads, paths, seed, told):
 def rows_for(rows, clients):
     """The rows of a file with a session, and a node for each client; and the numbers of these nodes."""
     lines = [json.loads(line) for line in open(rows, encoding="utf-8")]
-    some = next(row for row in lines if row["cell"].startswith("node:") and row["path"] is None and row["status"])
+    some = next(row for row in lines if row["cell"].startswith("node:") and row["status"])
     seq = next(row for row in lines if row["cell"] == "seq")
     first, nodes = seq["node"], []
     for at in range(clients):
-        node = dict(some, cell=f"node:{first + at}", uuid=f"client-{at}", vid=1, title="none yet", uid=1, refs=[], grants=[])
+        node = dict(some, cell=f"node:{first + at}", uuid=f"client-{at}", vid=1, title="none yet", uid=1, path=None, refs=[], grants=[])
         nodes.append(first + at)
         lines.append(node)
     seq["node"] = first + clients
