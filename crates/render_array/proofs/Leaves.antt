@@ -716,3 +716,9 @@ page_closed path v x shown libraries needs made =
     path)
     (λ s. tt)))
     made
+
+-- nor does one of a whole fragment
+pub fragment_closed : (path : List ℕ) (f : Fragment) (v : Visit) (x : Option ℕ) (shown : List Piece) (libraries : List Library) (needs : Needs) → Made (whole path (element.Fragment f)) v x shown libraries needs → OnlyMeta shown
+fragment_closed path f v x shown libraries needs made =
+    only_made (whole path (element.Fragment f)) v x shown libraries needs
+    (closed_fragment v (shown_below (fragment_level f)) f (λ h lower. closed_below v (fragment_level f) h lower)) made

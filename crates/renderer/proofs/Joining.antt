@@ -24,7 +24,7 @@ use Rattle.renderer.specs.declared.filled.Filled.{Filled}
 use Rattle.renderer.specs.Filled.{needs_of, IsWhole, Appends, Takes, Joins}
 
 -- what fills places stays so where more is needed
-fills_kept : (fill : Filling) (v : Visit) (old new : Needs) (outer shown : List Piece) (attached : List Library) → Keeps old new → Fills fill v old outer shown attached → Fills fill v new outer shown attached
+pub fills_kept : (fill : Filling) (v : Visit) (old new : Needs) (outer shown : List Piece) (attached : List Library) → Keeps old new → Fills fill v old outer shown attached → Fills fill v new outer shown attached
 fills_kept fill v old new [] shown attached keeps fills = fills
 fills_kept fill v old new (Byte b ∷ outer) shown attached keeps fills = (fills.0, fills.1, fills_kept fill v old new outer fills.0 attached keeps fills.2)
 fills_kept fill v old new (Place h ∷ outer) shown attached keeps fills = place_kept (fill h) h outer shown attached (λ rest others f. fills_kept fill v old new outer rest others keeps f) fills
@@ -43,7 +43,7 @@ fills_kept fill v old new (Place h ∷ outer) shown attached keeps fills = place
       follows = rest_of f.rest f.others f.follows;
     }
 
-fills_append : (fill : Filling) (v : Visit) (needs : Needs) (a b s t : List Piece) (l m : List Library) → Fills fill v needs a s l → Fills fill v needs b t m → Fills fill v needs (a ++ b) (s ++ t) (l ++ m)
+pub fills_append : (fill : Filling) (v : Visit) (needs : Needs) (a b s t : List Piece) (l m : List Library) → Fills fill v needs a s l → Fills fill v needs b t m → Fills fill v needs (a ++ b) (s ++ t) (l ++ m)
 fills_append fill v needs [] b s t l m first second =
     subst (λ x. Fills fill v needs b (x ++ t) (l ++ m)) (sym first.0) (subst (λ x. Fills fill v needs b t (x ++ m)) (sym first.1) second)
 fills_append fill v needs (Byte c ∷ a) b s t l m first second =
@@ -65,7 +65,7 @@ fills_append fill v needs (Place h ∷ a) b s t l m first second =
       follows = rest_of f.rest f.others f.follows;
     }
 
-fills_bytes : (fill : Filling) (v : Visit) (needs : Needs) (bs : List ℕ) → Fills fill v needs (bytes bs) (bytes bs) []
+pub fills_bytes : (fill : Filling) (v : Visit) (needs : Needs) (bs : List ℕ) → Fills fill v needs (bytes bs) (bytes bs) []
 fills_bytes fill v needs [] = (refl, refl)
 fills_bytes fill v needs (b ∷ bs) = (bytes bs, refl, fills_bytes fill v needs bs)
 
@@ -124,7 +124,7 @@ joins_then below v a b old mid new first second = record {
         sum_of count (sum_by (count_below below v) (open_places a)) (sum_by (count_below below v) (open_places b)) (sum_by (count_below below v) (open_places (a ++ b)))
         (ap (sum_by (count_below below v)) (places-append a b) ∙ sum_by-append (count_below below v) (open_places a) (open_places b))
 
-keeps_same : (old new : Filled) → new.cacheability ≡ old.cacheability → new.last ≡ old.last → Keeps (needs_of old) (needs_of new)
+pub keeps_same : (old new : Filled) → new.cacheability ≡ old.cacheability → new.last ≡ old.last → Keeps (needs_of old) (needs_of new)
 keeps_same old new cacheability last = record {
   tags = λ t h. subst (λ c. Contains c.tags t) (sym cacheability) h;
   contexts = λ x h. subst (λ c. Contains c.contexts x) (sym cacheability) h;
@@ -197,7 +197,7 @@ joins_child below v h p count child old new fill count_is whole takes = record {
     made = whole.makes
 
 -- one part after others
-parts_append : (ss : List (Segment Hole)) (s : Segment Hole) → pieces_of (parts_of (ss ++ s ∷ [])) ≡ pieces_of (parts_of ss) ++ pieces_of (part_of s ∷ [])
+pub parts_append : (ss : List (Segment Hole)) (s : Segment Hole) → pieces_of (parts_of (ss ++ s ∷ [])) ≡ pieces_of (parts_of ss) ++ pieces_of (part_of s ∷ [])
 parts_append ss s = ap pieces_of (mapped ss) ∙ pieces_of-append (parts_of ss) (part_of s ∷ [])
   where
     mapped : (ss : List (Segment Hole)) → parts_of (ss ++ s ∷ []) ≡ parts_of ss ++ part_of s ∷ []

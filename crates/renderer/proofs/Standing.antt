@@ -11,7 +11,7 @@ use Rattle.render_array.specs.declared.element.Element.TheVariants as element
 use Rattle.render_array.specs.Whole.{plan_at, level, element_level, shown_below, whole, count_at, count_below, element_count}
 use Rattle.renderer.specs.Filled.{element_at, child_below}
 
-some_below : (k l : ℕ) (h : Hole) → level h ≡ l → l < k → shown_below k h ≡ option_map (filled_in (shown_below l)) (plan_at h)
+pub some_below : (k l : ℕ) (h : Hole) → level h ≡ l → l < k → shown_below k h ≡ option_map (filled_in (shown_below l)) (plan_at h)
 some_below zero l h is lower = absurd (omega arith)
 some_below (suc k) l h is lower = elim (eqb_tells (level h) k) [
   | inl e ↦ subst (λ b. (if b then option_map (filled_in (shown_below k)) (plan_at h) else shown_below k h) ≡ option_map (filled_in (shown_below l)) (plan_at h)) (sym e.0)
@@ -20,14 +20,14 @@ some_below (suc k) l h is lower = elim (eqb_tells (level h) k) [
       (some_below k l h is (let other = e.1 in omega arith))
 ]
 
-none_below : (k : ℕ) (h : Hole) → k ≤ level h → shown_below k h ≡ None
+pub none_below : (k : ℕ) (h : Hole) → k ≤ level h → shown_below k h ≡ None
 none_below zero h over = refl
 none_below (suc k) h over = elim (eqb_tells (level h) k) [
   | inl e ↦ absurd (let same = e.1 in omega arith)
   | inr e ↦ subst (λ b. (if b then option_map (filled_in (shown_below k)) (plan_at h) else shown_below k h) ≡ None) (sym e.0) (none_below k h (omega arith))
 ]
 
-some_count : (k l : ℕ) (v : Visit) (h : Hole) → level h ≡ l → l < k → count_below k v h ≡ count_at (count_below l v) v (plan_at h)
+pub some_count : (k l : ℕ) (v : Visit) (h : Hole) → level h ≡ l → l < k → count_below k v h ≡ count_at (count_below l v) v (plan_at h)
 some_count zero l v h is lower = absurd (omega arith)
 some_count (suc k) l v h is lower = elim (eqb_tells (level h) k) [
   | inl e ↦ subst (λ b. (if b then count_at (count_below k v) v (plan_at h) else count_below k v h) ≡ count_at (count_below l v) v (plan_at h)) (sym e.0)
@@ -36,7 +36,7 @@ some_count (suc k) l v h is lower = elim (eqb_tells (level h) k) [
       (some_count k l v h is (let other = e.1 in omega arith))
 ]
 
-none_count : (k : ℕ) (v : Visit) (h : Hole) → k ≤ level h → count_below k v h ≡ 0
+pub none_count : (k : ℕ) (v : Visit) (h : Hole) → k ≤ level h → count_below k v h ≡ 0
 none_count zero v h over = refl
 none_count (suc k) v h over = elim (eqb_tells (level h) k) [
   | inl e ↦ absurd (let same = e.1 in omega arith)

@@ -2,9 +2,11 @@
 //! lines of the libraries are written last.
 #![tactic(auto)]
 
-mod assembled;
+mod assembling;
 mod filled;
 mod levels;
 mod page;
 
-pub use page::{Page, page_on, render_page};
+pub use assembling::assembled;
+pub use levels::element_level;
+pub use page::{Page, page_on};

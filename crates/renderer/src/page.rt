@@ -1,15 +1,13 @@
 //! The page of a request.
 ghost use Rattle.std.specs.Prelude.{◌≡◌, IfOk, IsTrue, min};
 ghost use Rattle.content_state.specs.Viewer.{viewer_of as named_viewer};
-ghost use Rattle.site_house.specs.House.{Moves, Stays};
 ghost use Rattle.render_array.specs.Shown.{IsPage, is_page_status, page_count};
 
-use crate::assembled::assembled;
+use crate::assembling::assembled;
 use crate::filled::fill;
 use content_state::{Ask, State, Viewer};
 use render_array::Element;
 use site_access::viewer_of;
-use site_house::House;
 use std::alloc::{AllocError, Global};
 
 /// The page of a request: the status of its reply (RFC 9110, section 15), its body, and how many elements were built for
@@ -21,31 +19,10 @@ pub struct Page {
     pub built: u64,
 }
 
-/// The page of a request on a state, for the viewer that its cookie names at the moment, in seconds since 1970. Its status
-/// is 200, or 403 where it may not be viewed, or 404 where its path leads nowhere. Nothing is kept yet: the page is built,
-/// and each element that stands in one of its places. `Err` only where memory is wanting.
+/// The page of a request on a state, for the viewer that its cookie names at the moment, in seconds since 1970, as it is
+/// without anything that is kept: the page is built, and each element that stands in one of its places. Its status is 200,
+/// or 403 where it may not be viewed, or 404 where its path leads nowhere. `Err` only where memory is wanting.
 /// <https://www.drupal.org/docs/drupal-apis/render-api/the-drupal-8-render-pipeline>
-pub fn render_page<H: House>(
-    alloc: Global,
-    house: &mut H,
-    state: &State,
-    viewer: &Viewer,
-    ask: &Ask,
-    now: u64,
-) -> Result<Page, AllocError>
-    requires { viewer.now ≡ named_viewer state.now.rows ask.now.cookie now }
-    ensures moves { Moves (H.sees house.old) (H.sees house.new) }
-    ensures stays { Stays (H.sees house.old) (H.sees house.new) }
-    ensures page { IfOk result (λ p. IsPage state.now.rows ask.now now p.status p.body.items) }
-    ensures status { IfOk result (λ p. IsTrue (is_page_status p.status)) }
-    ensures built { IfOk result (λ p. p.built ≡ min (page_count state.now.rows ask.now now) 18446744073709551615) }
-{
-    let _house = house;
-    page_of(alloc, state, viewer, ask, now)
-}
-
-/// The page of a request on a state, for the viewer that its cookie names, as it is without anything that is kept. `Err`
-/// only where memory is wanting.
 pub fn page_on(alloc: Global, state: &State, ask: &Ask, now: u64) -> Result<Page, AllocError>
     ensures page { IfOk result (λ p. IsPage state.now.rows ask.now now p.status p.body.items) }
     ensures status { IfOk result (λ p. IsTrue (is_page_status p.status)) }

@@ -1,3 +1,4 @@
 mod Places
 mod Served
 mod Openings
+pub mod Writes

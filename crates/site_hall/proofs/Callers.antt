@@ -1,6 +1,7 @@
 -- What always holds of a caller that has a hall for itself goes on to hold, and what its house does.
 use Rattle.std.proofs.Common.{◌≡◌, ◌∙◌, ◌+◌, ◌≤◌, ◌++◌, ◌⊎◌, ◌==◌, Bool, true, false, ℕ, List, [], ◌∷◌, Option, Some, None, length, drop, ap, sym, subst, refl, inl, inr, arith, length-append}
-use Rattle.std.specs.Prelude.{All, if◌then◌else◌}
+use Rattle.std.specs.Prelude.{All, if◌then◌else◌, Result, Ok, Err}
+use Rattle.std.specs.declared.alloc.AllocError.{AllocError}
 use Rattle.std.proofs.lemmas.List.{drop-append-le}
 use Rattle.std.proofs.lemmas.List.Elements.{All-push, All-take}
 use Rattle.std.proofs.Math.Seq.{take-append_seam}
@@ -8,15 +9,21 @@ use Rattle.content_state.specs.State.{State}
 use Rattle.content_state.specs.Replay.{Begins}
 use Rattle.content_state.specs.declared.ask.Ask.{Ask}
 use Rattle.content_state.specs.declared.commit.Commit.{Commit}
+use Rattle.cache_entries.specs.declared.key.Key.{Key}
+use Rattle.cache_entries.specs.declared.kept.Bin.{Bin}
+use Rattle.cache_entries.specs.declared.kept.Found.{Found}
+use Rattle.cache_entries.specs.declared.kept.Kept.{Kept}
 use Rattle.site_commands.specs.Judged.{judged}
 use Rattle.site_commands.specs.declared.command.Command.{Command}
 use Rattle.site_keeper.specs.Batch.{Batch}
-use Rattle.site_house.specs.House.{IsSublist, AreValid, CountRose, Moves, Accepts, Fails, up}
+use Rattle.site_house.specs.House.{IsSublist, AreValid, CountRose, Moves, KeepsAll, Accepts, Fails, up}
 use Rattle.site_house.proofs.Moving.{begins_same, begins_more, moves_same}
-use Rattle.site_hall.specs.Hall.{HallView, IsHall, Settles, StaysSteadfast, settled_by, with_pending, number_of}
+use Rattle.site_hall.specs.Hall.{HallView, with_stock, IsHall, Settles, StaysSteadfast, settled_by, with_pending, number_of}
 use Rattle.site_hall.specs.ReadyEdit.{Ready}
 use Rattle.site_hall.specs.Ready.{IsReadyAfter, IsPending, published}
 use Rattle.site_hall.specs.Alone.{AloneView, IsAlone, IsAllOf, house_of}
+use Rattle.site_hall.specs.Stock.{Stock, bins_in}
+use Rattle.site_hall.specs.Looked.{LooksUp, KeepsUnder}
 use Rattle.site_hall.specs.Handed.{handed_in}
 use Rattle.site_hall.proofs.Logs.{valid_front}
 use Rattle.site_hall.proofs.Sublists.{sublist_both, sublist_front, sublist_filter}
@@ -49,9 +56,9 @@ own_more opened log c before = drop-append-le opened log (c ∷ []) before
 
 -- ---- what settling leaves
 
-settled_parts : (old : HallView) (head : ℕ) (pending : Option Commit) → ((settled_by old head pending).base ≡ old.base) × ((settled_by old head pending).faults ≡ old.faults) × ((settled_by old head pending).steadfast ≡ old.steadfast)
-settled_parts old head None = (refl, refl, refl)
-settled_parts old head (Some c) = (refl, refl, refl)
+settled_parts : (old : HallView) (head : ℕ) (pending : Option Commit) → ((settled_by old head pending).base ≡ old.base) × ((settled_by old head pending).faults ≡ old.faults) × ((settled_by old head pending).steadfast ≡ old.steadfast) × ((settled_by old head pending).stock ≡ old.stock)
+settled_parts old head None = (refl, refl, refl, refl)
+settled_parts old head (Some c) = (refl, refl, refl, refl)
 
 settled_grows : (old : HallView) (head : ℕ) (pending : Option Commit) → Begins old.log (settled_by old head pending).log
 settled_grows old head None = begins_same old.log
@@ -83,6 +90,9 @@ settles_steadfast {old} s = record {
   tells = ap (λ (h : HallView). h.steadfast) s.settled ∙ (settled_parts old s.head old.pending).2;
   stays = λ _. settles_faults s;
 }
+
+pub settles_stock : {old new : HallView} → Settles old new → new.stock ≡ old.stock
+settles_stock {old} s = ap (λ (h : HallView). h.stock) s.settled ∙ (settled_parts old s.head old.pending).3
 
 pub settles_grows : {old new : HallView} → Settles old new → Begins old.log new.log
 settles_grows {old} s = subst (λ (h : HallView). Begins old.log h.log) (sym s.settled) (settled_grows old s.head old.pending)
@@ -127,7 +137,7 @@ settled_alone a hall is s h =
 -- the count of faults rose
 pub faulty_alone : (a : AloneView) (faults : ℕ) → IsAlone a → CountRose a.hall.faults faults → IsAlone (with_hall a (record a.hall { faults = faults }))
 faulty_alone a faults is rose = record {
-  is_hall = record { valid = is.is_hall.valid; keeps = is.is_hall.keeps; loaded = is.is_hall.loaded };
+  is_hall = record { valid = is.is_hall.valid; keeps = is.is_hall.keeps; loaded = is.is_hall.loaded; entries = is.is_hall.entries };
   opened_before = is.opened_before;
   own = is.own;
   numbered = is.numbered;
@@ -176,8 +186,8 @@ valid_seen hall h = go hall.pending h.valid
     go (Some c) valid = valid_front hall.base hall.log c valid
 
 pub alone_moves : (old new : AloneView) → IsAlone new → new.opened ≡ old.opened → new.hall.base ≡ old.hall.base → Begins old.hall.log new.hall.log → old.hall.faults ≤ new.hall.faults
-    → StaysSteadfast old.hall new.hall → (new.keepers ≡ old.keepers) ⊎ CountRose old.hall.faults new.hall.faults → Moves (house_of old) (house_of new)
-alone_moves old new is opened base grows never_falls steady cause = record {
+    → StaysSteadfast old.hall new.hall → (new.keepers ≡ old.keepers) ⊎ CountRose old.hall.faults new.hall.faults → old.unkept ≤ new.unkept → Moves (house_of old) (house_of new)
+alone_moves old new is opened base grows never_falls steady cause unkept = record {
   base = base;
   number = refl;
   opened = opened;
@@ -188,6 +198,8 @@ alone_moves old new is opened base grows never_falls steady cause = record {
   never_fails = steady.stays;
   cause = cause;
   own = λ _. sublist_filter (λ commit. commit.pass == 0) (drop new.opened new.hall.log) new.handed (seen new.hall.pending is.own);
+  told = refl;
+  unkept = unkept;
 }
   where
     seen : (pending : Option Commit) → IsSublist (own_in new.opened new.hall.log pending) new.handed → IsSublist (drop new.opened new.hall.log) new.handed
@@ -202,7 +214,10 @@ alone_moves old new is opened base grows never_falls steady cause = record {
 pub settled_moves : (old : AloneView) (hall : HallView) → IsAlone (with_hall old hall) → Settles old.hall hall → Moves (house_of old) (house_of (with_hall old hall))
 settled_moves old hall is s =
     let faults = settles_faults s in
-    alone_moves old (with_hall old hall) is refl (settles_base s) (settles_grows s) (omega arith) (settles_steadfast s) (inl refl)
+    alone_moves old (with_hall old hall) is refl (settles_base s) (settles_grows s) (omega arith) (settles_steadfast s) (inl refl) (omega arith)
+
+pub settled_keeps : (old : AloneView) (hall : HallView) → Settles old.hall hall → KeepsAll (house_of old) (house_of (with_hall old hall))
+settled_keeps old hall s = record { bins = ap (λ (k : Stock). Some (bins_in k)) (settles_stock s); unkept = refl }
 
 pub starved_alone : (old : AloneView) (hall : HallView) → IsAlone old → IsHall hall → (hall ≡ old.hall) ⊎ Settles old.hall hall → IsAlone (with_hall old hall)
 starved_alone old hall is h starves = elim starves [
@@ -216,6 +231,12 @@ starved_moves old hall is starves = elim starves [
   | inr s ↦ settled_moves old hall is s
 ]
 
+pub starved_keeps : (old : AloneView) (hall : HallView) → (hall ≡ old.hall) ⊎ Settles old.hall hall → KeepsAll (house_of old) (house_of (with_hall old hall))
+starved_keeps old hall starves = elim starves [
+  | inl e ↦ record { bins = ap (λ (n : HallView). Some (bins_in n.stock)) e; unkept = refl }
+  | inr s ↦ settled_keeps old hall s
+]
+
 module _ (old : AloneView) (hall : HallView) (ask : Ask) (csrf : Option (List ℕ)) (command : Command) (now : ℕ) (ready : Ready) (after : IsReadyAfter old.hall hall ask csrf command now 0 ready) where
   -- the edit is accepted
   abbrev accepted : AloneView
@@ -227,7 +248,10 @@ module _ (old : AloneView) (hall : HallView) (ask : Ask) (csrf : Option (List �
       let kept = settles_steadfast after.settles in
       let steady : StaysSteadfast old.hall (published hall ready.batch) = record { tells = kept.tells; stays = kept.stays } in
       alone_moves old accepted is refl (settles_base after.settles)
-      (begins_more old.hall.log hall.log accepted.hall.log (settles_grows after.settles) (ready.batch.commit ∷ [], refl)) (omega arith) steady (inl refl)
+      (begins_more old.hall.log hall.log accepted.hall.log (settles_grows after.settles) (ready.batch.commit ∷ [], refl)) (omega arith) steady (inl refl) (omega arith)
+
+  pub accepted_keeps : KeepsAll (house_of old) (house_of accepted)
+  accepted_keeps = record { bins = ap (λ (k : Stock). Some (bins_in k)) (settles_stock after.settles); unkept = refl }
 
   pub accepted_answers : Accepts (house_of old) (house_of accepted) ask csrf command now ready.done (number_of accepted.hall)
   accepted_answers = record {
@@ -255,7 +279,10 @@ module _ (old : AloneView) (hall : HallView) (ask : Ask) (csrf : Option (List �
     pub failed_moves : IsAlone failed → old.hall.faults ≤ new.faults → StaysSteadfast old.hall new → Moves (house_of old) (house_of failed)
     failed_moves is never_falls steady =
         alone_moves old failed is refl (new_is.0 ∙ settles_base after.settles)
-        (subst (Begins old.hall.log) (sym new_is.1) (settles_grows after.settles)) never_falls steady (inr rose)
+        (subst (Begins old.hall.log) (sym new_is.1) (settles_grows after.settles)) never_falls steady (inr rose) (omega arith)
+
+    pub failed_keeps : KeepsAll (house_of old) (house_of failed)
+    failed_keeps = record { bins = ap (λ (k : Stock). Some (bins_in k)) (ap (λ (h : HallView). h.stock) pending.stays ∙ settles_stock after.settles); unkept = refl }
 
     pub failed_answers : Fails (house_of old) (house_of failed) ask csrf command now
     failed_answers = record {
@@ -269,3 +296,34 @@ module _ (old : AloneView) (hall : HallView) (ask : Ask) (csrf : Option (List �
       keepers = refl;
       rose = rose;
     }
+
+-- ---- what is kept of pages
+
+pub stock_alone : (a : AloneView) (hall : HallView) (unkept : ℕ) → IsAlone a → hall ≡ with_stock a.hall hall.stock → IsHall hall → IsAlone (record a { hall = hall; unkept = unkept })
+stock_alone a hall unkept is same h = record {
+  is_hall = h;
+  opened_before = subst (λ (n : HallView). a.opened ≤ length n.log) (sym same) is.opened_before;
+  own = subst (λ (n : HallView). IsSublist (own_in a.opened n.log n.pending) a.handed) (sym same) is.own;
+  numbered = subst (λ (n : HallView). All (λ commit. commit.pass ≡ 0) (own_in a.opened n.log n.pending)) (sym same) is.numbered;
+  all = λ none.
+      let all = is.all (sym (ap (λ (n : HallView). n.faults) same) ∙ none) in
+      record { none_pending = ap (λ (n : HallView). n.pending) same ∙ all.none_pending; handed = all.handed ∙ ap (λ (n : HallView). drop a.opened n.log) (sym same) };
+}
+
+pub stock_moves : (a : AloneView) (hall : HallView) (unkept : ℕ) → IsAlone (record a { hall = hall; unkept = unkept }) → hall ≡ with_stock a.hall hall.stock → a.unkept ≤ unkept
+    → Moves (house_of a) (house_of (record a { hall = hall; unkept = unkept }))
+stock_moves a hall unkept is same more =
+    let log = ap (λ (n : HallView). n.log) same in
+    let faults = ap (λ (n : HallView). n.faults) same in
+    alone_moves a (record a { hall = hall; unkept = unkept }) is refl (ap (λ (n : HallView). n.base) same)
+    (subst (Begins a.hall.log) (sym log) (begins_same a.hall.log)) (omega arith)
+    (record { tells = ap (λ (n : HallView). n.steadfast) same; stays = λ _. faults }) (inl refl) more
+
+-- whatever the answer
+pub kept_beside : {E : Type 0} (result : Result (Unit {0}) E) (old new : HallView) (b : Bin) (key : Key) (k : Kept) → KeepsUnder result old new b key k → new ≡ with_stock old new.stock
+kept_beside (Ok done) old new b key k keeps = keeps.1
+kept_beside (Err e) old new b key k keeps = subst (λ (n : HallView). n ≡ with_stock old n.stock) (sym keeps) refl
+
+pub looked_beside : (result : Result Found AllocError) (old new : HallView) (b : Bin) (key : Key) → LooksUp result old new b key → new ≡ with_stock old new.stock
+looked_beside (Ok found) old new b key looks = looks.1
+looked_beside (Err e) old new b key looks = subst (λ (n : HallView). n ≡ with_stock old n.stock) (sym looks) refl

@@ -1,3 +1,4 @@
+pub mod Stocks
 pub mod Logs
 pub mod Batches
 pub mod Verdicts

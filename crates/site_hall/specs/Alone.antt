@@ -1,18 +1,21 @@
 -- A caller that has a hall for itself.
-use Rattle.std.specs.Prelude.{ℕ, List, [], ◌≡◌, ◌≤◌, false, drop, length, All, None}
+use Rattle.std.specs.Prelude.{ℕ, List, [], ◌≡◌, ◌≤◌, drop, length, All, Some, None}
 use Rattle.content_state.specs.declared.commit.Commit.{Commit}
 use Rattle.site_house.specs.House.{HouseView, IsSublist}
+use Rattle.site_hall.specs.Stock.{bins_in}
 use Rattle.site_hall.specs.Hall.{HallView, IsHall, with_pending}
 
--- a hall, how many edits its log had when the caller came, the edits that it handed in, and how often it was told that the
--- keeper failed
+-- a hall, how many edits its log had when the caller came, the edits that it handed in, how often it was told that the
+-- keeper failed, and how often something that it had to keep wasn't kept
 pub record AloneView : Type 0 where
   pub hall : HallView
   pub opened : ℕ
   pub handed : List Commit
   pub keepers : ℕ
+  pub unkept : ℕ
 
--- the house that it is: all that the hall published is seen, and the caller's pass has the number 0
+-- the house that it is: all that the hall published is seen, the caller's pass has the number 0, and what is kept of pages is
+-- told
 abbrev pub house_of : AloneView → HouseView
 house_of alone = record {
   base = alone.hall.base;
@@ -24,6 +27,8 @@ house_of alone = record {
   steadfast = alone.hall.steadfast;
   handed = alone.handed;
   keepers = alone.keepers;
+  bins = Some (bins_in alone.hall.stock);
+  unkept = alone.unkept;
 }
 
 -- the edits that came to the hall since the caller did, the pending one too

@@ -1,4 +1,5 @@
--- The hall of a site: the one place where its edits are judged, kept and published, one after the other.
+-- The hall of a site: the one place where its edits are judged, kept and published, one after the other, and where what is
+-- kept of its pages lies.
 use Rattle.std.specs.Prelude.{ℕ, List, [], ◌∷◌, ◌++◌, ◌≡◌, ◌+◌, ◌==◌, ◌⊎◌, Bool, true, false, Option, Some, None, if◌then◌else◌}
 use Rattle.content_state.specs.State.{State}
 use Rattle.content_state.specs.Replay.{step, replay}
@@ -16,6 +17,7 @@ use Rattle.site_keeper.specs.Keeper.{Kept, IfTold, and_batch}
 use Rattle.site_keeper.specs.Steps.{stored_of, batch_of}
 use Rattle.site_house.specs.History.{newest_of}
 use Rattle.site_house.specs.House.{AreValid, CountRose}
+use Rattle.site_hall.specs.Stock.{Stock, bins_in, AreSound}
 
 -- all that contracts see of a hall
 pub record HallView : Type 0 where
@@ -30,6 +32,12 @@ pub record HallView : Type 0 where
   -- how often the keeper has failed, up to the greatest u64, and whether it tells that it never fails
   pub faults : ℕ
   pub steadfast : Bool
+  -- what is kept of pages, and how often it was looked for, found and kept
+  pub stock : Stock
+
+-- the hall with something else kept of pages
+abbrev pub with_stock : HallView → Stock → HallView
+with_stock hall stock = record hall { stock = stock }
 
 -- the number of the newest state
 abbrev pub number_of : HallView → ℕ
@@ -57,11 +65,13 @@ with_pending log None = log
 with_pending log (Some commit) = log ++ commit ∷ []
 
 -- What always holds of a hall: each state that its edits make of the loaded one is valid, that of the pending edit
--- too; where the keeper told what was loaded, it has kept just the published edits, or the pending one besides.
+-- too; where the keeper told what was loaded, it has kept just the published edits, or the pending one besides; and each
+-- entry that is kept of pages is sound over the published edits.
 pub record IsHall (hall : HallView) : Type 0 where
   pub valid : AreValid hall.base (with_pending hall.log hall.pending)
   pub keeps : HasKept hall hall.log ⊎ HasKept hall (with_pending hall.log hall.pending)
   pub loaded : IfTold hall.opened (λ held. held ≡ stored_of hall.base)
+  pub entries : AreSound hall.base hall.log (bins_in hall.stock)
 
 -- A keeper that tells that it never fails goes on to tell it, and its count of faults stays.
 pub record StaysSteadfast (old new : HallView) : Type 0 where

@@ -1,6 +1,8 @@
 pub mod Log
 pub mod ReadyEdit
+pub mod Stock
 pub mod Hall
+pub mod Looked
 pub mod Within
 pub mod Opened
 pub mod Stopped

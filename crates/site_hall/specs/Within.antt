@@ -4,6 +4,7 @@ use Rattle.std.specs.Option.{ForSome}
 use Rattle.content_state.specs.State.{State}
 use Rattle.site_keeper.specs.Keeper.{Kept, held_of}
 use Rattle.site_hall.specs.Log.{Log, Made, IsNext}
+use Rattle.site_hall.specs.Stock.{Stock}
 use Rattle.site_hall.specs.Hall.{HallView, IsHall}
 
 -- What a keeper told of a state that was loaded, before it kept the batches of edits of it: each of these raised the head by
@@ -13,8 +14,8 @@ told_before base None = None
 told_before base (Some kept) =
     Some (record kept { batches = take (length kept.batches - ((held_of kept).head - base.number)) kept.batches })
 
-abbrev pub view_of : Log → Option Made → Option Kept → ℕ → Bool → HallView
-view_of log pending kept faults steadfast = record {
+abbrev pub view_of : Log → Option Made → Option Kept → ℕ → Bool → Stock → HallView
+view_of log pending kept faults steadfast stock = record {
   base = log.base;
   log = log.edits;
   pending = option_map (λ made. made.commit) pending;
@@ -22,6 +23,7 @@ view_of log pending kept faults steadfast = record {
   kept = kept;
   faults = faults;
   steadfast = steadfast;
+  stock = stock;
 }
 
 -- an edit of the newest state, which a log has a place for
@@ -31,6 +33,6 @@ pub record HasPlace (log : Log) (made : Made) : Type 0 where
   pub short : length log.edits < 1000000
 
 -- what always holds of what a hall is made of
-pub record IsWhole (log : Log) (pending : Option Made) (kept : Option Kept) (faults : ℕ) (steadfast : Bool) : Type 0 where
-  pub is_hall : IsHall (view_of log pending kept faults steadfast)
+pub record IsWhole (log : Log) (pending : Option Made) (kept : Option Kept) (faults : ℕ) (steadfast : Bool) (stock : Stock) : Type 0 where
+  pub is_hall : IsHall (view_of log pending kept faults steadfast stock)
   pub has_place : ForSome pending (HasPlace log)

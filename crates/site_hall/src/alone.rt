@@ -10,6 +10,7 @@ use crate::edit::SharedEdit;
 use crate::hall::Hall;
 use crate::making::Ready;
 use crate::stop::Stop;
+use cache_entries::{Bin, Found, Kept, Key};
 use content_state::{Ask, State};
 use site_commands::{Answer, Command};
 use site_house::House;
@@ -19,14 +20,15 @@ use std::marker::Model;
 use std::sync::Arc;
 
 /// A caller that has a hall for itself, as a house: it has seen all that the hall published. Its edits bear the number 0.
-/// Contracts see the hall, how many edits its log had when the caller came, the edits that the caller handed in, and how
-/// often it was told that the keeper failed.
+/// Contracts see the hall, how many edits its log had when the caller came, the edits that the caller handed in, how often
+/// it was told that the keeper failed, and how often something that it had to keep wasn't kept.
 #[derive(Drop)]
 pub struct Alone<K: Keeper> {
     hall: Hall<K>,
     opened: usize,
     handed: Vec<SharedEdit>,
     keepers: u64,
+    unkept: u64,
 }
 
 impl<K: Keeper> Model for Alone<K> {
@@ -34,16 +36,16 @@ impl<K: Keeper> Model for Alone<K> {
 
     ghost Value = { AloneView };
 
-    ghost view = { λ a. record { hall = a.hall; opened = a.opened; handed = a.handed.items; keepers = a.keepers } };
+    ghost view = { λ a. record { hall = a.hall; opened = a.opened; handed = a.handed.items; keepers = a.keepers; unkept = a.unkept } };
 
-    ghost invariant = { λ a. IsAlone (record { hall = a.hall; opened = a.opened; handed = a.handed.items; keepers = a.keepers }) };
+    ghost invariant = { λ a. IsAlone (record { hall = a.hall; opened = a.opened; handed = a.handed.items; keepers = a.keepers; unkept = a.unkept }) };
 }
 
 impl<K: Keeper> Alone<K> {
     /// The caller of this hall, where nothing is pending. It handed nothing in yet.
     pub fn new(alloc: Global, hall: Hall<K>) -> Alone<K>
         requires { hall.pending ≡ None }
-        ensures alone { result ≡ record { hall = hall; opened = length hall.log; handed = []; keepers = 0 } }
+        ensures alone { result ≡ record { hall = hall; opened = length hall.log; handed = []; keepers = 0; unkept = 0 } }
         ensures is_alone { IsAlone result }
     {
         let opened = hall.len();
@@ -52,6 +54,7 @@ impl<K: Keeper> Alone<K> {
             opened,
             handed: Vec::new(alloc),
             keepers: 0,
+            unkept: 0,
         }
     }
 
@@ -73,6 +76,7 @@ impl<K: Keeper> Alone<K> {
             opened: _,
             handed: _,
             keepers: _,
+            unkept: _,
         } = self;
         hall
     }
@@ -90,7 +94,7 @@ impl<K: Keeper> Alone<K> {
     {
         self.handed.reserve(1)?;
         let commit = Arc::try_clone(&ready.batch.commit)?;
-        match self.hall.keep(alloc, ready) {
+        match self.hall.keep_edit(alloc, ready) {
             Ok(()) => {
                 let Ok(()) = self.handed.push(SharedEdit { commit }) else {
                     unreachable!()
@@ -117,6 +121,16 @@ impl<K: Keeper> Alone<K> {
     {
         self.keepers = self.keepers.saturating_add(1);
         Answer::Keeper
+    }
+
+    /// Counts something that wasn't kept for want of memory.
+    fn not_kept(&mut self) -> AllocError
+        ensures counted { self.new ≡ record self.old { unkept = up self.old.unkept } }
+        ensures grows { self.old.unkept ≤ self.new.unkept }
+        ensures is_alone { IsAlone self.new }
+    {
+        self.unkept = self.unkept.saturating_add(1);
+        AllocError
     }
 }
 
@@ -154,7 +168,22 @@ impl<K: Keeper> House for Alone<K> {
         }
     }
 
+    fn look(&mut self, alloc: Global, bin: Bin, key: &Key) -> Result<Found, AllocError> {
+        self.hall.look(alloc, bin, key)
+    }
+
+    fn keep(&mut self, alloc: Global, bin: Bin, key: Key, kept: Kept) -> Result<(), AllocError> {
+        match self.hall.keep(alloc, bin, key, kept) {
+            Ok(()) => Ok(()),
+            Err(_) => Err(self.not_kept()),
+        }
+    }
+
     fn faults(&self) -> u64 {
         self.hall.faults()
+    }
+
+    fn unkept(&self) -> u64 {
+        self.unkept
     }
 }

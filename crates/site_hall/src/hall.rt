@@ -7,21 +7,25 @@ ghost use Rattle.content_state.specs.Replay.{replay};
 ghost use Rattle.content_state.specs.SiteRules.{AreValidRows, IsRefusal};
 ghost use Rattle.site_commands.specs.Right.{IsRight};
 ghost use Rattle.site_keeper.specs.Keeper.{IfTold};
+ghost use Rattle.site_hall.specs.Stock.{bins_in, tally_in, AreSound};
 ghost use Rattle.site_hall.specs.Hall.{IsHall, StaysSteadfast, Settles, Answers, Tells, number_of, settled_by};
-ghost use Rattle.site_hall.specs.Opened.{opened_with, IsBack};
+ghost use Rattle.site_hall.specs.Opened.{state_in, stock_in, opened_in, opened_with, IsBack};
+ghost use Rattle.site_hall.specs.Looked.{IsSoundIn, MayBeKept, LooksUp, KeepsUnder};
 ghost use Rattle.site_hall.specs.Ready.{IsReady, IsReadyAfter, MayBeNext, LeavesPending, Stops, IsUnready, published, LeavesReady};
 
 use crate::edit::Made;
 use crate::judging::judged;
 use crate::log::Log;
 use crate::making::{Ready, made_ready};
+use crate::stock::{Rooms, Stock};
 use crate::stop::Stop;
 use crate::tally::Tally;
+use cache_entries::{Bin, Found, Kept, Key};
 use content_state::{Ask, Refusal, Refused, State};
 use edit_laws::{verdicts_keep_valid, viewers_are_there};
 use site_commands::{Answer, Command, Verdict};
 use site_keeper::{Batch, Keeper, KeeperFault, Stored};
-use std::alloc::{AllocError, Global};
+use std::alloc::{AllocError, AllocFailed, Global};
 use std::marker::Model;
 use std::sync::Arc;
 
@@ -32,6 +36,7 @@ use std::sync::Arc;
 pub struct Hall<K: Keeper> {
     log: Log,
     pending: Option<Made>,
+    stock: Stock,
     keeper: K,
 }
 
@@ -42,9 +47,9 @@ impl<K: Keeper> Model for Hall<K> {
 
     ghost use Rattle.site_hall.specs.Within.{view_of, IsWhole};
 
-    ghost view = { λ h. view_of h.log h.pending (K.kept h.keeper) (K.faults h.keeper) (K.steadfast h.keeper) };
+    ghost view = { λ h. view_of h.log h.pending (K.kept h.keeper) (K.faults h.keeper) (K.steadfast h.keeper) h.stock };
 
-    ghost invariant = { λ h. IsWhole h.log h.pending (K.kept h.keeper) (K.faults h.keeper) (K.steadfast h.keeper) };
+    ghost invariant = { λ h. IsWhole h.log h.pending (K.kept h.keeper) (K.faults h.keeper) (K.steadfast h.keeper) h.stock };
 }
 
 /// Why there is no hall of what a keeper holds. The keeper comes back, and what was to be loaded, unless memory was wanting
@@ -59,11 +64,52 @@ pub struct NoHall<K> {
 impl<K: Keeper> Hall<K> {
     /// The hall of what a keeper holds: rows, each of which is right by itself, counts and a number. They are refused where
     /// they are no site, and where memory is wanting, as by `State::from_rows`. No edit is published yet, and none is
-    /// pending.
+    /// pending. Nothing is kept of pages yet, and the bins have the program's room.
     pub fn new(alloc: Global, keeper: K, stored: Stored) -> Result<Hall<K>, NoHall<K>>
         requires told { IfTold (K.kept keeper) (λ held. held ≡ stored) }
         requires rows { AreValidRows stored.rows }
         ensures opened { IfOk result (λ hall. hall ≡ opened_with stored (K.kept keeper) (K.faults keeper) (K.steadfast keeper)) }
+        ensures is_hall { IfOk result (λ hall. IsHall hall) }
+        ensures small { IfOk result (λ _. stored.head ≤ 2 ^ 62) }
+        ensures refused { IfErr result (λ none. IsRefusal stored.rows stored.head none.why) }
+        ensures keeper_back { IfErr result (λ none. none.keeper ≡ keeper) }
+        ensures stored_back { IfErr result (λ none. IsBack none.why none.stored stored) }
+    {
+        Hall::with_rooms(alloc, keeper, stored, Rooms::of_program())
+    }
+
+    /// The same, where the bins have so much room.
+    pub fn with_rooms(
+        alloc: Global,
+        keeper: K,
+        stored: Stored,
+        rooms: Rooms,
+    ) -> Result<Hall<K>, NoHall<K>>
+        requires told { IfTold (K.kept keeper) (λ held. held ≡ stored) }
+        requires rows { AreValidRows stored.rows }
+        ensures opened { IfOk result (λ hall. hall ≡ opened_in (stock_in rooms) stored (K.kept keeper) (K.faults keeper) (K.steadfast keeper)) }
+        ensures is_hall { IfOk result (λ hall. IsHall hall) }
+        ensures small { IfOk result (λ _. stored.head ≤ 2 ^ 62) }
+        ensures refused { IfErr result (λ none. IsRefusal stored.rows stored.head none.why) }
+        ensures keeper_back { IfErr result (λ none. none.keeper ≡ keeper) }
+        ensures stored_back { IfErr result (λ none. IsBack none.why none.stored stored) }
+    {
+        match Stock::new(alloc, rooms) {
+            Ok(stock) => Hall::opened(alloc, keeper, stored, stock),
+            Err(_) => Err(NoHall {
+                keeper,
+                stored: Some(stored),
+                why: Refusal::OutOfMemory,
+            }),
+        }
+    }
+
+    /// The hall of what a keeper holds, with what is kept of pages.
+    fn opened(alloc: Global, keeper: K, stored: Stored, stock: Stock) -> Result<Hall<K>, NoHall<K>>
+        requires told { IfTold (K.kept keeper) (λ held. held ≡ stored) }
+        requires rows { AreValidRows stored.rows }
+        requires entries { AreSound (state_in stored) [] (bins_in stock) }
+        ensures opened { IfOk result (λ hall. hall ≡ opened_in stock stored (K.kept keeper) (K.faults keeper) (K.steadfast keeper)) }
         ensures is_hall { IfOk result (λ hall. IsHall hall) }
         ensures small { IfOk result (λ _. stored.head ≤ 2 ^ 62) }
         ensures refused { IfErr result (λ none. IsRefusal stored.rows stored.head none.why) }
@@ -86,6 +132,7 @@ impl<K: Keeper> Hall<K> {
             Ok(log) => Ok(Hall {
                 log,
                 pending: None,
+                stock,
                 keeper,
             }),
             Err(_) => Err(NoHall {
@@ -155,7 +202,7 @@ impl<K: Keeper> Hall<K> {
         match self.prepare(alloc, ask, csrf, command, now, pass) {
             Ok(ready) => {
                 let done = ready.done;
-                match self.keep(alloc, ready) {
+                match self.keep_edit(alloc, ready) {
                     Ok(()) => (Answer::Done(done, self.number()), true),
                     Err(KeeperFault::Failed) => (Answer::Keeper, true),
                     Err(KeeperFault::OutOfMemory) => (Answer::OutOfMemory, false),
@@ -181,15 +228,39 @@ impl<K: Keeper> Hall<K> {
         self.pending.is_some()
     }
 
-    /// How often something was looked for among what is kept of pages: never, since the hall keeps nothing of them.
-    pub fn tally(&self) -> Tally
-        ensures { result ≡ record { looks = 0; found = 0; kept = 0 } }
+    /// What stands under a key in a bin, which then goes first there; an entry is sound over the published edits. The look is
+    /// counted. `Err` only where memory is wanting, and then nothing changes.
+    pub fn look(&mut self, _alloc: Global, bin: Bin, key: &Key) -> Result<Found, AllocError>
+        ensures looks { LooksUp result self.old self.new bin key.now }
+        ensures sound { IfOk result (λ found. IsSoundIn self.new key.now found) }
+        ensures is_hall { IsHall self.new }
     {
-        Tally {
-            looks: 0,
-            found: 0,
-            kept: 0,
-        }
+        self.stock.look(bin, key)
+    }
+
+    /// Keeps something under a key in a bin, where it goes first: in place of what stood under the same key, or, where the
+    /// bin is full, of the one that wasn't used for longest. An entry has to be sound over the published edits. It is
+    /// counted. Where memory is wanting nothing changes, and the key and what was to be kept come back.
+    pub fn keep(
+        &mut self,
+        _alloc: Global,
+        bin: Bin,
+        key: Key,
+        kept: Kept,
+    ) -> Result<(), AllocFailed<(Key, Kept)>>
+        requires { MayBeKept self.old key kept }
+        ensures keeps { KeepsUnder result self.old self.new bin key kept }
+        ensures back { IfErr result (λ f. f.value ≡ (key, kept)) }
+        ensures is_hall { IsHall self.new }
+    {
+        self.stock.keep(bin, key, kept)
+    }
+
+    /// How often something was looked for among what is kept of pages, found there, and kept.
+    pub fn tally(&self) -> Tally
+        ensures { result ≡ tally_in self.now.stock }
+    {
+        self.stock.tally()
     }
 
     /// The keeper, as it is.
@@ -200,6 +271,7 @@ impl<K: Keeper> Hall<K> {
         let Hall {
             log: _,
             pending: _,
+            stock: _,
             keeper,
         } = self;
         keeper
@@ -302,7 +374,7 @@ impl<K: Keeper> Hall<K> {
 
     /// Keeps an edit, and then publishes it, for which all was made before. Where the keeper failed, the edit is pending; where
     /// memory is wanting, nothing changes.
-    pub(crate) fn keep(&mut self, alloc: Global, ready: Ready) -> Result<(), KeeperFault>
+    pub(crate) fn keep_edit(&mut self, alloc: Global, ready: Ready) -> Result<(), KeeperFault>
         requires { MayBeNext self.old ready }
         ensures published { OnOk result (self.new ≡ published self.old ready.batch) }
         ensures leaves { IfErr result (λ fault. LeavesReady fault self.old ready.batch self.new) }

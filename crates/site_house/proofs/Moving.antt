@@ -23,6 +23,8 @@ moves_same house = record {
   never_fails = λ _. refl;
   cause = inl refl;
   own = λ own. own;
+  told = refl;
+  unkept = omega arith;
 }
 
 -- a cause of either is one of both
@@ -39,6 +41,8 @@ pub moves_on : {first second third : HouseView} → Moves first second → Moves
 moves_on {first} {second} {third} a b =
     let up = a.never_falls in
     let more = b.never_falls in
+    let unkept = a.unkept in
+    let still = b.unkept in
     record {
       base = b.base ∙ a.base;
       number = b.number ∙ a.number;
@@ -50,4 +54,6 @@ moves_on {first} {second} {third} a b =
       never_fails = λ steadfast. b.never_fails (a.steadfast ∙ steadfast) ∙ a.never_fails steadfast;
       cause = cause_of_both a.never_falls b.never_falls a.cause b.cause;
       own = λ own. b.own (a.own own);
+      told = b.told ∙ a.told;
+      unkept = omega arith;
     }

@@ -1,5 +1,5 @@
--- The committed states of a site, as one caller sees them, and what becomes of the caller's edits.
-use Rattle.std.specs.Prelude.{ℕ, List, [], ◌∷◌, ◌++◌, ◌≡◌, ◌≤◌, ◌+◌, ◌==◌, ◌⊎◌, Bool, true, Option, min, take, drop, All}
+-- The committed states of a site, as one caller sees them, what becomes of the caller's edits, and what is kept of pages.
+use Rattle.std.specs.Prelude.{ℕ, List, [], ◌∷◌, ◌++◌, ◌≡◌, ◌≤◌, ◌+◌, ◌==◌, ◌⊎◌, Bool, true, Option, is_some, min, take, drop, All}
 use Rattle.std.specs.List.{filter}
 use Rattle.content_state.specs.State.{State}
 use Rattle.content_state.specs.declared.ask.Ask.{Ask}
@@ -13,6 +13,7 @@ use Rattle.site_commands.specs.declared.answer.Answer.TheVariants as answer
 use Rattle.site_commands.specs.declared.answer.Done.{Done}
 use Rattle.site_commands.specs.declared.answer.Refusal.{Refusal}
 use Rattle.site_commands.specs.declared.command.Command.{Command}
+use Rattle.fragment_cache.specs.Bins.{Bins}
 use Rattle.site_house.specs.History.{History, newest_of}
 
 -- A base is valid, and so is each state that the edits of a log make of it; each edit writes to distinct cells.
@@ -38,6 +39,10 @@ pub record HouseView : Type 0 where
   pub handed : List Commit
   -- how often an edit was answered that the keeper failed, up to the greatest u64
   pub keepers : ℕ
+  -- what is kept of pages, where the house tells it
+  pub bins : Option Bins
+  -- how often something wasn't kept for want of memory, up to the greatest u64
+  pub unkept : ℕ
 
 -- what a house has seen
 abbrev pub history_of : HouseView → History
@@ -63,7 +68,8 @@ CountRose old new = min (old + 1) 18446744073709551615 ≤ new
 
 -- What every call does: it leaves base, number, opening and name as they were; what the caller has seen only grows, and
 -- the count of faults never falls, nor does it rise where the keeper tells that it never fails. That the keeper failed is
--- answered only where that count rose. Where the edits of the pass were the caller's own, they still are.
+-- answered only where that count rose. Where the edits of the pass were the caller's own, they still are. The house goes on
+-- to tell what is kept, or not to, and the count of what wasn't kept never falls.
 pub record Moves (old new : HouseView) : Type 0 where
   pub base : new.base ≡ old.base
   pub number : new.number ≡ old.number
@@ -75,11 +81,18 @@ pub record Moves (old new : HouseView) : Type 0 where
   pub never_fails : old.steadfast ≡ true → new.faults ≡ old.faults
   pub cause : (new.keepers ≡ old.keepers) ⊎ CountRose old.faults new.faults
   pub own : AreOwn old → AreOwn new
+  pub told : is_some new.bins ≡ is_some old.bins
+  pub unkept : old.unkept ≤ new.unkept
 
 -- What every call but that of an edit does besides: nothing is handed in, and no edit is answered.
 pub record Stays (old new : HouseView) : Type 0 where
   pub handed : new.handed ≡ old.handed
   pub keepers : new.keepers ≡ old.keepers
+
+-- What every call does besides that neither looks for something nor keeps it: what is kept stays, in the same order.
+pub record KeepsAll (old new : HouseView) : Type 0 where
+  pub bins : new.bins ≡ old.bins
+  pub unkept : new.unkept ≡ old.unkept
 
 -- ---- what becomes of an edit
 

@@ -9,3 +9,4 @@ mod Ends
 mod Longer
 mod Failing
 mod Working
+mod Statuses

@@ -14,8 +14,11 @@ use Rattle.edit_bodies.specs.Commands.{command_in}
 use Rattle.edit_bodies.specs.declared.words.Words.{Words}
 use Rattle.edit_replies.specs.Texts.{refused_text, done_text, keeper_text}
 use Rattle.site_house.specs.House.{HouseView, AreValid, Moves, Stays, Accepts, Refuses, Fails, HandedAtMost, history_of}
-use Rattle.site_house.specs.History.{newest}
-use Rattle.site_house.proofs.Histories.{moves_longer, newest_state, on_newest, log_to_newest}
+use Rattle.site_house.specs.History.{History, OnLog, newest, state_of}
+use Rattle.site_house.specs.Bins.{IsSeenIn}
+use Rattle.content_state.specs.SiteRules.{IsValidState}
+use Rattle.std.proofs.Math.Seq.{take-length}
+use Rattle.site_house.proofs.Histories.{moves_longer, newest_state, on_newest, on_grows, state_grows, history_moves, log_to_newest}
 use Rattle.site_io.specs.Reached.{and_point}
 use Rattle.site_io.specs.Series.{last_moment}
 use Rattle.site_io.specs.Told.{after, AddsFront}
@@ -26,13 +29,33 @@ use Rattle.site_http.specs.declared.call.Reading.{Reading}
 use Rattle.site_http.specs.Called.{Called, ToRead, ToEdit, Wish, called, ask_of}
 use Rattle.site_http.specs.Reply.{Says, IsDrawn, HandedOnce, MayTell, MayDraw, told, answered, listed, memory_text}
 use Rattle.site_http.specs.Connection.{and_points}
-use Rattle.site_http.specs.Turn.{Makes, Committed, OnNewest, ToldOnTheWay, Replied, HalfReplied, bytes_of}
+use Rattle.site_http.specs.Turn.{Makes, Committed, OnSeen, ToldOnTheWay, Replied, HalfReplied, bytes_of}
 use Rattle.site_http.proofs.Told.{after_nothing, points_points, points_nothing, point_of}
 
+-- the newest state is one that was seen
+pub newest_seen : (house : HouseView) (state : State) → state ≡ replay house.base house.seen → AreValid house.base house.seen → IsSeenIn house state
+unfolding replay
+newest_seen house state is valid = record {
+  in_order = (valid.states 0).in_order;
+  count = length house.seen;
+  within = omega arith;
+  state_is = is ∙ ap (replay house.base) (sym (take-length house.seen));
+  valid = subst IsValidState (ap (replay house.base) (take-length house.seen) ∙ sym is) (valid.states (length house.seen));
+}
+
 -- what is said on the state that was seen
-pub said_on : (house : HouseView) (state : State) (reading : Reading) (ask : Ask) (moment : ℕ) (closing : Bool) (bytes : List ℕ) (built : ℕ) → state ≡ replay house.base house.seen → Says reading state ask moment closing bytes built → OnNewest house (λ (s : State). Says reading s ask moment closing bytes built)
-said_on house state reading ask moment closing bytes built is says =
-    subst (λ (s : State). Says reading s ask moment closing bytes built) (is ∙ sym (newest_state (history_of house))) says
+pub said_on : (old mid new : HouseView) (state : State) (reading : Reading) (ask : Ask) (moment : ℕ) (closing : Bool) (bytes : List ℕ) (built : ℕ) → Moves old mid → AreValid mid.base mid.seen → state ≡ replay mid.base mid.seen → Moves mid new
+    → Says reading state ask moment closing bytes built → OnSeen old new (λ (s : State). Says reading s ask moment closing bytes built)
+said_on old mid new state reading ask moment closing bytes built before valid is after says =
+    let number = newest (history_of mid) in
+    let longer_is = history_moves after in
+    record {
+      number = number;
+      on = subst (λ (h : History). OnLog h (newest (history_of old)) number) (sym longer_is)
+          (on_grows (history_of mid) after.grows.0 (newest (history_of old)) number (on_newest (history_of mid) (newest (history_of old)) valid (moves_longer before)));
+      holds = subst (λ (s : State). Says reading s ask moment closing bytes built)
+          (is ∙ sym (newest_state (history_of mid)) ∙ sym (state_grows (history_of mid) after.grows.0 number (omega arith)) ∙ ap (λ (h : History). state_of h number) (sym longer_is)) says;
+    }
 
 -- some points, and then that of the reply
 told_on : (before between after : Option (List Point)) (points : List Point) (built : ℕ) → between ≡ and_points before points → after ≡ and_point between (BeforeReply built) → after ≡ and_points before (points ++ BeforeReply built ∷ [])
@@ -41,18 +64,18 @@ told_on before between after points built first second =
 
 -- ---- what is read
 
--- what was said on the newest state
-pub read_made : {old new : HouseView} (words : Option (List ℕ)) (before between points : Option (List Point)) (reading : Reading) (ask : Ask) (moment : ℕ) (closing : Bool) (text : Made) (built : ℕ) → moment ≤ last_moment → Moves old new → Stays old new → AreValid new.base new.seen → OnNewest new (λ (s : State). Says reading s ask moment closing (bytes_of text) built) → between ≡ and_point before AfterSnapshot → points ≡ and_point between (BeforeReply built) → Makes (record { house = old; words = words; points = before }) (record { house = new; words = words; points = points }) (ToRead reading) ask moment closing text
-read_made {old} {new} words before between points reading ask moment closing text built within moves stays valid says first second = record {
-  story = told moment (AfterSnapshot ∷ []) built (bytes_of text) (newest (history_of new));
+-- what was said on a state that was seen
+pub read_made : {old new : HouseView} (words : Option (List ℕ)) (before between points : Option (List Point)) (reading : Reading) (ask : Ask) (moment : ℕ) (closing : Bool) (text : Made) (built : ℕ) → moment ≤ last_moment → Moves old new → Stays old new → OnSeen old new (λ (s : State). Says reading s ask moment closing (bytes_of text) built) → between ≡ and_point before AfterSnapshot → points ≡ and_point between (BeforeReply built) → Makes (record { house = old; words = words; points = before }) (record { house = new; words = words; points = points }) (ToRead reading) ask moment closing text
+read_made {old} {new} words before between points reading ask moment closing text built within moves stays says first second = record {
+  story = told moment (AfterSnapshot ∷ []) built (bytes_of text) says.number;
   is = inl (record {
     moment = moment;
-    number = newest (history_of new);
+    number = says.number;
     text = bytes_of text;
     built = built;
     within = within;
-    on = on_newest (history_of new) (newest (history_of old)) valid (moves_longer moves);
-    holds = says;
+    on = says.on;
+    holds = says.holds;
     story_is = refl;
   });
   moments = refl;
@@ -61,7 +84,7 @@ read_made {old} {new} words before between points reading ask moment closing tex
   text_is = refl;
   house = stays.handed ∙ sym (append-nil old.handed);
   failures = stays.keepers;
-  not_above = omega arith;
+  not_above = says.on.to;
 }
 
 wanting_at : {old new : HouseView} (words : Option (List ℕ)) (before between points : Option (List Point)) (until : List Point) (c : Called) (ask : Ask) (moment : ℕ) (closing : Bool) (text : Made) → MayTell c until → MayDraw c None → moment ≤ last_moment → Moves old new → Stays old new → between ≡ and_points before until → points ≡ and_point between (BeforeReply 0) → memory_text closing ≡ bytes_of text → Makes (record { house = old; words = words; points = before }) (record { house = new; words = words; points = points }) c ask moment closing text
@@ -104,7 +127,7 @@ may_draw_nothing : (c : Called) → MayDraw c None
 may_draw_nothing (ToRead reading) = refl
 may_draw_nothing (ToEdit wish) = inl refl
 
-stays_same : (house : HouseView) → Stays house house
+pub stays_same : (house : HouseView) → Stays house house
 stays_same house = record { handed = refl; keepers = refl }
 
 -- memory was wanting to tell what is asked for

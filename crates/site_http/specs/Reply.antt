@@ -115,12 +115,12 @@ told moment points built text number = record {
 }
 
 -- the page of what was asked on a state, at a moment, under its head, and how many elements were built for it, up to the
--- greatest u64: itself, and each that stands in one of its places
+-- greatest u64: at most itself, and each that stands in one of its places, since what was kept is not built again
 pub record IsPageReply (state : State) (ask : Ask) (moment : ℕ) (closing : Bool) (text : List ℕ) (built : ℕ) : Type 0 where
   pub status : ℕ
   pub body : List ℕ
   pub page : IsPage state.rows ask moment status body
-  pub built_is : built ≡ min (page_count state.rows ask moment) 18446744073709551615
+  pub built_at_most : built ≤ min (page_count state.rows ask moment) 18446744073709551615
   pub text_is : text ≡ reply_text (page_head status (length body) state.number closing) body
 
 -- what is answered on a state without changing it, and how many elements were built for it

@@ -19,7 +19,7 @@ use Rattle.site_http.specs.declared.next.Next.{Next}
 use Rattle.site_http.specs.declared.next.Next.TheVariants as next
 use Rattle.site_http.specs.declared.next.Trouble.{Trouble}
 use Rattle.site_http.specs.declared.next.Trouble.TheVariants.{ReadFault, OutOfMemory}
-use Rattle.site_house.specs.History.{History, newest, state_of}
+use Rattle.site_house.specs.History.{History, OnLog, newest, state_of}
 use Rattle.edit_bodies.specs.declared.words.Words.{Words}
 use Rattle.site_http.specs.Called.{Called, ToEdit, Wish}
 use Rattle.site_http.specs.Reply.{Story, IsAnswer, IsText, listed, refusal_text}
@@ -102,9 +102,11 @@ abbrev pub TurnWrites : Option Ended → ℕ → ℕ → Type 0
 TurnWrites None old new = new ≡ old
 TurnWrites (Some end) old new = CountsWrites end old new
 
--- what holds of the newest state of a house
-abbrev pub OnNewest : HouseView → (State → Type 0) → Type 0
-OnNewest house Holds = Holds (state_of (history_of house) (newest (history_of house)))
+-- what holds of a state that a house has seen, of a number that isn't below those that it had seen before
+pub record OnSeen (old new : HouseView) (Holds : State → Type 0) : Type 0 where
+  pub number : ℕ
+  pub on : OnLog (history_of new) (newest (history_of old)) number
+  pub holds : Holds (state_of (history_of new) number)
 
 -- which points were told until memory was wanting: none, or that of the snapshot
 abbrev pub ToldOnTheWay : Option (List Point) → Option (List Point) → Type 0

@@ -1,7 +1,8 @@
 //! One reply.
 ghost use Rattle.std.specs.Prelude.{◌≡◌, ◌∷◌, ◌≤◌, [], ℕ, List, Option, IfOk, OnOk, OnErr, is_some};
 ghost use Rattle.std.specs.Option.{option_copied};
-ghost use Rattle.site_house.specs.House.{AreValid, Moves, Stays, history_of};
+ghost use Rattle.content_state.specs.Ask.{IsAsk};
+ghost use Rattle.site_house.specs.House.{Moves, Stays, history_of};
 ghost use Rattle.site_io.specs.Reached.{and_point};
 ghost use Rattle.site_io.specs.Series.{GivesInTurn, last_moment, last_word};
 ghost use Rattle.site_io.specs.Told.{after};
@@ -11,7 +12,7 @@ ghost use Rattle.edit_bodies.specs.Commands.{draws};
 ghost use Rattle.site_house.specs.History.{newest};
 ghost use Rattle.site_http.specs.Called.{ask_of, called, called_of, ToRead};
 ghost use Rattle.site_http.specs.Reply.{Says, listed};
-ghost use Rattle.site_http.specs.Turn.{bytes_of, Committed, CountsOutcome, Makes, OnNewest, Replies, ToldOnTheWay};
+ghost use Rattle.site_http.specs.Turn.{bytes_of, Committed, CountsOutcome, Makes, OnSeen, Replies, ToldOnTheWay};
 
 use crate::call::{Asked, Call, Reading, asked_by};
 use crate::refusal::memory_text;
@@ -55,7 +56,7 @@ impl Made {
     }
 }
 
-/// What is answered on the newest state, without changing it.
+/// What is answered on the newest state, without changing it. Others may edit while what is kept of its page is looked for.
 fn read<H: House, G: Gate>(
     alloc: Global,
     house: &mut H,
@@ -65,16 +66,16 @@ fn read<H: House, G: Gate>(
     now: u64,
     closing: bool,
 ) -> Result<Reply, AllocError>
+    requires { IsAsk ask.now }
     ensures moves { Moves (H.sees house.old) (H.sees house.new) }
     ensures stays { Stays (H.sees house.old) (H.sees house.new) }
-    ensures valid { AreValid (H.sees house.new).base (H.sees house.new).seen }
-    ensures says { IfOk result (λ r. OnNewest (H.sees house.new) (λ state. Says reading state ask.now now closing r.text.items r.built)) }
+    ensures says { IfOk result (λ r. OnSeen (H.sees house.old) (H.sees house.new) (λ state. Says reading state ask.now now closing r.text.items r.built)) }
     ensures told { OnOk result (G.reached gate.new ≡ and_point (G.reached gate.old) AfterSnapshot) }
     ensures on_the_way { OnErr result (ToldOnTheWay (G.reached gate.old) (G.reached gate.new)) }
 {
     let state = house.snapshot(alloc)?;
     gate.reach(Point::AfterSnapshot);
-    let reply = reply_on(alloc, &state, reading, ask, now, closing)?;
+    let reply = reply_on(alloc, house, &state, reading, ask, now, closing)?;
     Ok(reply)
 }
 
@@ -145,7 +146,8 @@ fn reading_reply<H: House, G: Gate>(
     now: u64,
     closing: bool,
 ) -> Made
-    requires { now ≤ last_moment }
+    requires moment { now ≤ last_moment }
+    requires right { IsAsk ask.now }
     ensures moves { Moves (H.sees house.old) (H.sees house.new) }
     ensures makes { (words : Option (List ℕ)) → Makes
         (record { house = H.sees house.old; words = words; points = G.reached gate.old })
@@ -174,7 +176,8 @@ fn reply_to<H: House, E: Entropy, G: Gate>(
     now: u64,
     closing: bool,
 ) -> Made
-    requires { now ≤ last_moment }
+    requires moment { now ≤ last_moment }
+    requires right { IsAsk asked.now.ask }
     ensures moves { Moves (H.sees house.old) (H.sees house.new) }
     ensures makes { Makes
         (record { house = H.sees house.old; words = E.given entropy.old; points = G.reached gate.old })
@@ -216,7 +219,8 @@ fn reply_made<H: House, E: Entropy, G: Gate>(
     now: u64,
     closing: bool,
 ) -> Made
-    requires { now ≤ last_moment }
+    requires moment { now ≤ last_moment }
+    requires right { IsAsk (ask_of request) }
     ensures moves { Moves (H.sees house.old) (H.sees house.new) }
     ensures makes { Makes
         (record { house = H.sees house.old; words = E.given entropy.old; points = G.reached gate.old })
@@ -245,6 +249,7 @@ pub fn answer<H: House, O: Sink, C: Clock, E: Entropy, G: Gate>(
     request: Request,
     closing: bool,
 ) -> Outcome
+    requires { IsAsk (ask_of request) }
     ensures moves { Moves (H.sees house.old) (H.sees house.new) }
     ensures replies { Replies result
         (record { given = C.given clock.old; words = E.given entropy.old; points = G.reached gate.old; written = O.written sink.old; handed = (H.sees house.old).handed; keepers = (H.sees house.old).keepers })

@@ -1,5 +1,8 @@
 //! The text of a reply on a state.
 ghost use Rattle.std.specs.Prelude.{◌≡◌, IfOk, IsTrue, length};
+ghost use Rattle.content_state.specs.Ask.{IsAsk};
+ghost use Rattle.site_house.specs.House.{Moves, Stays};
+ghost use Rattle.site_house.specs.Bins.{IsSeenIn};
 ghost use Rattle.site_http.specs.Reply.{page_head, method_body, method_text, IsPageReply, Says};
 ghost use Rattle.http_heads.specs.Reply.{reply_text, is_reply_status};
 
@@ -8,6 +11,7 @@ use crate::shown::shown_page;
 use content_state::{Ask, State};
 use edit_replies::{bad_json_text, media_text};
 use http_heads::{CookieOut, Media, ReplyHead, reply_head};
+use site_house::House;
 use std::alloc::{AllocError, Global};
 
 /// A head and a body.
@@ -29,16 +33,21 @@ pub struct Reply {
 }
 
 /// The reply of a page.
-fn page_reply(
+fn page_reply<H: House>(
     alloc: Global,
+    house: &mut H,
     state: &State,
     ask: &Ask,
     now: u64,
     closing: bool,
 ) -> Result<Reply, AllocError>
-    ensures { IfOk result (λ r. IsPageReply state.now ask.now now closing r.text.items r.built) }
+    requires seen { IsSeenIn (H.sees house.old) state.now }
+    requires right { IsAsk ask.now }
+    ensures moves { Moves (H.sees house.old) (H.sees house.new) }
+    ensures stays { Stays (H.sees house.old) (H.sees house.new) }
+    ensures says { IfOk result (λ r. IsPageReply state.now ask.now now closing r.text.items r.built) }
 {
-    let page = shown_page(alloc, state, ask, now)?;
+    let page = shown_page(alloc, house, state, ask, now)?;
     let head = ReplyHead {
         status: page.status,
         media: Media::Html,
@@ -76,20 +85,26 @@ fn method_reply(alloc: Global, number: u64, closing: bool) -> Result<Reply, Allo
     Ok(Reply { text, built: 0 })
 }
 
-/// What is answered on a state, at a moment, without changing it.
-pub fn reply_on(
+/// What is answered on a state that the house has seen, at a moment, without changing it.
+#[tactic(auto, using(site_house::proofs::Moving::moves_same, crate::proofs::Made::stays_same))]
+pub fn reply_on<H: House>(
     alloc: Global,
+    house: &mut H,
     state: &State,
     reading: Reading,
     ask: &Ask,
     now: u64,
     closing: bool,
 ) -> Result<Reply, AllocError>
-    ensures { IfOk result (λ r. Says reading state.now ask.now now closing r.text.items r.built) }
+    requires seen { IsSeenIn (H.sees house.old) state.now }
+    requires right { IsAsk ask.now }
+    ensures moves { Moves (H.sees house.old) (H.sees house.new) }
+    ensures stays { Stays (H.sees house.old) (H.sees house.new) }
+    ensures says { IfOk result (λ r. Says reading state.now ask.now now closing r.text.items r.built) }
 {
     match reading {
         Reading::Page => {
-            let reply = page_reply(alloc, state, ask, now, closing)?;
+            let reply = page_reply(alloc, house, state, ask, now, closing)?;
             Ok(reply)
         }
         Reading::NoPairing => {

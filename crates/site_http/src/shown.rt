@@ -1,19 +1,36 @@
 //! The page of a request on a state.
-ghost use Rattle.std.specs.Prelude.{◌≡◌, IfOk, IsTrue, min};
+ghost use Rattle.std.specs.Prelude.{◌≤◌, IfOk, IsTrue, min};
+ghost use Rattle.content_state.specs.Ask.{IsAsk};
 ghost use Rattle.http_heads.specs.Reply.{is_reply_status};
 ghost use Rattle.render_array.specs.Shown.{IsPage, page_count};
+ghost use Rattle.site_house.specs.House.{Moves, Stays};
+ghost use Rattle.site_house.specs.Bins.{IsSeenIn};
 
 use content_state::{Ask, State};
-use renderer::{Page, page_on};
+use kept_pages::render_page;
+use renderer::Page;
+use site_access::viewer_of;
+use site_house::House;
 use std::alloc::{AllocError, Global};
 
-/// The page that is asked for, on a state, at a moment; its status is one of replies. Nothing is kept yet, so the page
-/// itself and each element that stands in one of its places are built.
-pub fn shown_page(alloc: Global, state: &State, ask: &Ask, now: u64) -> Result<Page, AllocError>
+/// The page that is asked for, on a state that the house has seen, at a moment; its status is one of replies. What is kept
+/// of it, and fresh on that state, is shown as it was kept, and the rest is built.
+pub fn shown_page<H: House>(
+    alloc: Global,
+    house: &mut H,
+    state: &State,
+    ask: &Ask,
+    now: u64,
+) -> Result<Page, AllocError>
+    requires seen { IsSeenIn (H.sees house.old) state.now }
+    requires right { IsAsk ask.now }
+    ensures moves { Moves (H.sees house.old) (H.sees house.new) }
+    ensures stays { Stays (H.sees house.old) (H.sees house.new) }
     ensures page { IfOk result (λ p. IsPage state.now.rows ask.now now p.status p.body.items) }
     ensures status { IfOk result (λ p. IsTrue (is_reply_status p.status)) }
-    ensures built { IfOk result (λ p. p.built ≡ min (page_count state.now.rows ask.now now) 18446744073709551615) }
+    ensures at_most { IfOk result (λ p. p.built ≤ min (page_count state.now.rows ask.now now) 18446744073709551615) }
 {
-    let page = page_on(alloc, state, ask, now)?;
+    let viewer = viewer_of(state, ask, now);
+    let page = render_page(alloc, house, state, &viewer, ask, now)?;
     Ok(page)
 }

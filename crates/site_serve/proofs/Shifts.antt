@@ -39,14 +39,14 @@ whole_of worked.DoorFault rest more same = sym (ne_eqb (1 + more) 0 (λ e. absur
 
 module _ (law : Grows) (old new : HallView) (footing : Footing) (opened : footing.opened ≡ noted old) where
   first_of : (number : ℕ) (station : StationView) → List ℕ → Bench
-  first_of number station name = bench_in station (house_of (member_at footing number station).pass.note name 0)
+  first_of number station name = bench_in station (house_of (member_at footing number station).pass.note name 0 0)
 
-  last_of : (member : Member) → List ℕ → ℕ → Bench
-  last_of member name keepers = bench_in member.station (house_of member.pass.note name keepers)
+  last_of : (member : Member) → List ℕ → ℕ → ℕ → Bench
+  last_of member name keepers unkept = bench_in member.station (house_of member.pass.note name keepers unkept)
 
   connections : (number : ℕ) (station : StationView) (member : Member) → HasServed (member_at footing number station) member → ℕ
   unfolding first_of last_of
-  connections number station member has = count_of member.worked (first_of number station has.name) (last_of member has.name has.keepers) member.claimer.claims has.did.works
+  connections number station member has = count_of member.worked (first_of number station has.name) (last_of member has.name has.keepers has.unkept) member.claimer.claims has.did.works
 
   shift_of : (number : ℕ) (station : StationView) (member : Member) → HasServed (member_at footing number station) member → Shift
   shift_of number station member has = record {
@@ -76,7 +76,7 @@ module _ (law : Grows) (old new : HallView) (footing : Footing) (opened : footin
       let here : History = history_in old number note.seen in
       let served : Serves count first (last there) =
       subst (λ hall. Serves count (bench_of station [] 0 (record { base = hall.loaded.base; log = hall.log; pass = number })) (last there)) opened
-      (served_of member.worked (first_of number station has.name) (last_of member has.name has.keepers) member.claimer.claims did.works) in
+      (served_of member.worked (first_of number station has.name) (last_of member has.name has.keepers has.unkept) member.claimer.claims did.works) in
       let served-here : Serves count first (last here) =
       subst (λ history. Serves count first (last history)) (λ i. record { base = base i; log = note.seen; pass = number_is i }) served in
       over law count (history_in old number new.log) first (last here) served-here (record { base = refl; pass = refl; grows = seen })
@@ -127,7 +127,7 @@ module _ (law : Grows) (old new : HallView) (footing : Footing) (opened : footin
       let has = served.0 in
       let shift = shift_of number station member has in
       let claimed : member.claimer.claims ≡ shift.count + faulted member.worked =
-      claimed_of member.worked (first_of number station has.name) (last_of member has.name has.keepers) member.claimer.claims has.did.works in
+      claimed_of member.worked (first_of number station has.name) (last_of member has.name has.keepers has.unkept) member.claimer.claims has.did.works in
       let claims-rest = rest.claims in
       let failed-sum = sum_by-cons (λ (m : Member). faulted m.worked) member crew in
       let claims-sum = sum_by-cons (λ (m : Member). m.claimer.claims) member crew in

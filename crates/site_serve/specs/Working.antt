@@ -57,8 +57,9 @@ member_of worker = record {
 pub record HasServed (old new : Member) : Type 0 where
   pub name : List ℕ
   pub keepers : ℕ
+  pub unkept : ℕ
   pub table : new.pass.table ≡ old.pass.table
-  pub did : DidServe old.station new.station old.claimer new.claimer new.worked (house_of old.pass.note name 0) (house_of new.pass.note name keepers)
+  pub did : DidServe old.station new.station old.claimer new.claimer new.worked (house_of old.pass.note name 0 0) (house_of new.pass.note name keepers unkept)
 
 -- all did
 abbrev pub AllServed : List Member → List Member → Type 0

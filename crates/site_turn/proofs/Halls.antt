@@ -1,8 +1,14 @@
 -- Each call of a hall is a turn, as the rule of turns has it.
-use Rattle.std.proofs.Common.{◌≡◌, ◌≤◌, ◌+◌, ◌==◌, ℕ, List, [], ◌∷◌, ◌++◌, Bool, true, false, Option, Some, None, option_to_list, refl, sym, ap, ◌∙◌, subst, inl, inr, arith, append_assoc, append-nil, le_trans, le_refl}
-use Rattle.std.specs.Prelude.{if◌then◌else◌}
+use Rattle.std.proofs.Common.{◌≡◌, ◌≤◌, ◌+◌, ◌==◌, ℕ, List, [], ◌∷◌, ◌++◌, Bool, true, false, Option, Some, None, option_to_list, refl, sym, ap, ◌∙◌, subst, inl, inr, arith, append_assoc, append-nil, le_refl}
+use Rattle.std.specs.Prelude.{if◌then◌else◌, Result, Ok, Err}
+use Rattle.std.specs.declared.alloc.AllocError.{AllocError}
 use Rattle.std.specs.List.{All}
 use Rattle.std.proofs.lemmas.List.Elements.{All-nil, All-cons}
+use Rattle.cache_entries.specs.declared.key.Key.{Key}
+use Rattle.cache_entries.specs.declared.kept.Bin.{Bin}
+use Rattle.cache_entries.specs.declared.kept.Found.{Found}
+use Rattle.cache_entries.specs.declared.kept.Found.TheVariants as found
+use Rattle.cache_entries.specs.declared.kept.Kept.{Kept}
 use Rattle.content_state.specs.declared.ask.Ask.{Ask}
 use Rattle.content_state.specs.declared.commit.Commit.{Commit}
 use Rattle.site_commands.specs.declared.answer.Answer.{Answer}
@@ -10,17 +16,26 @@ use Rattle.site_commands.specs.declared.answer.Answer.TheVariants as answer
 use Rattle.site_commands.specs.declared.answer.Done.{Done}
 use Rattle.site_commands.specs.declared.command.Command.{Command}
 use Rattle.site_house.specs.House.{IsSublist}
-use Rattle.site_hall.specs.Hall.{HallView, StaysSteadfast, Settles, settled_by, number_of, Accepts, Refuses, FailsHead, FailsApply, Answers, Tells}
+use Rattle.site_hall.specs.Hall.{HallView, StaysSteadfast, Settles, settled_by, number_of, Accepts, FailsHead, FailsApply, Answers, Tells}
+use Rattle.site_hall.specs.Hall.{with_stock}
+use Rattle.site_hall.specs.Stock.{Stock, looked, tally_in}
+use Rattle.site_hall.specs.Looked.{LooksUp, KeepsUnder}
+use Rattle.site_hall.specs.declared.tally.Tally.{Tally}
 use Rattle.site_hall.proofs.Sublists.{sublist_both}
-use Rattle.turn_rule.specs.declared.notes.HallNote.{HallNote}
 use Rattle.turn_rule.specs.Logs.{waiting, last_of, newest_of}
-use Rattle.turn_rule.specs.Steps.{zeros, given, Turns}
-use Rattle.site_turn.specs.Views.{noted}
+use Rattle.turn_rule.specs.Steps.{zeros, raised, given, Turns}
+use Rattle.turn_rule.specs.declared.notes.TallyNote.{TallyNote}
+use Rattle.site_turn.specs.Views.{noted, tally_note}
+use Rattle.site_turn.specs.Turns.{counts_of_found, counts_of_look, counts_of_keep}
 
 last_snoc : (log : List Commit) (c : Commit) → last_of (log ++ c ∷ []) ≡ c ∷ []
 last_snoc [] c = refl
 last_snoc (x ∷ []) c = refl
 last_snoc (x ∷ y ∷ log) c = last_snoc (y ∷ log) c
+
+-- what is noted of what a hall keeps of pages
+abbrev note_of : Stock → TallyNote
+note_of stock = tally_note (tally_in stock)
 
 -- ---- what is pending is settled
 
@@ -30,15 +45,16 @@ pub record Settled (old new : HallView) (commits : List Commit) : Type 0 where
   pub log : new.log ≡ old.log ++ commits
   pub none : new.pending ≡ None
   pub faults : new.faults ≡ old.faults
+  pub stock : new.stock ≡ old.stock
   pub handed : IsSublist commits (waiting (noted old))
 
 settled_to : (old : HallView) (head : ℕ) (pending : Option Commit) → old.pending ≡ pending → (commits : List Commit) × Settled old (settled_by old head pending) commits
-settled_to old head None is = ([], record { loaded = refl; log = sym (append-nil old.log); none = is; faults = refl; handed = subst (λ (p : Option Commit). IsSublist [] (option_to_list p)) (sym is) refl })
+settled_to old head None is = ([], record { loaded = refl; log = sym (append-nil old.log); none = is; faults = refl; stock = refl; handed = subst (λ (p : Option Commit). IsSublist [] (option_to_list p)) (sym is) refl })
 settled_to old head (Some c) is = by_choice (head == number_of old + 1)
   where
     by_choice : (b : Bool) → (commits : List Commit) × Settled old (record old { log = if b then old.log ++ c ∷ [] else old.log; pending = None }) commits
-    by_choice true = (c ∷ [], record { loaded = refl; log = refl; none = refl; faults = refl; handed = subst (λ (p : Option Commit). IsSublist (c ∷ []) (option_to_list p)) (sym is) (inr ([], refl, refl)) })
-    by_choice false = ([], record { loaded = refl; log = sym (append-nil old.log); none = refl; faults = refl; handed = subst (λ (p : Option Commit). IsSublist [] (option_to_list p)) (sym is) (inl refl) })
+    by_choice true = (c ∷ [], record { loaded = refl; log = refl; none = refl; faults = refl; stock = refl; handed = subst (λ (p : Option Commit). IsSublist (c ∷ []) (option_to_list p)) (sym is) (inr ([], refl, refl)) })
+    by_choice false = ([], record { loaded = refl; log = sym (append-nil old.log); none = refl; faults = refl; stock = refl; handed = subst (λ (p : Option Commit). IsSublist [] (option_to_list p)) (sym is) (inl refl) })
 
 pub settled_is : (old new : HallView) → Settles old new → (commits : List Commit) × Settled old new commits
 settled_is old new s =
@@ -47,20 +63,20 @@ settled_is old new s =
 
 -- ---- turns
 
--- what a call of the hall does is a turn of a pass with this number
-abbrev pub IsTurn : Bool → ℕ → HallView → HallView → Type 0
-IsTurn hands pass old new = (commits : List Commit) × Turns zeros hands pass (noted old) (noted new) commits
+-- what a call of the hall does is a turn of a pass with this number, which counts this
+abbrev pub IsTurn : TallyNote → Bool → ℕ → HallView → HallView → Type 0
+IsTurn more hands pass old new = (commits : List Commit) × Turns more hands pass (noted old) (noted new) commits
 
 -- nothing is handed in, and nothing comes into the log
-still : (pass : ℕ) (old new : HallView) → (noted new).loaded ≡ (noted old).loaded → new.log ≡ old.log → new.pending ≡ old.pending → old.faults ≤ new.faults → StaysSteadfast old new → IsTurn false pass old new
-still pass old new loaded log pending faults steady = (
+still : (more : TallyNote) (pass : ℕ) (old new : HallView) → (noted new).tally ≡ raised more (noted old).tally → (noted new).loaded ≡ (noted old).loaded → new.log ≡ old.log → new.pending ≡ old.pending → old.faults ≤ new.faults → StaysSteadfast old new → IsTurn more false pass old new
+still more pass old new tally loaded log pending faults steady = (
   [],
   record {
     loaded = loaded;
     log = log ∙ sym (append-nil old.log);
     faults = faults;
     steady = steady.stays;
-    tally = refl;
+    tally = tally;
     handed = subst (λ (p : Option Commit). IsSublist (option_to_list p) (waiting (noted old) ++ [])) (sym pending) (same old.pending);
     own = All-nil (λ (c : Commit). c.pass ≡ pass);
   },
@@ -71,11 +87,11 @@ still pass old new loaded log pending faults steady = (
     same (Some c) = inr ([], refl, refl)
 
 -- a call that changes nothing
-pub quiet_turn : (pass : ℕ) (hall : HallView) → IsTurn false pass hall hall
-quiet_turn pass hall = still pass hall hall refl refl refl (le_refl hall.faults) (record { tells = refl; stays = λ _. refl })
+pub quiet_turn : (pass : ℕ) (hall : HallView) → IsTurn zeros false pass hall hall
+quiet_turn pass hall = still zeros pass hall hall refl refl refl refl (le_refl hall.faults) (record { tells = refl; stays = λ _. refl })
 
 -- what was pending is settled, and nothing is handed in
-settled_turn : (pass : ℕ) (old new : HallView) → Settles old new → old.faults ≤ new.faults → StaysSteadfast old new → IsTurn false pass old new
+settled_turn : (pass : ℕ) (old new : HallView) → Settles old new → old.faults ≤ new.faults → StaysSteadfast old new → IsTurn zeros false pass old new
 settled_turn pass old new settles faults steady =
     let s = settled_is old new settles in (
       s.0,
@@ -84,23 +100,23 @@ settled_turn pass old new settles faults steady =
         log = s.1.log;
         faults = faults;
         steady = steady.stays;
-        tally = refl;
+        tally = ap note_of s.1.stock;
         handed = subst (λ (t : List Commit × List Commit). IsSublist t.0 t.1) (λ i. (sym (ap (λ (p : Option Commit). s.0 ++ option_to_list p) s.1.none ∙ append-nil s.0) i, sym (append-nil (waiting (noted old))) i)) s.1.handed;
         own = All-nil (λ (c : Commit). c.pass ≡ pass);
       },
     )
 
 -- what was pending is settled, and an edit is handed in: it comes into the log, or is pending
-handed_turn : (pass : ℕ) (old mid new : HallView) (commits more : List Commit) (c : Commit) → Settled old mid commits → c.pass ≡ pass → (noted new).loaded ≡ (noted mid).loaded → new.log ≡ mid.log ++ more
-    → more ++ waiting (noted new) ≡ c ∷ [] → given true (noted new) ≡ c ∷ [] → old.faults ≤ new.faults → StaysSteadfast old new → IsTurn true pass old new
-handed_turn pass old mid new commits more c s own loaded log edits is faults steady = (
+handed_turn : (pass : ℕ) (old mid new : HallView) (commits more : List Commit) (c : Commit) → Settled old mid commits → c.pass ≡ pass → (noted new).loaded ≡ (noted mid).loaded → new.stock ≡ mid.stock → new.log ≡ mid.log ++ more
+    → more ++ waiting (noted new) ≡ c ∷ [] → given true (noted new) ≡ c ∷ [] → old.faults ≤ new.faults → StaysSteadfast old new → IsTurn zeros true pass old new
+handed_turn pass old mid new commits more c s own loaded tally log edits is faults steady = (
   commits ++ more,
   record {
     loaded = loaded ∙ s.loaded;
     log = log ∙ ap (λ (l : List Commit). l ++ more) s.log ∙ append_assoc old.log commits more;
     faults = faults;
     steady = steady.stays;
-    tally = refl;
+    tally = ap note_of (tally ∙ s.stock);
     handed = subst (λ (t : List Commit × List Commit). IsSublist t.0 (waiting (noted old) ++ t.1)) (λ i. (sym (append_assoc commits more (waiting (noted new)) ∙ ap (λ (l : List Commit). commits ++ l) edits) i, sym is i)) (sublist_both commits (waiting (noted old)) c s.handed);
     own = subst (All (λ (d : Commit). d.pass ≡ pass)) (sym is) (All-cons (λ (d : Commit). d.pass ≡ pass) c [] own (All-nil (λ (d : Commit). d.pass ≡ pass)));
   },
@@ -116,29 +132,54 @@ module _ (old new : HallView) (ask : Ask) (csrf : Option (List ℕ)) (command : 
   pub failed_given : (f : FailsApply old new ask csrf command now pass) → given true (noted new) ≡ f.commit ∷ []
   failed_given f = ap (newest_of new.log) (ap (λ (h : HallView). h.pending) f.stays)
 
-  accepted_turn : (done : Done) (number : ℕ) → Accepts old new ask csrf command now pass done number → old.faults ≤ new.faults → StaysSteadfast old new → IsTurn true pass old new
+  accepted_turn : (done : Done) (number : ℕ) → Accepts old new ask csrf command now pass done number → old.faults ≤ new.faults → StaysSteadfast old new → IsTurn zeros true pass old new
   accepted_turn done number a faults steady =
       let s = settled_is old a.settled a.settles in
       let g = accepted_given done number a in
-      handed_turn pass old a.settled new s.0 (a.commit ∷ []) a.commit s.1 a.pass_is (ap (λ (h : HallView). (noted h).loaded) a.published) (ap (λ (h : HallView). h.log) a.published)
+      handed_turn pass old a.settled new s.0 (a.commit ∷ []) a.commit s.1 a.pass_is (ap (λ (h : HallView). (noted h).loaded) a.published) (ap (λ (h : HallView). h.stock) a.published) (ap (λ (h : HallView). h.log) a.published)
       (ap (λ (p : Option Commit). a.commit ∷ option_to_list p) g.0) g.1 faults steady
 
-  failed_turn : FailsApply old new ask csrf command now pass → old.faults ≤ new.faults → StaysSteadfast old new → IsTurn true pass old new
+  failed_turn : FailsApply old new ask csrf command now pass → old.faults ≤ new.faults → StaysSteadfast old new → IsTurn zeros true pass old new
   failed_turn f faults steady =
       let s = settled_is old f.settled f.settles in
-      handed_turn pass old f.settled new s.0 [] f.commit s.1 f.pass_is (ap (λ (h : HallView). (noted h).loaded) f.stays) (ap (λ (h : HallView). h.log) f.stays ∙ sym (append-nil f.settled.log))
+      handed_turn pass old f.settled new s.0 [] f.commit s.1 f.pass_is (ap (λ (h : HallView). (noted h).loaded) f.stays) (ap (λ (h : HallView). h.stock) f.stays) (ap (λ (h : HallView). h.log) f.stays ∙ sym (append-nil f.settled.log))
       (ap (λ (h : HallView). option_to_list h.pending) f.stays) (failed_given f) faults steady
 
-  head_turn : FailsHead old new → old.faults ≤ new.faults → StaysSteadfast old new → IsTurn false pass old new
-  head_turn f = still pass old new (ap (λ (h : HallView). (noted h).loaded) f.stays) (ap (λ (h : HallView). h.log) f.stays) (ap (λ (h : HallView). h.pending) f.stays)
+  head_turn : FailsHead old new → old.faults ≤ new.faults → StaysSteadfast old new → IsTurn zeros false pass old new
+  head_turn f = still zeros pass old new (ap (λ (h : HallView). (noted h).tally) f.stays) (ap (λ (h : HallView). (noted h).loaded) f.stays) (ap (λ (h : HallView). h.log) f.stays) (ap (λ (h : HallView). h.pending) f.stays)
 
   -- an edit is a turn
-  pub commit_turn : (a : Answer) (hands : Bool) → Answers a old new ask csrf command now pass → Tells a hands old new ask csrf command now pass → old.faults ≤ new.faults → StaysSteadfast old new → IsTurn hands pass old new
-  commit_turn (answer.Done done number) hands a tells faults steady = subst (λ (b : Bool). IsTurn b pass old new) (sym tells) (accepted_turn done number a faults steady)
-  commit_turn (answer.Refused refusal number) hands a tells faults steady = subst (λ (b : Bool). IsTurn b pass old new) (sym tells) (settled_turn pass old new a.settles faults steady)
+  pub commit_turn : (a : Answer) (hands : Bool) → Answers a old new ask csrf command now pass → Tells a hands old new ask csrf command now pass → old.faults ≤ new.faults → StaysSteadfast old new → IsTurn zeros hands pass old new
+  commit_turn (answer.Done done number) hands a tells faults steady = subst (λ (b : Bool). IsTurn zeros b pass old new) (sym tells) (accepted_turn done number a faults steady)
+  commit_turn (answer.Refused refusal number) hands a tells faults steady = subst (λ (b : Bool). IsTurn zeros b pass old new) (sym tells) (settled_turn pass old new a.settles faults steady)
   commit_turn answer.Keeper true a tells faults steady = failed_turn tells faults steady
   commit_turn answer.Keeper false a tells faults steady = head_turn tells faults steady
-  commit_turn answer.OutOfMemory hands a tells faults steady = subst (λ (b : Bool). IsTurn b pass old new) (sym tells) (elim a [
-    | inl e ↦ subst (λ (h : HallView). IsTurn false pass old h) (sym e) (quiet_turn pass old)
+  commit_turn answer.OutOfMemory hands a tells faults steady = subst (λ (b : Bool). IsTurn zeros b pass old new) (sym tells) (elim a [
+    | inl e ↦ subst (λ (h : HallView). IsTurn zeros false pass old h) (sym e) (quiet_turn pass old)
     | inr s ↦ settled_turn pass old new s faults steady
   ])
+
+-- ---- what is kept of pages
+
+-- what is noted of a tally that counts a look
+found_tally : (f : Found) (tally : Tally) → tally_note (looked f tally) ≡ raised (counts_of_found f) (tally_note tally)
+found_tally (found.Entry e) tally = refl
+found_tally (found.Redirect contexts) tally = refl
+found_tally found.Absent tally = refl
+
+-- nothing but what is kept of pages changes
+beside_turn : (more : TallyNote) (pass : ℕ) (old new : HallView) → new ≡ with_stock old new.stock → note_of new.stock ≡ raised more (note_of old.stock) → IsTurn more false pass old new
+beside_turn more pass old new same tally =
+    let faults = ap (λ (h : HallView). h.faults) same in
+    still more pass old new tally (ap (λ (h : HallView). (noted h).loaded) same) (ap (λ (h : HallView). h.log) same) (ap (λ (h : HallView). h.pending) same) (omega arith)
+    (record { tells = ap (λ (h : HallView). h.steadfast) same; stays = λ _. faults })
+
+-- a look is a turn
+pub look_turn : (result : Result Found AllocError) (pass : ℕ) (old new : HallView) (b : Bin) (key : Key) → LooksUp result old new b key → IsTurn (counts_of_look result) false pass old new
+look_turn (Ok f) pass old new b key looks = beside_turn (counts_of_found f) pass old new looks.1 (ap tally_note looks.0.tally ∙ found_tally f (tally_in old.stock))
+look_turn (Err e) pass old new b key looks = subst (λ (h : HallView). IsTurn zeros false pass old h) (sym looks) (quiet_turn pass old)
+
+-- and so is keeping something
+pub keep_turn : (result : Result (Unit {0}) AllocError) (pass : ℕ) (old new : HallView) (b : Bin) (key : Key) (k : Kept) → KeepsUnder result old new b key k → IsTurn (counts_of_keep result) false pass old new
+keep_turn (Ok done) pass old new b key k keeps = beside_turn (counts_of_keep (Ok done)) pass old new keeps.1 (ap tally_note keeps.0.tally)
+keep_turn (Err e) pass old new b key k keeps = subst (λ (h : HallView). IsTurn zeros false pass old h) (sym keeps) (quiet_turn pass old)

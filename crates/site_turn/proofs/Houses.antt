@@ -1,10 +1,15 @@
 -- What a guest's turn is to its house.
-use Rattle.std.proofs.Common.{◌≡◌, ◌≤◌, ◌+◌, ◌⊎◌, ℕ, List, [], ◌∷◌, ◌++◌, length, drop, Bool, true, false, Option, Some, None, refl, sym, ap, ◌∙◌, subst, inl, inr, arith, append-nil}
+use Rattle.std.proofs.Common.{◌≡◌, ◌≤◌, ◌⊎◌, ℕ, List, [], ◌∷◌, ◌++◌, length, drop, Bool, true, false, Option, refl, sym, ap, ◌∙◌, subst, inl, inr, arith, append-nil, le_refl}
+use Rattle.std.specs.Prelude.{Result, IfOk}
+use Rattle.std.specs.declared.alloc.AllocError.{AllocError}
+use Rattle.cache_entries.specs.declared.key.Key.{Key}
+use Rattle.cache_entries.specs.declared.kept.Found.{Found}
+use Rattle.cache_entries.specs.declared.kept.Kept.{Kept}
+use Rattle.cache_entries.specs.Sound.{IsSoundKept, IsSoundFound}
+use Rattle.page_meaning.specs.Meaning.{meaning}
 use Rattle.content_state.specs.State.{State}
-use Rattle.content_state.specs.Replay.{Begins}
 use Rattle.content_state.specs.declared.ask.Ask.{Ask}
 use Rattle.content_state.specs.declared.commit.Commit.{Commit}
-use Rattle.site_commands.specs.Causes.{Accepted, Refused as IsRefused}
 use Rattle.site_commands.specs.Judged.{judged}
 use Rattle.site_commands.specs.declared.answer.Answer.{Answer}
 use Rattle.site_commands.specs.declared.answer.Answer.TheVariants as answer
@@ -15,22 +20,25 @@ use Rattle.site_house.specs.History.{newest_of}
 use Rattle.site_house.specs.House.{HouseView, AreValid, IsSublist, by_pass, CountRose, Moves, Stays, up, Accepts, Refuses, Fails, Answers}
 use Rattle.site_hall.specs.Hall.{HallView, IsHall, number_of, FailsApply, FailsHead}
 use Rattle.site_hall.specs.Hall as hall
+use Rattle.site_hall.specs.Looked.{IsSoundIn, MayBeKept}
 use Rattle.site_hall.proofs.Callers.{valid_seen}
+use Rattle.site_hall.proofs.Stocks.{kept_more}
+use Rattle.turn_rule.specs.declared.notes.TallyNote.{TallyNote}
 use Rattle.turn_rule.specs.declared.notes.HallNote.{HallNote}
 use Rattle.turn_rule.specs.declared.notes.PassNote.{PassNote}
-use Rattle.turn_rule.specs.Steps.{given, Knows}
+use Rattle.turn_rule.specs.Steps.{zeros, given, Knows}
 use Rattle.turn_rule.proofs.Edits.{begins_then}
 use Rattle.site_turn.specs.Views.{PassView, noted}
 use Rattle.site_turn.specs.Turns.{Went, Looks, Commits}
 use Rattle.site_turn.specs.Houses.{table_name, house_of, guest_of, keepers_after}
 use Rattle.site_turn.proofs.Halls.{settled_is, accepted_given, failed_given}
 
-module _ (hands : Bool) (old new : PassNote) (after : HallNote) (w : Went hands old new after) where
+module _ (more : TallyNote) (hands : Bool) (old new : PassNote) (after : HallNote) (w : Went more hands old new after) where
   seen_is : new.seen ≡ after.log
   seen_is = ap (λ (p : PassNote). p.seen) w.is
 
-  pub went_moves : (name : List ℕ) (keepers keepers' : ℕ) → (keepers' ≡ keepers) ⊎ CountRose old.faults new.faults → Moves (house_of old name keepers) (house_of new name keepers')
-  went_moves name keepers keepers' cause = record {
+  pub went_moves : (name : List ℕ) (keepers keepers' unkept unkept' : ℕ) → unkept ≤ unkept' → (keepers' ≡ keepers) ⊎ CountRose old.faults new.faults → Moves (house_of old name keepers unkept) (house_of new name keepers' unkept')
+  went_moves name keepers keepers' unkept unkept' rose cause = record {
     base = ap (λ (p : PassNote). p.opened.loaded.base) w.is;
     number = ap (λ (p : PassNote). p.number) w.is;
     opened = ap (λ (p : PassNote). length p.opened.log) w.is;
@@ -41,35 +49,53 @@ module _ (hands : Bool) (old new : PassNote) (after : HallNote) (w : Went hands 
     never_fails = w.steady;
     cause = cause;
     own = λ _. subst (λ (l : List Commit). IsSublist (by_pass new.number (drop (length new.opened.log) l)) new.handed) (sym seen_is) w.knows.own;
+    told = refl;
+    unkept = rose;
   }
 
   -- what was handed in
   handed_is : (commits : List Commit) → given hands after ≡ commits → new.handed ≡ old.handed ++ commits
   handed_is commits gave = ap (λ (p : PassNote). p.handed) w.is ∙ ap (λ (l : List Commit). old.handed ++ l) gave
 
-  stays : (name : List ℕ) (keepers : ℕ) → hands ≡ false → Stays (house_of old name keepers) (house_of new name keepers)
-  stays name keepers none = record { handed = handed_is [] (ap (λ (b : Bool). given b after) none) ∙ append-nil old.handed; keepers = refl }
+  stays : (name : List ℕ) (keepers unkept unkept' : ℕ) → hands ≡ false → Stays (house_of old name keepers unkept) (house_of new name keepers unkept')
+  stays name keepers unkept unkept' none = record { handed = handed_is [] (ap (λ (b : Bool). given b after) none) ∙ append-nil old.handed; keepers = refl }
+
+-- ---- what is kept of pages
 
 -- the hall's base is the one that the site was opened with
 base_is : (new : PassNote) (hall : HallView) → Knows (noted hall) new → new.opened.loaded.base ≡ hall.base
 base_is new hall k = sym (ap (λ l. l.base) k.loaded)
 
-went_valid : (hands : Bool) (old new : PassNote) (after : HallView) → Went hands old new (noted after) → IsHall after → AreValid new.opened.loaded.base new.seen
-went_valid hands old new after w h =
-    subst (λ (t : State × List Commit). AreValid t.0 t.1) (λ i. (sym (base_is new after w.knows) i, sym (seen_is hands old new (noted after) w) i)) (valid_seen after h)
+went_valid : (more : TallyNote) (hands : Bool) (old new : PassNote) (after : HallView) → Went more hands old new (noted after) → IsHall after → AreValid new.opened.loaded.base new.seen
+went_valid more hands old new after w h =
+    subst (λ (t : State × List Commit). AreValid t.0 t.1) (λ i. (sym (base_is new after w.knows) i, sym (seen_is more hands old new (noted after) w) i)) (valid_seen after h)
 
-pub looks_valid : (old new : PassNote) → Looks old new → AreValid new.opened.loaded.base new.seen
-looks_valid old new l = went_valid false old new l.hall l.went l.is_hall
+pub looks_valid : (more : TallyNote) (old new : PassNote) → Looks more old new → AreValid new.opened.loaded.base new.seen
+looks_valid more old new l = went_valid more false old new l.hall l.went l.is_hall
 
-pub looks_moves : (old new : PassNote) (name : List ℕ) (keepers : ℕ) → Looks old new → Moves (house_of old name keepers) (house_of new name keepers)
-looks_moves old new name keepers l = went_moves false old new (noted l.hall) l.went name keepers keepers (inl refl)
+pub looks_moves : (more : TallyNote) (old new : PassNote) (name : List ℕ) (keepers unkept unkept' : ℕ) → unkept ≤ unkept' → Looks more old new → Moves (house_of old name keepers unkept) (house_of new name keepers unkept')
+looks_moves more old new name keepers unkept unkept' rose l = went_moves more false old new (noted l.hall) l.went name keepers keepers unkept unkept' rose (inl refl)
 
-pub looks_stays : (old new : PassNote) (name : List ℕ) (keepers : ℕ) → Looks old new → Stays (house_of old name keepers) (house_of new name keepers)
-looks_stays old new name keepers l = stays false old new (noted l.hall) l.went name keepers refl
+pub looks_stays : (more : TallyNote) (old new : PassNote) (name : List ℕ) (keepers unkept unkept' : ℕ) → Looks more old new → Stays (house_of old name keepers unkept) (house_of new name keepers unkept')
+looks_stays more old new name keepers unkept unkept' l = stays more false old new (noted l.hall) l.went name keepers unkept unkept' refl
+
+-- what was found is sound over what the pass has seen then
+pub looks_sound : (more : TallyNote) (old new : PassNote) (hall : HallView) (key : Key) (result : Result Found AllocError) → Went more false old new (noted hall) → IfOk result (λ f. IsSoundIn hall key f)
+    → IfOk result (λ f. IsSoundFound meaning new.opened.loaded.base new.seen key f)
+looks_sound more old new hall key result w sound =
+    subst (λ (t : State × List Commit). IfOk result (λ f. IsSoundFound meaning t.0 t.1 key f)) (λ i. (sym (base_is new hall w.knows) i, sym (seen_is more false old new (noted hall) w) i)) sound
+
+-- what is sound over what a pass has seen is sound over the log of the hall
+pub sound_out : (pass : PassNote) (hall : HallView) (key : Key) (k : Kept) → Knows (noted hall) pass → IsSoundKept meaning pass.opened.loaded.base pass.seen key k → MayBeKept hall key k
+sound_out pass hall key k knows sound =
+    subst (λ (b : State). IsSoundKept meaning b hall.log key k) (base_is pass hall knows)
+    (kept_more pass.opened.loaded.base pass.seen hall.log knows.seen key k sound)
+
+-- ---- edits
 
 module _ (old new : PassNote) (ask : Ask) (csrf : Option (List ℕ)) (command : Command) (now : ℕ) where
   pub commits_valid : (a : Answer) → Commits a old new ask csrf command now → AreValid new.opened.loaded.base new.seen
-  commits_valid a t = went_valid t.hands old new t.after t.went t.is_hall
+  commits_valid a t = went_valid zeros t.hands old new t.after t.went t.is_hall
 
   rose : (k : Commits answer.Keeper old new ask csrf command now) → CountRose old.faults new.faults
   rose k =
@@ -77,11 +103,11 @@ module _ (old new : PassNote) (ask : Ask) (csrf : Option (List ℕ)) (command : 
       let more = k.answers.rose in
       subst (λ (n : ℕ). CountRose old.faults n) (sym (ap (λ (p : PassNote). p.faults) k.went.is)) (omega arith)
 
-  pub commits_moves : (name : List ℕ) (keepers : ℕ) (a : Answer) → Commits a old new ask csrf command now → Moves (house_of old name keepers) (house_of new name (keepers_after a keepers))
-  commits_moves name keepers (answer.Done done number) t = went_moves t.hands old new (noted t.after) t.went name keepers keepers (inl refl)
-  commits_moves name keepers (answer.Refused refusal number) t = went_moves t.hands old new (noted t.after) t.went name keepers keepers (inl refl)
-  commits_moves name keepers answer.Keeper t = went_moves t.hands old new (noted t.after) t.went name keepers (up keepers) (inr (rose t))
-  commits_moves name keepers answer.OutOfMemory t = went_moves t.hands old new (noted t.after) t.went name keepers keepers (inl refl)
+  pub commits_moves : (name : List ℕ) (keepers unkept : ℕ) (a : Answer) → Commits a old new ask csrf command now → Moves (house_of old name keepers unkept) (house_of new name (keepers_after a keepers) unkept)
+  commits_moves name keepers unkept (answer.Done done number) t = went_moves zeros t.hands old new (noted t.after) t.went name keepers keepers unkept unkept (le_refl unkept) (inl refl)
+  commits_moves name keepers unkept (answer.Refused refusal number) t = went_moves zeros t.hands old new (noted t.after) t.went name keepers keepers unkept unkept (le_refl unkept) (inl refl)
+  commits_moves name keepers unkept answer.Keeper t = went_moves zeros t.hands old new (noted t.after) t.went name keepers (up keepers) unkept unkept (le_refl unkept) (inr (rose t))
+  commits_moves name keepers unkept answer.OutOfMemory t = went_moves zeros t.hands old new (noted t.after) t.went name keepers keepers unkept unkept (le_refl unkept) (inl refl)
 
   -- the same judgement, by what the pass knows
   module _ (a : Answer) (t : Commits a old new ask csrf command now) where
@@ -89,7 +115,7 @@ module _ (old new : PassNote) (ask : Ask) (csrf : Option (List ℕ)) (command : 
     number_is = ap (λ (p : PassNote). p.number) t.went.is
 
     log_is : new.seen ≡ t.after.log
-    log_is = seen_is t.hands old new (noted t.after) t.went
+    log_is = seen_is zeros t.hands old new (noted t.after) t.went
 
     same_newest : newest_of t.after.base t.after.log ≡ newest_of new.opened.loaded.base new.seen
     same_newest = ap (λ (b : State). newest_of b t.after.log) (sym (base_is new t.after t.went.knows)) ∙ ap (newest_of new.opened.loaded.base) (sym log_is)
@@ -102,8 +128,8 @@ module _ (old new : PassNote) (ask : Ask) (csrf : Option (List ℕ)) (command : 
     judged_now : judged new.opened.loaded.base new.seen ask csrf command now new.number ≡ judged t.after.base t.after.log ask csrf command now old.number
     judged_now = ap (λ (l : List Commit). judged new.opened.loaded.base l ask csrf command now new.number) log_is ∙ judged_as t.after.base t.after.log refl
 
-  module _ (name : List ℕ) (keepers : ℕ) where
-    accepts : (done : Done) (number : ℕ) → Commits (answer.Done done number) old new ask csrf command now → Accepts (house_of old name keepers) (house_of new name keepers) ask csrf command now done number
+  module _ (name : List ℕ) (keepers unkept : ℕ) where
+    accepts : (done : Done) (number : ℕ) → Commits (answer.Done done number) old new ask csrf command now → Accepts (house_of old name keepers unkept) (house_of new name keepers unkept) ask csrf command now done number
     accepts done number t =
         let a = t.answers in
         let s = settled_is t.before a.settled a.settles in
@@ -115,23 +141,23 @@ module _ (old new : PassNote) (ask : Ask) (csrf : Option (List ℕ)) (command : 
           stands = log_is (answer.Done done number) t ∙ ap (λ (h : HallView). h.log) a.published;
           judged_is = judged_as (answer.Done done number) t a.settled.base a.settled.log (sym (ap (λ (h : HallView). h.base) a.published)) ∙ a.accepted;
           number_is = a.number_is ∙ same_newest (answer.Done done number) t;
-          handed = handed_is t.hands old new (noted t.after) t.went (a.commit ∷ []) gave;
+          handed = handed_is zeros t.hands old new (noted t.after) t.went (a.commit ∷ []) gave;
           keepers = refl;
         }
 
-    refuses : (refusal : Refusal) (number : ℕ) → Commits (answer.Refused refusal number) old new ask csrf command now → Refuses (house_of old name keepers) (house_of new name keepers) ask csrf command now refusal number
+    refuses : (refusal : Refusal) (number : ℕ) → Commits (answer.Refused refusal number) old new ask csrf command now → Refuses (house_of old name keepers unkept) (house_of new name keepers unkept) ask csrf command now refusal number
     refuses refusal number t = record {
       judged_is = judged_now (answer.Refused refusal number) t ∙ t.answers.refused;
       number_is = t.answers.number_is ∙ same_newest (answer.Refused refusal number) t;
-      stays = stays t.hands old new (noted t.after) t.went name keepers t.tells;
+      stays = stays zeros t.hands old new (noted t.after) t.went name keepers unkept unkept t.tells;
     }
 
     -- where the keeper failed at the edit, or before it
     fails : (t : Commits answer.Keeper old new ask csrf command now) (hands : Bool) → t.hands ≡ hands → hall.Tells answer.Keeper hands t.before t.after ask csrf command now old.number
-        → Fails (house_of old name keepers) (house_of new name (up keepers)) ask csrf command now
+        → Fails (house_of old name keepers unkept) (house_of new name (up keepers) unkept) ask csrf command now
     fails t true is f = record {
       more = f.commit ∷ [];
-      handed = handed_is t.hands old new (noted t.after) t.went (f.commit ∷ []) (ap (λ (b : Bool). given b (noted t.after)) is ∙ failed_given t.before t.after ask csrf command now old.number f);
+      handed = handed_is zeros t.hands old new (noted t.after) t.went (f.commit ∷ []) (ap (λ (b : Bool). given b (noted t.after)) is ∙ failed_given t.before t.after ask csrf command now old.number f);
       at_most = (
         f.done,
         judged_now answer.Keeper t ∙ ap (λ (b : State). judged b t.after.log ask csrf command now old.number) (ap (λ (h : HallView). h.base) f.stays)
@@ -142,25 +168,25 @@ module _ (old new : PassNote) (ask : Ask) (csrf : Option (List ℕ)) (command : 
     }
     fails t false is f = record {
       more = [];
-      handed = handed_is t.hands old new (noted t.after) t.went [] (ap (λ (b : Bool). given b (noted t.after)) is);
+      handed = handed_is zeros t.hands old new (noted t.after) t.went [] (ap (λ (b : Bool). given b (noted t.after)) is);
       at_most = tt;
       keepers = refl;
       rose = rose t;
     }
 
-    pub commits_answers : (a : Answer) → Commits a old new ask csrf command now → Answers a (house_of old name keepers) (house_of new name (keepers_after a keepers)) ask csrf command now
+    pub commits_answers : (a : Answer) → Commits a old new ask csrf command now → Answers a (house_of old name keepers unkept) (house_of new name (keepers_after a keepers) unkept) ask csrf command now
     commits_answers (answer.Done done number) t = accepts done number t
     commits_answers (answer.Refused refusal number) t = refuses refusal number t
     commits_answers answer.Keeper t = fails t t.hands refl t.tells
-    commits_answers answer.OutOfMemory t = stays t.hands old new (noted t.after) t.went name keepers t.tells
+    commits_answers answer.OutOfMemory t = stays zeros t.hands old new (noted t.after) t.went name keepers unkept unkept t.tells
 
 -- the same, of a guest whose count is another number, and whose site is in the same table
-module _ (old new : PassView) (borrow keepers keepers' : ℕ) (ask : Ask) (csrf : Option (List ℕ)) (command : Command) (now : ℕ) (a : Answer) (same : new.table ≡ old.table) (count : keepers' ≡ keepers_after a keepers) (t : Commits a old.note new.note ask csrf command now) where
-  guest_is : house_of new.note (borrow ∷ table_name old.table) (keepers_after a keepers) ≡ guest_of new borrow keepers'
-  guest_is = λ i. house_of new.note (borrow ∷ table_name (sym same i)) (sym count i)
+module _ (old new : PassView) (borrow keepers keepers' unkept : ℕ) (ask : Ask) (csrf : Option (List ℕ)) (command : Command) (now : ℕ) (a : Answer) (same : new.table ≡ old.table) (count : keepers' ≡ keepers_after a keepers) (t : Commits a old.note new.note ask csrf command now) where
+  guest_is : house_of new.note (borrow ∷ table_name old.table) (keepers_after a keepers) unkept ≡ guest_of new borrow keepers' unkept
+  guest_is = λ i. house_of new.note (borrow ∷ table_name (sym same i)) (sym count i) unkept
 
-  pub guest_moves : Moves (guest_of old borrow keepers) (guest_of new borrow keepers')
-  guest_moves = subst (Moves (guest_of old borrow keepers)) guest_is (commits_moves old.note new.note ask csrf command now (borrow ∷ table_name old.table) keepers a t)
+  pub guest_moves : Moves (guest_of old borrow keepers unkept) (guest_of new borrow keepers' unkept)
+  guest_moves = subst (Moves (guest_of old borrow keepers unkept)) guest_is (commits_moves old.note new.note ask csrf command now (borrow ∷ table_name old.table) keepers unkept a t)
 
-  pub guest_answers : Answers a (guest_of old borrow keepers) (guest_of new borrow keepers') ask csrf command now
-  guest_answers = subst (λ (h : HouseView). Answers a (guest_of old borrow keepers) h ask csrf command now) guest_is (commits_answers old.note new.note ask csrf command now (borrow ∷ table_name old.table) keepers a t)
+  pub guest_answers : Answers a (guest_of old borrow keepers unkept) (guest_of new borrow keepers' unkept) ask csrf command now
+  guest_answers = subst (λ (h : HouseView). Answers a (guest_of old borrow keepers unkept) h ask csrf command now) guest_is (commits_answers old.note new.note ask csrf command now (borrow ∷ table_name old.table) keepers unkept a t)

@@ -1,14 +1,15 @@
 -- What a seat says and holds after the calls of a turn, as equations.
-use Rattle.std.proofs.Common.{◌≡◌, ◌<◌, ℕ, List, [], ◌∷◌, get_or, Bool, Option, Some, None, map, refl, sym, ap, ◌∙◌, subst, arith}
+use Rattle.std.proofs.Common.{◌≡◌, ◌<◌, ℕ, List, [], ◌∷◌, get_or, Bool, Option, Some, map, refl, sym, ap, ◌∙◌, subst}
 use Rattle.std.specs.List.{All}
 use Rattle.std.proofs.lemmas.List.Elements.{All-head}
 use mathlib.Core.Option as maybe
 use Rattle.atomic_table.specs.Table.{Me, rest}
+use Rattle.turn_rule.specs.declared.notes.TallyNote.{TallyNote}
 use Rattle.turn_rule.specs.declared.notes.HallNote.{HallNote}
 use Rattle.turn_rule.specs.declared.notes.PassNote.{PassNote}
 use Rattle.turn_rule.specs.declared.notes.Note.{Note}
 use Rattle.turn_rule.specs.Rule.{Counted, looks, found, kept, count_of}
-use Rattle.turn_rule.specs.Steps.{zeros, spent, bearing, founding, with_hall, with_passes, after_turn, longer, seeing, Knows, Opens, Follows, Meets, noted_out}
+use Rattle.turn_rule.specs.Steps.{spent, bearing, founding, with_hall, with_passes, after_turn, longer, seeing, Knows, Opens, Follows, Meets, noted_out}
 use Rattle.content_state.specs.declared.commit.Commit.{Commit}
 use Rattle.site_hall.specs.Hall.{HallView}
 use Rattle.site_turn.specs.Views.{noted, noted_in, pass_of, HasPass}
@@ -28,13 +29,13 @@ some_same : (x y : HallNote) → Some x ≡ Some y → x ≡ y
 some_same x y e = cc
 
 -- the word has followed the log of the hall that lies in the seat's slot
-pub followed : (hands : Bool) (old new : Place) (pass : PassNote) (out : HallNote) (hall : HallView) → old ≡ (with_hall (Some out) (bearing pass), (0, Some hall) ∷ []) → Follows noted_in zeros hands old new
-    → (new ≡ (with_hall (Some (noted hall)) (bearing (after_turn zeros hands (noted hall) pass)), (0, Some hall) ∷ [])) × Knows (noted hall) (after_turn zeros hands (noted hall) pass)
-followed hands old new pass out hall is f =
+pub followed : (more : TallyNote) (hands : Bool) (old new : Place) (pass : PassNote) (out : HallNote) (hall : HallView) → old ≡ (with_hall (Some out) (bearing pass), (0, Some hall) ∷ []) → Follows noted_in more hands old new
+    → (new ≡ (with_hall (Some (noted hall)) (bearing (after_turn more hands (noted hall) pass)), (0, Some hall) ∷ [])) × Knows (noted hall) (after_turn more hands (noted hall) pass)
+followed more hands old new pass out hall is f =
     let same : f.0 ≡ noted hall = some_same f.0 (noted hall) (sym f.1 ∙ ap (λ (m : Place). noted_out noted_in m.1) is) in
-    let me = f.2 ∙ ap (λ (m : Place). (with_hall (Some f.0) (with_passes (map (after_turn zeros hands f.0) m.0.passes) m.0), m.1)) is in
-    let knows = All-head (Knows f.0) (after_turn zeros hands f.0 pass) [] (subst (λ (m : Place). All (Knows f.0) (map (after_turn zeros hands f.0) m.0.passes)) is f.3) in
-    subst (λ (h : HallNote). (new ≡ (with_hall (Some h) (bearing (after_turn zeros hands h pass)), (0, Some hall) ∷ [])) × Knows h (after_turn zeros hands h pass)) same (me, knows)
+    let me = f.2 ∙ ap (λ (m : Place). (with_hall (Some f.0) (with_passes (map (after_turn more hands f.0) m.0.passes) m.0), m.1)) is in
+    let knows = All-head (Knows f.0) (after_turn more hands f.0 pass) [] (subst (λ (m : Place). All (Knows f.0) (map (after_turn more hands f.0) m.0.passes)) is f.3) in
+    subst (λ (h : HallNote). (new ≡ (with_hall (Some h) (bearing (after_turn more hands h pass)), (0, Some hall) ∷ [])) × Knows h (after_turn more hands h pass)) same (me, knows)
 
 -- the site is opened with a hall
 pub opened : (old new : Place) (hall : HallView) (said : maybe.Option (Option HallView)) → old.1 ≡ [] → said ≡ maybe.some (Some hall) → Opens noted_in said old new
@@ -44,10 +45,11 @@ opened old new hall said none is o =
     let same : o.1 ≡ noted hall = some_same o.1 (noted hall) (sym o.4 ∙ ap noted_in value) in
     (o.2, subst (λ (h : HallNote). new ≡ (with_hall (Some h) (founding (record { made = 0; opened = h })), (0, o.2) ∷ [])) same (o.6 ∙ ap (λ (l : List (ℕ × Option HallView)). (with_hall (Some o.1) (founding (record { made = 0; opened = o.1 })), (0, o.2) ∷ l)) none))
 
-pub nothing_counted : (counted : Counted) → count_of counted zeros < 18446744073709551616
-nothing_counted looks = omega arith
-nothing_counted found = omega arith
-nothing_counted kept = omega arith
+-- what a hall counted fits
+pub little_counted : (tally : TallyNote) → tally.looks < 18446744073709551616 → tally.found < 18446744073709551616 → tally.kept < 18446744073709551616 → (counted : Counted) → count_of counted tally < 18446744073709551616
+little_counted tally a b c looks = a
+little_counted tally a b c found = b
+little_counted tally a b c kept = c
 
 -- two passes have met on a seat
 pub two_met : (old new : Place) (p q : PassNote) → old ≡ (with_passes (p ∷ q ∷ []) spent, []) → Meets old new → new ≡ (with_passes (seeing (longer p.seen q.seen) p ∷ seeing (longer p.seen q.seen) q ∷ []) spent, [])

@@ -1,12 +1,15 @@
 -- A site and its passes, as contracts see them.
 use Rattle.std.specs.Prelude.{◌≡◌, ℕ, List, [], ◌∷◌, false, Option, Some, None}
 use Rattle.atomic_table.specs.Seated.{TableId}
+use Rattle.turn_rule.specs.declared.notes.TallyNote.{TallyNote}
 use Rattle.turn_rule.specs.declared.notes.HallNote.{HallNote}
 use Rattle.turn_rule.specs.declared.notes.PassNote.{PassNote}
 use Rattle.turn_rule.specs.declared.notes.FounderNote.{FounderNote}
 use Rattle.turn_rule.specs.declared.notes.Note.{Note}
 use Rattle.turn_rule.specs.Steps.{zeros, bearing, founding}
 use Rattle.site_hall.specs.Hall.{HallView}
+use Rattle.site_hall.specs.Stock.{tally_in}
+use Rattle.site_hall.specs.declared.tally.Tally.{Tally}
 
 -- a pass: the table that its site lies in, and what the pass knows
 pub record PassView : Type 0 where
@@ -20,14 +23,18 @@ pub record SiteView : Type 0 where
 
 -- ---- halls
 
--- what is noted of a hall. It has no caches yet, so that nothing is counted
+-- what a hall counted
+abbrev pub tally_note : Tally → TallyNote
+tally_note tally = record { looks = tally.looks; found = tally.found; kept = tally.kept }
+
+-- what is noted of a hall
 abbrev pub noted : HallView → HallNote
 noted hall = record {
   loaded = record { base = hall.base; told = hall.opened; steadfast = hall.steadfast };
   log = hall.log;
   pending = hall.pending;
   faults = hall.faults;
-  tally = zeros;
+  tally = tally_note (tally_in hall.stock);
 }
 
 -- what is noted of the slot of a table, where a hall lies or none does

@@ -1,10 +1,12 @@
 //! A pass at work on its site.
-ghost use Rattle.std.specs.Prelude.{◌≡◌, ℕ};
+ghost use Rattle.std.specs.Prelude.{◌≡◌, ◌≤◌, ℕ};
 ghost use Rattle.site_turn.specs.Views.{IsRoom};
+ghost use Rattle.site_house.specs.Bins.{unkept_by};
 ghost use Rattle.site_turn.specs.Houses.{keepers_after};
 
 use crate::pass::Pass;
 use crate::rules::Room;
+use cache_entries::{Bin, Found, Kept, Key};
 use content_state::{Ask, State};
 use site_commands::{Answer, Command};
 use site_house::House;
@@ -20,24 +22,28 @@ pub struct Guest<'a, R: Wait, K: Keeper> {
     room: &'a Room<K>,
     pub pass: &'a mut Pass,
     pub keepers: u64,
+    pub unkept: u64,
     pub ghost here: { pass.now.table ≡ room.now.table_id },
     pub ghost sized: { IsRoom room.now.table_id },
 }
 
 impl<'a, R: Wait, K: Keeper> Guest<'a, R, K> {
-    /// The guest of a site's room, with one of that site's passes. No edit was answered yet that the keeper failed.
+    /// The guest of a site's room, with one of that site's passes. No edit was answered yet that the keeper failed, and
+    /// everything was kept that was to be kept.
     pub fn new(rt: &'a R, room: &'a Room<K>, pass: &'a mut Pass) -> Guest<'a, R, K>
         requires room { IsRoom room.now.table_id }
         requires here { pass.old.table ≡ room.now.table_id }
         ensures pass { result.pass.now ≡ pass.old }
         ensures same_borrow { result.pass.ghost_name ≡ pass.entry.ghost_name }
         ensures keepers { result.keepers ≡ 0 }
+        ensures unkept { result.unkept ≡ 0 }
     {
         Guest {
             rt,
             room,
             pass,
             keepers: 0,
+            unkept: 0,
         }
     }
 }
@@ -52,10 +58,21 @@ fn counted(keepers: u64, answer: &Answer) -> u64
     }
 }
 
+/// One more where something wasn't kept, up to the greatest u64.
+fn unkept_after(unkept: u64, answer: &Result<(), AllocError>) -> u64
+    ensures is { result ≡ unkept_by answer.now unkept }
+    ensures grows { unkept ≤ result }
+{
+    match answer {
+        Ok(()) => unkept,
+        Err(_) => unkept.saturating_add(1),
+    }
+}
+
 impl<R: Wait, K: Keeper> House for Guest<'_, R, K> {
     ghost use Rattle.site_turn.specs.Houses.{guest_of};
 
-    ghost sees = { λ g. guest_of g.pass.now g.pass.ghost_name g.keepers };
+    ghost sees = { λ g. guest_of g.pass.now g.pass.ghost_name g.keepers g.unkept };
 
     fn snapshot(&mut self, alloc: Global) -> Result<Arc<State>, AllocError> {
         self.pass.snapshot(self.rt, alloc, self.room)
@@ -76,7 +93,21 @@ impl<R: Wait, K: Keeper> House for Guest<'_, R, K> {
         answer
     }
 
+    fn look(&mut self, alloc: Global, bin: Bin, key: &Key) -> Result<Found, AllocError> {
+        self.pass.look(self.rt, alloc, self.room, bin, key)
+    }
+
+    fn keep(&mut self, alloc: Global, bin: Bin, key: Key, kept: Kept) -> Result<(), AllocError> {
+        let answer = self.pass.keep(self.rt, alloc, self.room, bin, key, kept);
+        self.unkept = unkept_after(self.unkept, &answer);
+        answer
+    }
+
     fn faults(&self) -> u64 {
         self.pass.faults()
+    }
+
+    fn unkept(&self) -> u64 {
+        self.unkept
     }
 }

@@ -6,13 +6,21 @@ ghost use Rattle.content_rows.specs.Kinds.{IsMoment};
 ghost use Rattle.content_state.specs.Replay.{replay};
 ghost use Rattle.site_commands.specs.Right.{IsRight};
 ghost use Rattle.site_turn.specs.Views.{IsRoom};
-ghost use Rattle.site_turn.specs.Turns.{Looks, Commits};
+ghost use Rattle.cache_entries.specs.Sound.{IsSoundKept, IsSoundFound};
+ghost use Rattle.page_meaning.specs.Meaning.{meaning};
+ghost use Rattle.turn_rule.specs.Steps.{zeros};
+ghost use Rattle.site_hall.specs.Looked.{MayBeKept, KeepsUnder};
+ghost use Rattle.site_hall.specs.Hall.{IsHall};
+ghost use Rattle.site_turn.specs.Turns.{Looks, Commits, counts_of_look, counts_of_keep};
 
+use crate::kinds::{kept as deed_of_keep, looked};
 use crate::rules::Room;
-use crate::turns::{back_after, out};
+use crate::turns::{back_after, back_from, out};
 use atomic_table::Badge;
+use cache_entries::{Bin, Found, Kept, Key};
 use content_state::{Ask, State};
 use site_commands::{Answer, Command};
+use site_hall::Hall;
 use site_keeper::Keeper;
 use std::alloc::{AllocError, Global};
 use std::marker::Model;
@@ -63,7 +71,7 @@ impl Pass {
     ) -> Result<Arc<State>, AllocError>
         requires { (self.old.table ≡ room.now.table_id) × IsRoom room.now.table_id }
         ensures same { self.new.table ≡ self.old.table }
-        ensures looks { Looks self.old.note self.new.note }
+        ensures looks { Looks zeros self.old.note self.new.note }
         ensures state { IfOk result (λ state. arc_value state ≡ replay self.new.note.opened.loaded.base self.new.note.seen) }
     {
         let badge = mem::replace(&mut self.seat, Badge::blank());
@@ -73,6 +81,55 @@ impl Pass {
         self.faults = hall.faults();
         self.seat = back_after(room, seat, hall, before, false);
         state
+    }
+
+    /// What is kept of pages under a key in a bin, in a turn. An entry is sound over all that the pass has now seen.
+    pub(crate) fn look<K: Keeper, R: Wait>(
+        &mut self,
+        rt: &R,
+        alloc: Global,
+        room: &Room<K>,
+        bin: Bin,
+        key: &Key,
+    ) -> Result<Found, AllocError>
+        requires { (self.old.table ≡ room.now.table_id) × IsRoom room.now.table_id }
+        ensures same { self.new.table ≡ self.old.table }
+        ensures looks { Looks (counts_of_look result) self.old.note self.new.note }
+        ensures sound { IfOk result (λ found. IsSoundFound meaning self.new.note.opened.loaded.base self.new.note.seen key.now found) }
+    {
+        let badge = mem::replace(&mut self.seat, Badge::blank());
+        let (seat, mut hall) = out(rt, room, badge);
+        let before = hall.len();
+        let found = hall.look(alloc, bin, key);
+        let deed = looked(&found);
+        self.faults = hall.faults();
+        self.seat = back_from(room, seat, hall, before, deed);
+        found
+    }
+
+    /// Keeps something of pages under a key in a bin, in a turn. An entry has to be sound over what the pass has seen.
+    pub(crate) fn keep<K: Keeper, R: Wait>(
+        &mut self,
+        rt: &R,
+        alloc: Global,
+        room: &Room<K>,
+        bin: Bin,
+        key: Key,
+        kept: Kept,
+    ) -> Result<(), AllocError>
+        requires room { (self.old.table ≡ room.now.table_id) × IsRoom room.now.table_id }
+        requires sound { IsSoundKept meaning self.old.note.opened.loaded.base self.old.note.seen key kept }
+        ensures same { self.new.table ≡ self.old.table }
+        ensures looks { Looks (counts_of_keep result) self.old.note self.new.note }
+    {
+        let badge = mem::replace(&mut self.seat, Badge::blank());
+        let (seat, mut hall) = out(rt, room, badge);
+        let before = hall.len();
+        let answer = kept_in(&mut hall, alloc, bin, key, kept);
+        let deed = deed_of_keep(&answer);
+        self.faults = hall.faults();
+        self.seat = back_from(room, seat, hall, before, deed);
+        answer
     }
 
     /// Makes an edit, in one turn.
@@ -99,5 +156,23 @@ impl Pass {
         self.faults = hall.faults();
         self.seat = back_after(room, seat, hall, before, hands);
         answer
+    }
+}
+
+/// Keeps something of pages under a key in a bin of a hall.
+fn kept_in<K: Keeper>(
+    hall: &mut Hall<K>,
+    alloc: Global,
+    bin: Bin,
+    key: Key,
+    kept: Kept,
+) -> Result<(), AllocError>
+    requires { MayBeKept hall.old key kept }
+    ensures keeps { KeepsUnder result hall.old hall.new bin key kept }
+    ensures is_hall { IsHall hall.new }
+{
+    match hall.keep(alloc, bin, key, kept) {
+        Ok(()) => Ok(()),
+        Err(_) => Err(AllocError),
     }
 }

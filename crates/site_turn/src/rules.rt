@@ -1,6 +1,6 @@
 //! The table that a hall lies in, its rule, and what each kind of step on it tells.
 ghost use Rattle.turn_rule.specs.Rule.{KeepsRule, unopened};
-ghost use Rattle.turn_rule.specs.Steps.{zeros, spent, left_of, right_of, joined, Opens, TakesOut, Follows, GivesBack, Draws, Meets};
+ghost use Rattle.turn_rule.specs.Steps.{spent, left_of, right_of, joined, Opens, TakesOut, Follows, GivesBack, Draws, Meets};
 ghost use Rattle.site_turn.specs.Views.{noted_in};
 
 use crate::kinds::Kind;
@@ -49,7 +49,7 @@ pub(crate) struct Following<T: Kind> {
 }
 
 impl<T: Kind, K: Keeper> Play<Option<Hall<K>>, Note> for Following<T> {
-    ghost then = { λ _ old _ new. Follows noted_in zeros T.hands old new };
+    ghost then = { λ _ old _ new. Follows noted_in T.counts T.hands old new };
 }
 
 /// The hall comes back into the slot.

@@ -1,5 +1,5 @@
 //! The table with the hall, and the founder of its passes.
-ghost use Rattle.std.specs.Prelude.{◌≡◌, ◌<◌, ◌+◌, [], ◌∷◌, None, IfOk, IfErr};
+ghost use Rattle.std.specs.Prelude.{◌≡◌, ◌<◌, ◌+◌, ◌^◌, [], ◌∷◌, None, IfOk, IfErr};
 ghost use Rattle.content_state.specs.Replay.{Begins};
 ghost use Rattle.turn_rule.specs.Rule.{unopened};
 ghost use Rattle.turn_rule.specs.Steps.{founding, new_pass, longer, seeing};
@@ -57,6 +57,8 @@ impl<K: Keeper> Site<K> {
     {
         let length = hall.len() as u64;
         let faults = hall.faults();
+        let tally = hall.tally();
+        counts_fit(tally.looks, tally.found, tally.kept);
         let home = Some(hall);
         table
             .shared
@@ -144,3 +146,10 @@ impl<K: Keeper> Site<K> {
         (table, founder)
     }
 }
+
+/// What is counted fits.
+fn counts_fit(looks: u64, found: u64, kept: u64)
+    ensures looks { looks < 2 ^ 64 }
+    ensures found { found < 2 ^ 64 }
+    ensures kept { kept < 2 ^ 64 }
+{}

@@ -4,8 +4,9 @@ ghost use Rattle.site_hall.specs.Hall.{IsHall};
 ghost use Rattle.turn_rule.specs.Steps.{zeros, bearing, with_hall, after_turn, Knows};
 ghost use Rattle.site_turn.specs.Views.{IsRoom, noted, first_pass, pass_of};
 ghost use Rattle.site_turn.specs.Turns.{IsOut};
+ghost use Rattle.site_turn.specs.Kinds.{counts_of};
 
-use crate::kinds::{Hands, Kind, Quiet};
+use crate::kinds::{Deed, Finds, Hands, Keeps, Kind, Looks, Quiet};
 use crate::rules::{Following, Giving, Place, Room, Taking};
 use atomic_table::Badge;
 use site_hall::Hall;
@@ -72,10 +73,10 @@ fn back<T: Kind, K: Keeper>(
     before: usize,
 ) -> Badge<Note>
     requires room { (seat.table_id ≡ room.now.table_id) × IsRoom room.now.table_id }
-    requires out { IsOut T.hands seat.me hall before }
+    requires out { IsOut T.counts T.hands seat.me hall before }
     ensures same { result.table_id ≡ seat.table_id }
-    ensures back { result.views ≡ bearing (after_turn zeros T.hands (noted hall) (first_pass seat.me.0.passes)) ∷ [] }
-    ensures knows { Knows (noted hall) (after_turn zeros T.hands (noted hall) (first_pass seat.me.0.passes)) }
+    ensures back { result.views ≡ bearing (after_turn T.counts T.hands (noted hall) (first_pass seat.me.0.passes)) ∷ [] }
+    ensures knows { Knows (noted hall) (after_turn T.counts T.hands (noted hall) (first_pass seat.me.0.passes)) }
     ensures is_hall { IsHall hall }
 {
     let length = hall.len();
@@ -96,7 +97,7 @@ pub(crate) fn back_after<K: Keeper>(
     hands: bool,
 ) -> Badge<Note>
     requires room { (seat.table_id ≡ room.now.table_id) × IsRoom room.now.table_id }
-    requires out { IsOut hands seat.me hall before }
+    requires out { IsOut zeros hands seat.me hall before }
     ensures same { result.table_id ≡ seat.table_id }
     ensures back { result.views ≡ bearing (after_turn zeros hands (noted hall) (first_pass seat.me.0.passes)) ∷ [] }
     ensures knows { Knows (noted hall) (after_turn zeros hands (noted hall) (first_pass seat.me.0.passes)) }
@@ -106,5 +107,28 @@ pub(crate) fn back_after<K: Keeper>(
         back::<Hands, K>(room, seat, hall, before)
     } else {
         back::<Quiet, K>(room, seat, hall, before)
+    }
+}
+
+/// The same, after a turn that handed nothing in and did this.
+pub(crate) fn back_from<K: Keeper>(
+    room: &Room<K>,
+    seat: Place<K>,
+    hall: Hall<K>,
+    before: usize,
+    deed: Deed,
+) -> Badge<Note>
+    requires room { (seat.table_id ≡ room.now.table_id) × IsRoom room.now.table_id }
+    requires out { IsOut (counts_of deed) false seat.me hall before }
+    ensures same { result.table_id ≡ seat.table_id }
+    ensures back { result.views ≡ bearing (after_turn (counts_of deed) false (noted hall) (first_pass seat.me.0.passes)) ∷ [] }
+    ensures knows { Knows (noted hall) (after_turn (counts_of deed) false (noted hall) (first_pass seat.me.0.passes)) }
+    ensures is_hall { IsHall hall }
+{
+    match deed {
+        Deed::Nothing => back::<Quiet, K>(room, seat, hall, before),
+        Deed::Looked => back::<Looks, K>(room, seat, hall, before),
+        Deed::Found => back::<Finds, K>(room, seat, hall, before),
+        Deed::Kept => back::<Keeps, K>(room, seat, hall, before),
     }
 }

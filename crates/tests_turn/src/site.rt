@@ -11,7 +11,8 @@ use std::alloc::{AllocError, Global};
 use std::sync::Arc;
 use tag_counts::Counts;
 
-fn name(bytes: &[u8]) -> Result<Name, AllocError> {
+// The name that these bytes are.
+pub fn name(bytes: &[u8]) -> Result<Name, AllocError> {
     Name::new(bytes).map_err(|_| AllocError)
 }
 

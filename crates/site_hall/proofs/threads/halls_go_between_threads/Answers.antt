@@ -1,5 +1,4 @@
 use denote.Param.Send.{sendable}
-use Rattle.std.proofs.Crossing.{crosses}
 use Rattle.site_hall.proofs.Crossing.{hall_send, keeper_send}
 use Rattle.site_hall.proofs.threads.halls_go_between_threads.Goals as goal
 

@@ -6,4 +6,4 @@ use Rattle.site_http.proofs.answer.reply_made.Goals as goal
 
 pub returns-in-Err-clause-makes : goal.returns-in-Err-clause-makes
 returns-in-Err-clause-makes g c =
-    unasked_made (g.E.Entropy.given c.args.entropy.now) (g.G.Gate.reached c.args.gate.now) (g.G.Gate.reached c.reach.new.self) (called c.args.request) (ask_of c.args.request) c.args.now c.args.closing _ c.requires (moves_same (g.H.House.sees c.args.house.now)) c.reach.ensures (sym c.memory_text.ensures)
+    unasked_made (g.E.Entropy.given c.args.entropy.now) (g.G.Gate.reached c.args.gate.now) (g.G.Gate.reached c.reach.new.self) (called c.args.request) (ask_of c.args.request) c.args.now c.args.closing _ c.requires.moment (moves_same (g.H.House.sees c.args.house.now)) c.reach.ensures (sym c.memory_text.ensures)

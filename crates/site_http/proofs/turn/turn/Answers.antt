@@ -1,5 +1,6 @@
 use Rattle.std.proofs.Common.{rules, inl, inr, refl, sym}
 use Rattle.std.proofs.lemmas.List.{append-nil}
+use Rattle.site_http.proofs.Asks.{are_asks}
 use Rattle.site_http.proofs.Told.{after_nothing, points_nothing}
 use Rattle.site_http.proofs.turn.turn.Goals as goal
 
@@ -32,3 +33,6 @@ returns-in-WriteFault-clause-turned g c =
       parses = f.decides.1;
       replied = search rules;
     })
+
+pub answer-requires : goal.answer-requires
+answer-requires g c = are_asks _ c.in-Request.request c.in-Request.ensures.fetches.decides.0 c.in-Request.ensures.fetches.decides.1

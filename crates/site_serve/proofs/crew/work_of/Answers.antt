@@ -33,7 +33,7 @@ returns g c =
     let new : List (Worker ServerView) = c.work_all.new.workers in
     let same : map member_of old ≡ c.args.crew.items = ap (λ ws. map member_of ws) c.deref_mut.ensures.value ∙ c.workers_of-workers.ensures in
     let all : AllZip HasServed (map member_of old) (map member_of new) =
-    zip_gives member_of R HasServed (λ one other did. record { name = did.name; keepers = did.keepers; table = did.table; did = did.did }) old new c.work_all.ensures.worked in
+    zip_gives member_of R HasServed (λ one other did. record { name = did.name; keepers = did.keepers; unkept = did.unkept; table = did.table; did = did.did }) old new c.work_all.ensures.worked in
     let many : c.workers_of-workers.result.len ≡ length new = sym c.deref_mut.ensures.len ∙ sym (zip_length R old new c.work_all.ensures.worked) in
     let written : take c.workers_of-workers.result.len (new ++ drop (length new) first) ≡ new =
     ap (λ n. take n (new ++ drop (length new) first)) many ∙ take-append_seam new (drop (length new) first) in

@@ -17,21 +17,21 @@ use Rattle.site_hall.proofs.alone.AloneHouse.commit.Goals as goal
 
 pub invariant_of-self : goal.invariant_of-self
 invariant_of-self g c =
-    let a : AloneView = record { hall = c.self.inside.hall; opened = c.self.inside.opened; handed = c.self.inside.handed.items; keepers = c.self.inside.keepers } in
+    let a : AloneView = record { hall = c.self.inside.hall; opened = c.self.inside.opened; handed = c.self.inside.handed.items; keepers = c.self.inside.keepers; unkept = c.self.inside.unkept } in
     settled_alone a c.prepare.new.self c.self.invariant c.in-Ok.ensures.ready.settles c.prepare.ensures.is_hall
 
 -- ---- the edit is accepted
 
 pub returns-in-Ok-hand_in-clause-moves : goal.returns-in-Ok-hand_in-clause-moves
 returns-in-Ok-hand_in-clause-moves g c =
-    let a : AloneView = record { hall = c.self.inside.hall; opened = c.self.inside.opened; handed = c.self.inside.handed.items; keepers = c.self.inside.keepers } in
+    let a : AloneView = record { hall = c.self.inside.hall; opened = c.self.inside.opened; handed = c.self.inside.handed.items; keepers = c.self.inside.keepers; unkept = c.self.inside.unkept } in
     subst (λ (new : AloneView). Moves (house_of c.args.self.now) (house_of new)) (sym c.in-Ok-hand_in.ensures.published)
     (subst (λ (old : AloneView). Moves (house_of old) (house_of (handed_in a (published c.prepare.new.self c.in-Ok.ready.batch) c.in-Ok.ready.batch.commit))) c.self.view_is
     (accepted_moves a c.prepare.new.self c.args.ask.now (option_copied c.args.csrf) c.args.command.now c.args.now c.in-Ok.ready c.in-Ok.ensures.ready (subst IsAlone c.in-Ok-hand_in.ensures.published c.hand_in.ensures.is_alone)))
 
 pub returns-in-Ok-hand_in-clause-answers : goal.returns-in-Ok-hand_in-clause-answers
 returns-in-Ok-hand_in-clause-answers g c =
-    let a : AloneView = record { hall = c.self.inside.hall; opened = c.self.inside.opened; handed = c.self.inside.handed.items; keepers = c.self.inside.keepers } in
+    let a : AloneView = record { hall = c.self.inside.hall; opened = c.self.inside.opened; handed = c.self.inside.handed.items; keepers = c.self.inside.keepers; unkept = c.self.inside.unkept } in
     let number = c.number.ensures ∙ ap (λ (v : AloneView). number_of v.hall) (c.self-in-Ok-hand_in.view_is ∙ c.in-Ok-hand_in.ensures.published) in
     let new = handed_in a (published c.prepare.new.self c.in-Ok.ready.batch) c.in-Ok.ready.batch.commit in
     let done = ap (λ (r : Ready). r.done) c.ready.view_is in
@@ -45,7 +45,7 @@ returns-in-Ok-hand_in-clause-answers g c =
 
 pub returns-in-Failed-clause-moves : goal.returns-in-Failed-clause-moves
 returns-in-Failed-clause-moves g c =
-    let a : AloneView = record { hall = c.self.inside.hall; opened = c.self.inside.opened; handed = c.self.inside.handed.items; keepers = c.self.inside.keepers } in
+    let a : AloneView = record { hall = c.self.inside.hall; opened = c.self.inside.opened; handed = c.self.inside.handed.items; keepers = c.self.inside.keepers; unkept = c.self.inside.unkept } in
     let leaves = subst (λ (fault : KeeperFault). LeavesHanded fault (with_hall a c.prepare.new.self) c.in-Ok.ready.batch c.hand_in.new.self) c.in-Failed.is c.in-Err-hand_in.ensures.leaves in
     let new = c.hand_in.new.self.hall in
     let counted = c.keeper_failed.ensures.counted ∙ ap (λ (v : AloneView). record v { keepers = up v.keepers }) leaves.1 in
@@ -58,7 +58,7 @@ returns-in-Failed-clause-moves g c =
 
 pub returns-in-Failed-clause-answers : goal.returns-in-Failed-clause-answers
 returns-in-Failed-clause-answers g c =
-    let a : AloneView = record { hall = c.self.inside.hall; opened = c.self.inside.opened; handed = c.self.inside.handed.items; keepers = c.self.inside.keepers } in
+    let a : AloneView = record { hall = c.self.inside.hall; opened = c.self.inside.opened; handed = c.self.inside.handed.items; keepers = c.self.inside.keepers; unkept = c.self.inside.unkept } in
     let leaves = subst (λ (fault : KeeperFault). LeavesHanded fault (with_hall a c.prepare.new.self) c.in-Ok.ready.batch c.hand_in.new.self) c.in-Failed.is c.in-Err-hand_in.ensures.leaves in
     let new = c.hand_in.new.self.hall in
     let counted = c.keeper_failed.ensures.counted ∙ ap (λ (v : AloneView). record v { keepers = up v.keepers }) leaves.1 in
@@ -71,7 +71,7 @@ returns-in-Failed-clause-answers g c =
 
 pub returns-in-OutOfMemory-clause-moves : goal.returns-in-OutOfMemory-clause-moves
 returns-in-OutOfMemory-clause-moves g c =
-    let a : AloneView = record { hall = c.self.inside.hall; opened = c.self.inside.opened; handed = c.self.inside.handed.items; keepers = c.self.inside.keepers } in
+    let a : AloneView = record { hall = c.self.inside.hall; opened = c.self.inside.opened; handed = c.self.inside.handed.items; keepers = c.self.inside.keepers; unkept = c.self.inside.unkept } in
     let same = subst (λ (fault : KeeperFault). LeavesHanded fault (with_hall a c.prepare.new.self) c.in-Ok.ready.batch c.hand_in.new.self) c.in-OutOfMemory.is c.in-Err-hand_in.ensures.leaves in
     subst (λ (v : AloneView). Moves (house_of c.args.self.now) (house_of v)) (sym same)
     (subst (λ (v : AloneView). Moves (house_of v) (house_of (with_hall a c.prepare.new.self))) c.self.view_is
@@ -81,13 +81,13 @@ returns-in-OutOfMemory-clause-moves g c =
 
 pub invariant_of-self-in-Refused : goal.invariant_of-self-in-Refused
 invariant_of-self-in-Refused g c =
-    let a : AloneView = record { hall = c.self.inside.hall; opened = c.self.inside.opened; handed = c.self.inside.handed.items; keepers = c.self.inside.keepers } in
+    let a : AloneView = record { hall = c.self.inside.hall; opened = c.self.inside.opened; handed = c.self.inside.handed.items; keepers = c.self.inside.keepers; unkept = c.self.inside.unkept } in
     let stops = subst (λ (s : Stop). Stops s a.hall c.prepare.new.self c.args.ask.now (option_copied c.args.csrf) c.args.command.now c.args.now 0) c.in-Refused.is c.in-Err.ensures.stops in
     settled_alone a c.prepare.new.self c.self.invariant stops.0 c.prepare.ensures.is_hall
 
 pub returns-in-Refused-clause-moves : goal.returns-in-Refused-clause-moves
 returns-in-Refused-clause-moves g c =
-    let a : AloneView = record { hall = c.self.inside.hall; opened = c.self.inside.opened; handed = c.self.inside.handed.items; keepers = c.self.inside.keepers } in
+    let a : AloneView = record { hall = c.self.inside.hall; opened = c.self.inside.opened; handed = c.self.inside.handed.items; keepers = c.self.inside.keepers; unkept = c.self.inside.unkept } in
     let stops = subst (λ (s : Stop). Stops s a.hall c.prepare.new.self c.args.ask.now (option_copied c.args.csrf) c.args.command.now c.args.now 0) c.in-Refused.is c.in-Err.ensures.stops in
     subst (λ (v : AloneView). Moves (house_of v) (house_of (with_hall a c.prepare.new.self))) c.self.view_is
     (settled_moves a c.prepare.new.self (invariant_of-self-in-Refused g c) stops.0)
@@ -101,13 +101,13 @@ returns-in-Failed-stop-clause-valid g c = valid_seen c.keeper_failed-in-Failed-s
 
 pub invariant_of-self-in-OutOfMemory-stop : goal.invariant_of-self-in-OutOfMemory-stop
 invariant_of-self-in-OutOfMemory-stop g c =
-    let a : AloneView = record { hall = c.self.inside.hall; opened = c.self.inside.opened; handed = c.self.inside.handed.items; keepers = c.self.inside.keepers } in
+    let a : AloneView = record { hall = c.self.inside.hall; opened = c.self.inside.opened; handed = c.self.inside.handed.items; keepers = c.self.inside.keepers; unkept = c.self.inside.unkept } in
     let stops = subst (λ (s : Stop). Stops s a.hall c.prepare.new.self c.args.ask.now (option_copied c.args.csrf) c.args.command.now c.args.now 0) c.in-OutOfMemory-stop.is c.in-Err.ensures.stops in
     starved_alone a c.prepare.new.self c.self.invariant c.prepare.ensures.is_hall stops
 
 pub returns-in-OutOfMemory-stop-clause-moves : goal.returns-in-OutOfMemory-stop-clause-moves
 returns-in-OutOfMemory-stop-clause-moves g c =
-    let a : AloneView = record { hall = c.self.inside.hall; opened = c.self.inside.opened; handed = c.self.inside.handed.items; keepers = c.self.inside.keepers } in
+    let a : AloneView = record { hall = c.self.inside.hall; opened = c.self.inside.opened; handed = c.self.inside.handed.items; keepers = c.self.inside.keepers; unkept = c.self.inside.unkept } in
     let stops = subst (λ (s : Stop). Stops s a.hall c.prepare.new.self c.args.ask.now (option_copied c.args.csrf) c.args.command.now c.args.now 0) c.in-OutOfMemory-stop.is c.in-Err.ensures.stops in
     subst (λ (v : AloneView). Moves (house_of v) (house_of (with_hall a c.prepare.new.self))) c.self.view_is
     (starved_moves a c.prepare.new.self (invariant_of-self-in-OutOfMemory-stop g c) stops)

@@ -19,7 +19,7 @@ invariant_of-self-then-head-number g c =
     let told = subst (λ (hall : HallView). IfTold hall.kept (λ held. c.args.head ≡ held.head)) (sym c.self.view_is) c.requires in
     let other = λ (e : c.args.head ≡ c.number.result + 1). c.if-head-number.true e in
     settled_whole c.args.head c.in-Some.made c.self.invariant (sym c.take.ensures.value ∙ c.in-Some.is) c.take.ensures.after told
-    (settled_forgotten c.self.inside.log (g.K.Keeper.kept c.self.inside.keeper) (g.K.Keeper.faults c.self.inside.keeper) c.args.head (g.K.Keeper.steadfast c.self.inside.keeper) c.in-Some.made
+    (settled_forgotten c.self.inside.log (g.K.Keeper.kept c.self.inside.keeper) (g.K.Keeper.faults c.self.inside.keeper) c.args.head (g.K.Keeper.steadfast c.self.inside.keeper) c.self.inside.stock c.in-Some.made
     (λ e. other (e ∙ ap (λ (n : ℕ). n + 1) (sym c.number.ensures.number))))
 
 pub returns-then-head-number-clause-is_hall : goal.returns-then-head-number-clause-is_hall
@@ -31,7 +31,7 @@ pub invariant_of-self-2 : goal.invariant_of-self-2
 invariant_of-self-2 g c =
     let told = subst (λ (hall : HallView). IfTold hall.kept (λ held. c.args.head ≡ held.head)) (sym c.self.view_is) c.requires in
     settled_whole c.args.head c.in-Some.made c.self.invariant (sym c.take.ensures.value ∙ c.in-Some.is) c.take.ensures.after told
-    (settled_published c.self.inside.log c.publish.new.self c.in-Some.made.commit (g.K.Keeper.kept c.self.inside.keeper) (g.K.Keeper.faults c.self.inside.keeper) c.args.head (g.K.Keeper.steadfast c.self.inside.keeper) c.in-Some.made refl
+    (settled_published c.self.inside.log c.publish.new.self c.in-Some.made.commit (g.K.Keeper.kept c.self.inside.keeper) (g.K.Keeper.faults c.self.inside.keeper) c.args.head (g.K.Keeper.steadfast c.self.inside.keeper) c.self.inside.stock c.in-Some.made refl
     c.publish.ensures.base c.publish.ensures.edits (c.if-head-number.false ∙ ap (λ (n : ℕ). n + 1) c.number.ensures.number))
 
 pub returns-clause-is_hall : goal.returns-clause-is_hall

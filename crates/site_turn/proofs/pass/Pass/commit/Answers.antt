@@ -1,7 +1,7 @@
 use Rattle.std.proofs.Common.{◌∙◌, ℕ, ap, sym, subst}
 use Rattle.std.specs.Option.{option_copied}
 use Rattle.site_hall.specs.Hall.{Answers, Tells}
-use Rattle.turn_rule.specs.Steps.{Knows}
+use Rattle.turn_rule.specs.Steps.{zeros, Knows}
 use Rattle.site_turn.specs.Views.{noted, first_pass, pass_of}
 use Rattle.site_turn.specs.Turns.{Commits}
 use Rattle.site_turn.proofs.Halls.{IsTurn, commit_turn}
@@ -17,7 +17,7 @@ back_after-requires-clause-out g c =
     let pass = pass_of c.replace-badge.result.views in
     let number = c.self.invariant.number_is ∙ sym (ap (λ b. (pass_of b.views).number) c.replace-badge.ensures.value) in
     let turn = commit_turn old new c.args.ask.now (option_copied c.args.csrf) c.args.command.now c.args.now c.self.inside.number c.commit_and_tell-answer.result.0 hands made.answers made.tells made.never_falls made.steadfast in
-    is_out hands _ pass old new c.len-before.result c.out-seat.ensures.taken (subst (λ (n : ℕ). IsTurn hands n old new) number turn) c.len-before.ensures.len
+    is_out zeros hands _ pass old new c.len-before.result c.out-seat.ensures.taken (subst (λ (n : ℕ). IsTurn zeros hands n old new) number turn) c.len-before.ensures.len
 
 pub returns-clause-commits : goal.returns-clause-commits
 returns-clause-commits g c =
@@ -46,5 +46,5 @@ returns-clause-commits g c =
       answers = answers;
       tells = tells;
       is_hall = made.is_hall;
-      went = went_back hands pass _ c.back_after.result.views old new first c.back_after.ensures.back before turn c.back_after.ensures.knows;
+      went = went_back zeros hands pass _ c.back_after.result.views old new first c.back_after.ensures.back before turn c.back_after.ensures.knows;
     })

@@ -1,4 +1,4 @@
-use Rattle.std.proofs.Common.{◌∙◌, arith, ap, refl}
+use Rattle.std.proofs.Common.{◌∙◌, arith, ap}
 use Rattle.turn_rule.specs.Steps.{founding, new_pass}
 use Rattle.turn_rule.proofs.Moves.{passes_drawn, passes_seated}
 use Rattle.site_turn.specs.Views.{noted_in, founder_of}

@@ -1,0 +1,4 @@
+pub mod Keys
+pub mod Keeping
+pub mod Making
+pub mod Laws

@@ -1,0 +1,17 @@
+//! What is kept of elements: the keys that they are looked for by, whether what is found may be shown, and the entries that
+//! are made of what was put together.
+#![tactic(auto)]
+
+mod finding;
+mod keeping;
+mod keys;
+mod laws;
+mod making;
+mod reader;
+
+pub use finding::{if_fresh, is_fresh};
+pub use keeping::{may_keep, redirect_to};
+pub use keys::{duplicate_subject, key_of, required_contexts};
+pub use laws::entries_are_made_on_states;
+pub use making::{Joined, entry_of};
+pub use reader::Reader;

@@ -1,0 +1,110 @@
+-- What was found, and what was made.
+use Rattle.std.proofs.Common.{ℕ, List, [], ◌∷◌, ◌≡◌, sym, ◌∙◌, ap, subst, arith, Option, Some, None, IfSome, inl, inr, map, length, take, length-append}
+use Rattle.std.proofs.lemmas.List.{take-append-le}
+use Rattle.std.specs.Arc.{arc_value}
+use Rattle.std.specs.declared.sync.Arc.{Arc}
+use Rattle.std.specs.declared.alloc.Global.{Global}
+use Rattle.content_state.specs.declared.element.Fragment.{Fragment}
+use Rattle.content_state.specs.declared.element.Hole.TheVariants.{Meta, Fragment as FragmentHole}
+use Rattle.content_state.specs.State.{State}
+use Rattle.content_state.specs.Replay.{replay}
+use Rattle.content_state.specs.SiteRules.{InOrder}
+use Rattle.content_state.specs.Plan.{Piece, Byte, Place}
+use Rattle.content_state.specs.Places.{open_places, MakesWhole}
+use Rattle.cache_contexts.specs.Values.{visit_on, valued}
+use Rattle.cache_contexts.proofs.Tests.{head_or_tail, nowhere}
+use Rattle.cache_entries.specs.declared.entry.Entry.{Entry}
+use Rattle.cache_entries.specs.declared.key.Key.{Key}
+use Rattle.cache_entries.specs.declared.key.Subject.{Subject}
+use Rattle.cache_entries.specs.declared.key.Subject.TheVariants as subject
+use Rattle.cache_entries.specs.declared.kept.Found.{Found}
+use Rattle.cache_entries.specs.declared.kept.Found.TheVariants as found
+use Rattle.cache_entries.specs.Entries.{IsHere, IsFresh, Has, HasNoParts, pieces_of as pieces_kept}
+use Rattle.cache_entries.specs.Sound.{IsSound}
+use Rattle.render_canvas.specs.Board.{pieces_of}
+use Rattle.render_array.specs.declared.element.Element.TheVariants as element
+use Rattle.render_array.specs.Shown.{OnlyMeta}
+use Rattle.render_array.specs.Whole.{whole}
+use Rattle.render_array.proofs.Leaves.{fragment_closed}
+use Rattle.fragment_cache.proofs.Fresh.{fresh_is_shown}
+use Rattle.page_meaning.specs.Meaning.{meaning}
+use Rattle.element_entries.specs.declared.making.Joined.{Joined}
+use Rattle.element_entries.specs.declared.reader.Reader.{Reader}
+use Rattle.element_entries.specs.Keys.{visit}
+use Rattle.element_entries.specs.Making.{needs_of, IsEntryOf}
+use Rattle.element_entries.proofs.Entries.{made_on}
+use Rattle.site_house.specs.House.{HouseView, Moves, Stays}
+use Rattle.site_house.specs.Bins.{IsSeenIn, IsSoundIn}
+use Rattle.site_house.proofs.Moving.{moves_on}
+use Rattle.kept_pages.specs.Houses.{Steady, Reads, IsMadeFor}
+use Rattle.kept_pages.specs.Joins.{IsWhole}
+use Rattle.kept_pages.proofs.Parts.{same_pieces}
+
+-- a house that goes on
+pub steady_on : {first second third : HouseView} → Steady first second → Steady second third → Steady first third
+steady_on a b = record { moves = moves_on a.moves b.moves; stays = record { handed = b.stays.handed ∙ a.stays.handed; keepers = b.stays.keepers ∙ a.stays.keepers } }
+
+pub steady_of : {old new : HouseView} → Moves old new → Stays old new → Steady old new
+steady_of moves stays = record { moves = moves; stays = stays }
+
+-- a state that was seen is still seen
+seen_on : (old new : HouseView) (s : State) → Moves old new → IsSeenIn old s → IsSeenIn new s
+seen_on old new s moves seen = record {
+  in_order = subst (λ (b : State). InOrder b.rows) (sym moves.base) seen.in_order;
+  count = seen.count;
+  within = (let within = seen.within in omega (arith, simp length-append at (ap length moves.grows.1)));
+  state_is = seen.state_is ∙ ap (λ (b : State). replay b (take seen.count old.seen)) (sym moves.base)
+      ∙ ap (replay new.base) (sym (ap (take seen.count) moves.grows.1 ∙ take-append-le seen.count old.seen moves.grows.0 seen.within));
+  valid = seen.valid;
+}
+
+pub reads_on : {old new : HouseView} {r : Reader} → Steady old new → Reads old r → Reads new r
+reads_on {old} {new} {r} steady reads = record { seen = seen_on old new r.state.now steady.moves reads.seen; right = reads.right }
+
+-- what was found and is fresh may be shown
+pub fresh_here : (house : HouseView) (r : Reader) (key : Key) (o : Option (Arc Entry Global)) (was : Arc Entry Global) (seen : Found) → seen ≡ found.Entry was → IsSoundIn house key seen → Reads house r
+    → IfSome o (λ e. (arc_value e ≡ arc_value was) × IsFresh r.state.now r.viewer.now r.ask.now r.moment (arc_value e)) → IfSome o (λ e. IsHere meaning key.subject (visit r) (arc_value e))
+fresh_here house r key None was seen is sound reads h = tt
+fresh_here house r key (Some e) was seen is sound reads h =
+    fresh_is_shown meaning house.base house.seen key (arc_value e) r.state.now r.viewer.now r.ask.now r.moment reads.seen reads.right
+    (subst (IsSound meaning house.base house.seen key) (sym h.0) (subst (IsSoundIn house key) is sound)) h.1
+
+-- what was made for a reader may be shown to it, and is fresh
+module _ (r : Reader) (s : Subject) (e : Entry) (made : IsMadeFor r s e) where
+  pub made_is_here : IsHere meaning s (visit r) e
+  made_is_here = record {
+    has = subst (λ (m : ℕ). Has (meaning s) s (visit_on r.state.now r.viewer.now r.ask.now m) e) made.moment made.made_on.has;
+    not_over = made.not_over;
+  }
+
+  pub made_is_fresh : IsFresh r.state.now r.viewer.now r.ask.now r.moment e
+  made_is_fresh = record {
+    values_are = subst (λ (m : ℕ). e.values ≡ map (valued (visit_on r.state.now r.viewer.now r.ask.now m)) e.cacheability.contexts) made.moment made.made_on.values;
+    sum = made.made_on.sum;
+    not_before = (let same = made.moment in omega arith);
+    not_after = made.not_over;
+  }
+
+-- no part of a whole fragment is open
+no_parts : (ps : List Piece) → OnlyMeta ps → HasNoParts ps
+no_parts [] only f h = nowhere (FragmentHole f) h
+no_parts (Byte b ∷ ps) only f h = no_parts ps only f h
+no_parts (Place Meta ∷ ps) only f h = elim (head_or_tail Meta (open_places ps) (FragmentHole f) h) [
+  | inl e ↦ absurd (let same = e in cc)
+  | inr g ↦ no_parts ps only f g
+]
+no_parts (Place (FragmentHole g) ∷ ps) only f h = absurd only
+
+-- an entry of a fragment that was put together was made for its reader
+pub entry_made_for : (r : Reader) (f : Fragment) (j : Joined) (e : Entry) → IsWhole (whole r.ask.now.path (element.Fragment f)) (visit r) j → IsEntryOf r j e → IsMadeFor r (subject.Fragment f) e
+entry_made_for r f j e is of = record {
+  made_on = made_on (whole r.ask.now.path (element.Fragment f)) (subject.Fragment f) r j e of makes
+      (subst (λ ps. HasNoParts ps) (sym (same_pieces j.segments))
+      (no_parts (pieces_of j.segments) (fragment_closed r.ask.now.path f (visit r) j.status (pieces_of j.segments) is.makes.attached (needs_of j) is.makes.made)));
+  moment = of.made_moment;
+  not_over = (let same = of.last in let over = is.not_over in omega arith);
+  asked = tt;
+}
+  where
+    makes : MakesWhole (whole r.ask.now.path (element.Fragment f)) (visit r) j.status (pieces_kept j.segments) j.libraries.items (needs_of j)
+    makes = subst (λ ps. MakesWhole (whole r.ask.now.path (element.Fragment f)) (visit r) j.status ps j.libraries.items (needs_of j)) (sym (same_pieces j.segments)) is.makes

@@ -1,0 +1,184 @@
+-- Elements whose places are filled in, part by part.
+use Rattle.std.proofs.Common.{ℕ, zero, suc, Bool, true, false, List, [], ◌∷◌, ◌++◌, ◌≡◌, ◌<◌, ◌+◌, refl, sym, ◌∙◌, ap, subst, append_assoc, append-nil, arith, take, length, get_or, Option, Some, None, Contains, inl, inr}
+use Rattle.std.specs.Prelude.{◌==◌, if◌then◌else◌, IfOk, OnOk, Result, Ok, Err}
+use Rattle.std.proofs.lemmas.Grind.{take_at_read}
+use Rattle.cacheability.specs.declared.cacheability.Cacheability.{Cacheability}
+use Rattle.html_out.specs.declared.part.Segment.{Segment}
+use Rattle.html_out.specs.Part.{Part, Text, Hole as Open}
+use Rattle.html_out.specs.Segment.{part_of, parts_of}
+use Rattle.content_state.specs.declared.element.Fragment.{Fragment}
+use Rattle.content_state.specs.declared.element.Hole.{Hole}
+use Rattle.content_state.specs.declared.element.Hole.TheVariants as hole
+use Rattle.content_state.specs.declared.element.Library.{Library}
+use Rattle.content_state.specs.Context.{Visit}
+use Rattle.content_state.specs.Plan.{Piece, Place, bytes, Plan, Needs, Made}
+use Rattle.content_state.specs.Places.{filled_in, FillsPlace, Fills, SameMembers, MakesWhole}
+use Rattle.content_state.proofs.Filled.{in_append, in_left, in_right, same_refl, same_trans, same_after, filled}
+use Rattle.render_canvas.specs.declared.built.Built.{Built}
+use Rattle.render_canvas.specs.Board.{pieces_of}
+use Rattle.render_canvas.specs.Canvas.{Keeps}
+use Rattle.render_canvas.specs.Finished.{needs_of as needs_built}
+use Rattle.render_canvas.proofs.BoardLaws.{pieces_of-append}
+use Rattle.render_canvas.proofs.Run.{Keeps-trans, Made-kept}
+use Rattle.render_array.specs.declared.element.Element.TheVariants as element
+use Rattle.render_array.specs.Built.{Builds}
+use Rattle.render_array.specs.Whole.{shown_below, whole, fragment_level}
+use Rattle.renderer.proofs.Joining.{fills_kept, fills_append, fills_bytes, parts_append}
+use Rattle.renderer.proofs.Standing.{some_below, none_below}
+use Rattle.cache_entries.specs.declared.entry.Entry.{Entry}
+use Rattle.cache_entries.specs.declared.key.Subject.TheVariants as subject
+use Rattle.cache_entries.specs.Entries.{IsHere, needs_of as needs_entry, pieces_of as pieces_kept}
+use Rattle.page_meaning.specs.Meaning.{meaning}
+use Rattle.element_entries.specs.declared.making.Joined.{Joined}
+use Rattle.element_entries.specs.Making.{needs_of}
+use Rattle.kept_pages.specs.Joins.{IsWhole, StaysOpen, Appends, Takes, Joins}
+
+-- the pieces of segments, by the one definition and the other
+pub same_pieces : (ps : List (Part Hole)) → pieces_kept ps ≡ pieces_of ps
+same_pieces [] = refl
+same_pieces (Text bs ∷ ps) = ap (λ l. bytes bs ++ l) (same_pieces ps)
+same_pieces (Open h ∷ ps) = ap (λ l. Place h ∷ l) (same_pieces ps)
+
+joins_then : (below : ℕ) (v : Visit) (a b : List Piece) (old mid new : Joined) → Joins below v a old mid → Joins below v b mid new → Joins below v (a ++ b) old new
+joins_then below v a b old mid new first second = record {
+  shown = first.shown ++ second.shown;
+  attached = first.attached ++ second.attached;
+  appended = second.appended ∙ ap (λ p. p ++ second.shown) first.appended ∙ append_assoc (pieces_of old.segments) first.shown second.shown;
+  libraries = same_trans new.libraries.items (mid.libraries.items ++ second.attached) (old.libraries.items ++ (first.attached ++ second.attached)) second.libraries
+      (subst (λ l. SameMembers (mid.libraries.items ++ second.attached) l) (append_assoc old.libraries.items first.attached second.attached)
+      (same_before mid.libraries.items (old.libraries.items ++ first.attached) second.attached first.libraries));
+  kept = Keeps-trans (needs_of old) (needs_of mid) (needs_of new) first.kept second.kept;
+  not_over = λ h. second.not_over (first.not_over h);
+  status = second.status ∙ first.status;
+  fills = fills_append (shown_below below) v (needs_of new) a b first.shown second.shown first.attached second.attached
+      (fills_kept (shown_below below) v (needs_of mid) (needs_of new) a first.shown first.attached second.kept first.fills) second.fills;
+}
+  where
+    same_before : (xs ys zs : List Library) → SameMembers xs ys → SameMembers (xs ++ zs) (ys ++ zs)
+    same_before xs ys zs same = record {
+      there = λ x h. elim (in_append xs zs x h) [ inl g ↦ in_left ys zs x (same.there x g) | inr g ↦ in_right ys zs x g ];
+      back = λ x h. elim (in_append ys zs x h) [ inl g ↦ in_left xs zs x (same.back x g) | inr g ↦ in_right xs zs x g ];
+    }
+
+keeps_same : (old new : Joined) → new.cacheability ≡ old.cacheability → new.last ≡ old.last → Keeps (needs_of old) (needs_of new)
+keeps_same old new cacheability last = record {
+  tags = λ t h. subst (λ (c : Cacheability). Contains c.tags t) (sym cacheability) h;
+  contexts = λ x h. subst (λ (c : Cacheability). Contains c.contexts x) (sym cacheability) h;
+  last = omega arith;
+}
+
+same_with_none : (old new : Joined) → new.libraries ≡ old.libraries → SameMembers new.libraries.items (old.libraries.items ++ [])
+same_with_none old new e =
+    subst (λ l. SameMembers l (old.libraries.items ++ [])) (sym (ap (λ l. l.items) e))
+    (subst (λ l. SameMembers old.libraries.items l) (sym (append-nil old.libraries.items)) (same_refl old.libraries.items))
+
+-- bytes
+pub joins_bytes : (below : ℕ) (v : Visit) (bs : List ℕ) (old new : Joined) → Appends (bytes bs) old new → Joins below v (bytes bs ++ []) old new
+joins_bytes below v bs old new a = subst (λ p. Joins below v p old new) (sym (append-nil (bytes bs))) (record {
+  shown = bytes bs;
+  attached = [];
+  appended = a.appended;
+  libraries = same_with_none old new a.libraries;
+  kept = keeps_same old new a.cacheability a.last;
+  not_over = λ h. (let last = a.last in omega arith);
+  status = a.status;
+  fills = fills_bytes (shown_below below) v (needs_of new) bs;
+})
+
+-- a place that stays open
+none_of : (b : Bool) (o : Option (Plan (Option ℕ))) → o ≡ None → (if b then None else o) ≡ None
+none_of true o none = refl
+none_of false o none = none
+
+open_meta : (k : ℕ) → shown_below k hole.Meta ≡ None
+open_meta zero = refl
+open_meta (suc k) = none_of (0 == k) (shown_below k hole.Meta) (open_meta k)
+
+pub nothing_below : (below : ℕ) (h : Hole) → StaysOpen below h → shown_below below h ≡ None
+nothing_below below h (inl is) = subst (λ x. shown_below below x ≡ None) (sym is) (open_meta below)
+nothing_below below h (inr over) = none_below below h over
+
+pub joins_open : (below : ℕ) (v : Visit) (h : Hole) (old new : Joined) → StaysOpen below h → Appends (Place h ∷ []) old new → Joins below v (Place h ∷ []) old new
+joins_open below v h old new stays a = record {
+  shown = Place h ∷ [];
+  attached = [];
+  appended = a.appended;
+  libraries = same_with_none old new a.libraries;
+  kept = keeps_same old new a.cacheability a.last;
+  not_over = λ x. (let last = a.last in omega arith);
+  status = a.status;
+  fills = subst (λ o. FillsPlace o v (needs_of new) h (Fills (shown_below below) v (needs_of new) []) (Place h ∷ []) []) (sym (nothing_below below h stays)) (record { rest = []; shown_is = refl; follows = (refl, refl) });
+}
+
+-- a child
+pub joins_child : (below : ℕ) (v : Visit) (h : Hole) (f : Fragment) (child : Entry) (old new : Joined) → h ≡ hole.Fragment f → fragment_level f < below → IsHere meaning (subject.Fragment f) v child → Takes child old new → Joins below v (Place h ∷ []) old new
+joins_child below v h f child old new is lower here takes = record {
+  shown = pieces_of child.segments;
+  attached = made.attached;
+  appended = ap pieces_of takes.appended ∙ pieces_of-append old.segments child.segments;
+  libraries = subst (λ l. SameMembers l (old.libraries.items ++ made.attached)) (sym takes.libraries)
+      (same_after old.libraries.items child.libraries made.attached (record { there = made.same.back; back = made.same.there }));
+  kept = record { tags = λ t g. (takes.tags t).1 (inl g); contexts = λ c g. (takes.contexts c).1 (inl g); last = (let last = takes.last in omega arith) };
+  not_over = λ x. (let last = takes.last in let child_last = here.not_over in omega arith);
+  status = takes.status;
+  fills = subst (λ o. FillsPlace o v (needs_of new) h (Fills (shown_below below) v (needs_of new) []) (pieces_of child.segments) made.attached) (sym stands) (record {
+    own = pieces_of child.segments;
+    libraries = made.attached;
+    rest = [];
+    others = [];
+    status = child.status;
+    shown_is = sym (append-nil (pieces_of child.segments));
+    attached_is = sym (append-nil made.attached);
+    made = Made-kept (whole [] (element.Fragment f)) v child.status (pieces_of child.segments) made.attached (needs_entry child) (needs_of new)
+        (record { tags = λ t g. (takes.tags t).1 (inr g); contexts = λ c g. (takes.contexts c).1 (inr g); last = (let last = takes.last in omega arith) })
+        (subst (λ ps. Made (whole [] (element.Fragment f)) v child.status ps made.attached (needs_entry child)) (same_pieces child.segments) made.made);
+    follows = (refl, refl);
+  });
+}
+  where
+    made : MakesWhole (meaning (subject.Fragment f)) v child.status (pieces_kept child.segments) child.libraries (needs_entry child)
+    made = here.has.makes
+
+    stands : shown_below below h ≡ Some (whole [] (element.Fragment f))
+    stands = subst (λ x. shown_below below x ≡ Some (whole [] (element.Fragment f))) (sym is) (some_below below (fragment_level f) (hole.Fragment f) refl lower)
+
+-- one part after others
+pub joins_part : (below : ℕ) (v : Visit) (ss : List (Segment Hole)) (i : ℕ) (s : Segment Hole) (old mid new : Joined) → i < length ss → s ≡ get_or ss i s → Joins below v (pieces_of (parts_of (take i ss))) old mid → Joins below v (pieces_of (part_of s ∷ [])) mid new → Joins below v (pieces_of (parts_of (take (i + 1) ss))) old new
+joins_part below v ss i s old mid new within is first second =
+    rw ((take_at_read ss i s within).1)
+    (subst (λ p. Joins below v p old new) (sym (parts_append (take i ss) (get_or ss i s)))
+    (joins_then below v (pieces_of (parts_of (take i ss))) (pieces_of (part_of (get_or ss i s) ∷ [])) old mid new first
+    (subst (λ t. Joins below v (pieces_of (part_of t ∷ [])) mid new) is second)))
+
+-- what was built, its places filled in, is whole
+pub whole_of : (below : ℕ) (v : Visit) (p : Plan (Option ℕ)) (b : Built) (old new : Joined) → Builds p v b → pieces_of old.segments ≡ [] → old.libraries.items ≡ b.libraries → old.cacheability ≡ b.cacheability → old.last ≡ b.last → old.status ≡ b.status → Joins below v (pieces_of b.segments) old new → IsWhole (filled_in (shown_below below) p) v new
+whole_of below v p b old new builds segments libraries cacheability last status joins = record {
+  makes = record {
+    attached = makes.attached;
+    made = subst (λ s. Made (filled_in (shown_below below) p) v s (pieces_of new.segments) makes.attached (needs_of new)) (sym (joins.status ∙ status))
+        (subst (λ s. Made (filled_in (shown_below below) p) v b.status s makes.attached (needs_of new)) (sym shown_is) makes.made);
+    same = same_trans makes.attached (b.libraries ++ joins.attached) new.libraries.items makes.same
+        (subst (λ l. SameMembers (l ++ joins.attached) new.libraries.items) libraries (record { there = joins.libraries.back; back = joins.libraries.there }));
+  };
+  not_over = joins.not_over (let same = last in let over = builds.not_over in omega arith);
+}
+  where
+    kept : Keeps (needs_built b) (needs_of new)
+    kept = subst (λ (n : Needs). Keeps n (needs_of new)) (λ i. record { tags = (cacheability i).tags; contexts = (cacheability i).contexts; last = last i }) joins.kept
+
+    makes : MakesWhole (filled_in (shown_below below) p) v b.status joins.shown (b.libraries ++ joins.attached) (needs_of new)
+    makes = filled (shown_below below) p v b.status (pieces_of b.segments) b.libraries (needs_of new) joins.shown joins.attached
+        (Made-kept p v b.status (pieces_of b.segments) b.libraries (needs_built b) (needs_of new) kept builds.made) joins.fills
+
+    shown_is : pieces_of new.segments ≡ joins.shown
+    shown_is = joins.appended ∙ ap (λ l. l ++ joins.shown) segments
+
+-- what holds anyway holds of a call that ends well
+pub on_ok_any : {A E Q : Type 0} (r : Result A E) → Q → OnOk r Q
+on_ok_any (Ok x) q = q
+on_ok_any (Err e) q = tt
+
+-- two facts of what a call gives
+pub if_ok_both : {A E : Type 0} {P Q R : A → Type 0} (r : Result A E) → ((x : A) → P x → Q x → R x) → IfOk r P → IfOk r Q → IfOk r R
+if_ok_both (Ok x) f p q = f x p q
+if_ok_both (Err e) f p q = tt

@@ -1,0 +1,75 @@
+use Rattle.std.proofs.Common.{refl, ap, subst}
+use Rattle.std.specs.Arc.{arc_value}
+use Rattle.std.proofs.lemmas.Result.{on_ok_weaker, IfOk-weaker}
+use Rattle.cache_entries.specs.declared.entry.Entry.{Entry}
+use Rattle.cache_entries.specs.declared.key.Subject.TheVariants as subject
+use Rattle.render_canvas.specs.Board.{pieces_of}
+use Rattle.render_array.specs.declared.element.Element.{Element}
+use Rattle.render_array.specs.Built.{plan_of}
+use Rattle.render_array.specs.Whole.{element_level}
+use Rattle.element_entries.specs.Keys.{visit}
+use Rattle.kept_pages.specs.Joins.{Takes}
+use Rattle.kept_pages.specs.Held.{Tells}
+use Rattle.kept_pages.specs.Needed.{InFragment, NeededBelow, NeededFor}
+use Rattle.kept_pages.proofs.Counting.{built_up, tells_built, tells_found, told_bytes, told_open, told_child, told_part}
+use Rattle.kept_pages.proofs.Entries.{steady_on}
+use Rattle.kept_pages.proofs.Parts.{joins_bytes, joins_open, joins_child, joins_part, whole_of, on_ok_any, if_ok_both}
+use Rattle.kept_pages.proofs.filling.+filling.Goals as goal
+
+pub add_part-returns-in-Bytes-clause-joins : goal.add_part-returns-in-Bytes-clause-joins
+add_part-returns-in-Bytes-clause-joins g t c =
+    rw c.in-Bytes.is (on_ok_weaker c.add_bytes.result (joins_bytes c.args.below _ _ _ _) c.add_bytes.ensures)
+
+pub add_part-returns-in-Bytes-clause-told : goal.add_part-returns-in-Bytes-clause-told
+add_part-returns-in-Bytes-clause-told g t c =
+    rw c.in-Bytes.is (on_ok_any c.add_bytes.result (told_bytes c.args.reader.now (NeededBelow c.args.below (visit c.args.reader.now)) (g.H.House.sees c.args.house.now) (arc_value c.in-Bytes.shared) c.args.filled.now.built))
+
+pub add_part-returns-in-None-clause-joins : goal.add_part-returns-in-None-clause-joins
+add_part-returns-in-None-clause-joins g t c =
+    rw c.in-Hole.is (on_ok_weaker c.leave_open.result (joins_open c.args.below (visit c.args.reader.now) _ _ _ (c.in-None.ensures.stays refl)) c.leave_open.ensures)
+
+pub add_part-returns-in-None-clause-told : goal.add_part-returns-in-None-clause-told
+add_part-returns-in-None-clause-told g t c =
+    rw c.in-Hole.is (on_ok_any c.leave_open.result (told_open c.args.reader.now c.args.below (visit c.args.reader.now) (g.H.House.sees c.args.house.now) _ c.args.filled.now.built (c.in-None.ensures.stays refl)))
+
+pub add_part-returns-in_ok-add_child-in-Some-clause-joins : goal.add_part-returns-in_ok-add_child-in-Some-clause-joins
+add_part-returns-in_ok-add_child-in-Some-clause-joins g t c =
+    rw c.in-Hole.is (joins_child c.args.below (visit c.args.reader.now) _ c.in-Some.fragment (arc_value c.in_ok-child-in-Some.child.entry) c.args.filled.now.joined c.add_child.new.joined
+    c.in-Some.ensures.there c.in-Some.ensures.lower c.in_ok-child-in-Some.ensures.here
+    (subst (λ (e : Entry). Takes e c.args.filled.now.joined c.add_child.new.joined) c.deref.ensures c.in_ok-add_child-in-Some.ensures))
+
+pub add_part-returns-in_ok-add_child-in-Some-clause-told : goal.add_part-returns-in_ok-add_child-in-Some-clause-told
+add_part-returns-in_ok-add_child-in-Some-clause-told g t c =
+    rw c.in-Hole.is (told_child c.args.reader.now c.args.below (visit c.args.reader.now) _ _ _ c.in-Some.fragment c.in_ok-child-in-Some.child.built c.args.filled.now.built c.saturating_add-filled.result
+    c.in-Some.ensures.there c.in-Some.ensures.lower c.saturating_add-filled.ensures c.in_ok-child-in-Some.ensures.told)
+
+pub add_parts-loop-part-preserved : goal.add_parts-loop-part-preserved
+add_parts-loop-part-preserved g t c = record {
+  steady = steady_on c.loop-part.invariant.steady c.in_ok-add_part.ensures.steady;
+  joins = joins_part _ _ _ _ _ _ _ _ c.loop-part-test.true c.part-item.is c.loop-part.invariant.joins c.in_ok-add_part.ensures.joins;
+  told = told_part c.args.reader.now (NeededBelow c.args.below (visit c.args.reader.now)) c.args.parts.now _ _ _ _ _ _ _ _ c.loop-part-test.true c.part-item.is c.loop-part.invariant.told c.in_ok-add_part.ensures.told;
+}
+
+pub built_fragment-returns-clause-told : goal.built_fragment-returns-clause-told
+built_fragment-returns-clause-told g t c =
+    if_ok_both c.keep_whole.result
+    (λ child same closes.
+    built_up c.args.reader.now (InFragment (visit c.args.reader.now) c.args.fragment.now) (subject.Fragment c.args.fragment.now) (arc_value child.entry) _ _ _ c.in_ok-filled.filled.built child.built same
+    (subst (λ (e : Element). Tells c.args.reader.now (NeededFor c.args.reader.now.ask.now.path (visit c.args.reader.now) e) (g.H.House.sees c.args.house.now) (g.H.House.sees c.fill.new.house) 1 c.in_ok-filled.filled.built) c.element_of.ensures c.in_ok-filled.ensures.told) closes)
+    c.keep_whole.ensures.built c.keep_whole.ensures.told
+
+pub fill-returns-clause-whole : goal.fill-returns-clause-whole
+fill-returns-clause-whole g t c =
+    whole_of (element_level c.args.element) _ (plan_of c.args.reader.now.ask.now.path c.args.element) c.in_ok-segments.field-0 _ _ c.in_ok-segments.ensures
+    (ap pieces_of c.new.ensures) c.into_vec.ensures refl refl refl
+    (rw c.element_level-below.ensures at (rw c.parts.ensures at c.in_ok-add_parts.ensures.joins))
+
+pub some_fragment-returns-in-Some-clause-told : goal.some_fragment-returns-in-Some-clause-told
+some_fragment-returns-in-Some-clause-told g t c =
+    tells_found c.args.reader.now (visit c.args.reader.now) c.args.fragment.now c.in-Some.entry c.in_ok-entry.field-0 _ _ c.in-Some.is c.in_ok-entry.ensures.told
+
+pub some_fragment-returns-clause-told : goal.some_fragment-returns-clause-told
+some_fragment-returns-clause-told g t c =
+    IfOk-weaker c.built_fragment.result _ _
+    (λ child built. tells_built c.args.reader.now (visit c.args.reader.now) c.args.fragment.now (arc_value child.entry) c.in_ok-entry.field-0 _ _ _ child.built c.in-None.is c.in_ok-entry.ensures.told built)
+    c.built_fragment.ensures.told

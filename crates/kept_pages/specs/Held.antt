@@ -1,0 +1,172 @@
+-- What is kept for a reader, and what a look, a keep and a whole page do to it.
+-- https://www.drupal.org/docs/drupal-apis/cache-api/cache-api
+use Rattle.std.specs.Prelude.{ℕ, List, ◌≡◌, ◌≤◌, ◌<◌, ◌⊎◌, ◌+◌, min, Contains, Some, None, IfSome}
+use Rattle.std.specs.Arc.{arc_value}
+use Rattle.cacheability.specs.declared.context.Context.{Context}
+use Rattle.content_state.specs.Places.{SameMembers}
+use Rattle.cache_entries.specs.declared.entry.Entry.{Entry}
+use Rattle.cache_entries.specs.declared.key.Key.{Key}
+use Rattle.cache_entries.specs.declared.key.Subject.{Subject}
+use Rattle.cache_entries.specs.declared.kept.Bin.{Bin}
+use Rattle.cache_entries.specs.Entries.{IsFresh}
+use Rattle.fragment_cache.specs.Bins.{Bins, Thing, Whole, Towards, shelf_of}
+use Rattle.element_entries.specs.declared.reader.Reader.{Reader}
+use Rattle.element_entries.specs.Keeping.{MayKeep}
+use Rattle.element_entries.specs.Keys.{visit, required, key_by}
+use Rattle.site_house.specs.House.{HouseView}
+use Rattle.kept_pages.specs.declared.looking.Seen.{Seen}
+use Rattle.kept_pages.specs.Went.{Went, Done, Found, Built, number_built}
+
+-- what is kept, and how often something wasn't kept for want of memory
+pub record Shelves : Type 0 where
+  pub bins : Bins
+  pub unkept : ℕ
+
+-- a house tells of it
+pub record IsTold (house : HouseView) (s : Shelves) : Type 0 where
+  pub bins : house.bins ≡ Some s.bins
+  pub unkept : house.unkept ≡ s.unkept
+
+abbrev pub things_in : Shelves → Bin → List (Key × Thing)
+things_in s b = (shelf_of s.bins b).things
+
+-- nothing was lost, by counts that stay at the greatest u64: no key was dropped, and nothing wasn't kept
+pub record NothingLost (old new : Shelves) : Type 0 where
+  pub dropped : new.bins.dropped ≡ old.bins.dropped
+  pub unkept : new.unkept ≡ old.unkept
+  pub dropped_short : old.bins.dropped < 18446744073709551615
+  pub unkept_short : old.unkept < 18446744073709551615
+
+-- these counts never fall
+pub record Rises (old new : Shelves) : Type 0 where
+  pub dropped : min old.bins.dropped 18446744073709551615 ≤ new.bins.dropped
+  pub unkept : min old.unkept 18446744073709551615 ≤ new.unkept
+
+-- the same things stand under the same keys, in any order, and nothing was lost
+pub record StaysKept (old new : Shelves) : Type 0 where
+  pub things : (b : Bin) → SameMembers (things_in old b) (things_in new b)
+  pub dropped : new.bins.dropped ≡ old.bins.dropped
+  pub unkept : new.unkept ≡ old.unkept
+
+-- ---- what is held for a reader
+
+-- a fresh entry stands at a key
+pub record StandsFresh (r : Reader) (things : List (Key × Thing)) (key : Key) (e : Entry) : Type 0 where
+  pub there : Contains things (key, Whole e)
+  pub fresh : IsFresh r.state.now r.viewer.now r.ask.now r.moment e
+
+-- or at the second key, which the redirect at the first gives
+pub record StandsBehind (r : Reader) (things : List (Key × Thing)) (s : Subject) (e : Entry) : Type 0 where
+  pub contexts : List Context
+  pub redirect : Contains things (key_by (visit r) s required, Towards contexts)
+  pub second : StandsFresh r things (key_by (visit r) s contexts) e
+
+-- what is held in a bin, by an entry
+abbrev pub HeldBy : Reader → Shelves → Bin → Subject → Entry → Type 0
+HeldBy r shelves b s e = StandsFresh r (things_in shelves b) (key_by (visit r) s required) e ⊎ StandsBehind r (things_in shelves b) s e
+
+abbrev pub Held : Reader → Shelves → Bin → Subject → Type 0
+Held r shelves b s = (e : Entry) × HeldBy r shelves b s e
+
+-- ---- a look
+
+-- under the key stands the redirect, and nothing else
+pub record StandsAlone (things : List (Key × Thing)) (key : Key) (contexts : List Context) : Type 0 where
+  pub there : Contains things (key, Towards contexts)
+  pub only : (other : Thing) → Contains things (key, other) → other ≡ Towards contexts
+
+-- a look at one key
+pub record SeenOnce (r : Reader) (old : Shelves) (b : Bin) (key : Key) (seen : Seen) (new : HouseView) : Type 0 where
+  pub after : Shelves
+  pub is : IsTold new after
+  pub stays : StaysKept old after
+  pub here : IfSome seen.entry (λ e. StandsFresh r (things_in old b) key (arc_value e))
+  pub towards : IfSome seen.told (λ c. StandsAlone (things_in old b) key (arc_value c))
+  pub not_here : seen.entry ≡ None → (e : Entry) → StandsFresh r (things_in old b) key e → ⊥
+  pub not_towards : seen.told ≡ None → (c : List Context) → Contains (things_in old b) (key, Towards c) → ⊥
+
+-- a look at the first key, and at the second where a redirect gives it: it is held by what was seen, or isn't held
+pub record SeenIn (r : Reader) (old : Shelves) (b : Bin) (s : Subject) (seen : Seen) (new : HouseView) : Type 0 where
+  pub after : Shelves
+  pub is : IsTold new after
+  pub stays : StaysKept old after
+  pub held : IfSome seen.entry (λ e. HeldBy r old b s (arc_value e))
+  pub not_held : seen.entry ≡ None → Held r old b s → ⊥
+
+-- ---- a keep
+
+-- one key was written
+pub record Landed (old : Shelves) (b : Bin) (key : Key) (thing : Thing) (new : Shelves) : Type 0 where
+  pub there : Contains (things_in new b) (key, thing)
+  pub others : (c : Bin) (p : Key × Thing) → Contains (things_in old c) p → Contains (things_in new c) p ⊎ ((c ≡ b) × (p.0 ≡ key))
+
+-- one key was to be written: where nothing was lost it was
+pub record Puts (old : Shelves) (b : Bin) (key : Key) (thing : Thing) (new : HouseView) : Type 0 where
+  pub after : Shelves
+  pub is : IsTold new after
+  pub rises : Rises old after
+  pub landed : NothingLost old after → Landed old b key thing after
+
+-- an entry is held, and nothing under keys of anything else changed
+pub record IsHeldBy (r : Reader) (old : Shelves) (b : Bin) (s : Subject) (e : Entry) (new : Shelves) : Type 0 where
+  pub held : HeldBy r new b s e
+  pub others : (c : Bin) (p : Key × Thing) → Contains (things_in old c) p → Contains (things_in new c) p ⊎ ((c ≡ b) × (p.0.subject ≡ s))
+
+-- an entry was to be kept: where nothing was lost it is held
+pub record Offers (r : Reader) (old : Shelves) (b : Bin) (s : Subject) (e : Entry) (new : HouseView) : Type 0 where
+  pub after : Shelves
+  pub is : IsTold new after
+  pub rises : Rises old after
+  pub kept : NothingLost old after → IsHeldBy r old b s e after
+
+-- an entry is offered where it may be kept, and else nothing happens
+abbrev pub KeepsOr : Reader → Shelves → Bin → Subject → Entry → Shelves → Type 0
+KeepsOr r old b s e new =
+    (MayKeep b e.cacheability × (NothingLost old new → IsHeldBy r old b s e new)) ⊎ ((MayKeep b e.cacheability → ⊥) × StaysKept old new)
+
+pub record Closes (r : Reader) (old : Shelves) (b : Bin) (s : Subject) (e : Entry) (new : HouseView) : Type 0 where
+  pub after : Shelves
+  pub is : IsTold new after
+  pub rises : Rises old after
+  pub either : KeepsOr r old b s e after
+
+-- ---- all that was needed
+
+-- a built entry is closed with
+pub record ClosesTo (r : Reader) (old : Shelves) (b : Bin) (s : Subject) (e : Entry) (new : Shelves) : Type 0 where
+  pub rises : Rises old new
+  pub either : KeepsOr r old b s e new
+
+-- What became of what is kept meanwhile: what was found was held then; what was built wasn't, and was offered once what stands
+-- in its places was there.
+abbrev pub Goes : Reader → Shelves → Went → Shelves → Type 0
+Goes r old Done new = StaysKept old new
+Goes r old (Found b s e rest) new = HeldBy r old b s e × ((mid : Shelves) × StaysKept old mid × Goes r mid rest new)
+Goes r old (Built b s e inner rest) new =
+    (Held r old b s → ⊥) × ((looked : Shelves) × (filled : Shelves) × (kept : Shelves) × StaysKept old looked × Goes r looked inner filled
+    × ClosesTo r filled b s e kept × Goes r kept rest new)
+
+pub record GoesTo (r : Reader) (old : Shelves) (t : Went) (new : HouseView) : Type 0 where
+  pub after : Shelves
+  pub is : IsTold new after
+  pub goes : Goes r old t after
+
+-- What was needed is of such a shape; so many more were built, up to the greatest u64; and where the house tells what is kept,
+-- this became of it.
+pub record Tells (r : Reader) (Shape : Went → Type 0) (old new : HouseView) (built built' : ℕ) : Type 0 where
+  pub tree : Went
+  pub shape : Shape tree
+  pub counted : (count : ℕ) → built ≡ min count 18446744073709551615 → built' ≡ min (count + number_built tree) 18446744073709551615
+  pub goes : (s : Shelves) → IsTold old s → GoesTo r s tree new
+
+-- an element was built of what this needed, and offered
+pub record BuildsTo (r : Reader) (old : Shelves) (inner : Went) (b : Bin) (s : Subject) (e : Entry) (new : HouseView) : Type 0 where
+  pub filled : Shelves
+  pub goes : Goes r old inner filled
+  pub closes : Closes r filled b s e new
+
+pub record BuiltUp (r : Reader) (Inner : Went → Type 0) (b : Bin) (s : Subject) (e : Entry) (old new : HouseView) (built : ℕ) : Type 0 where
+  pub inner : Went
+  pub of_places : Inner inner
+  pub counted : built ≡ min (1 + number_built inner) 18446744073709551615
+  pub goes : (shelves : Shelves) → IsTold old shelves → BuildsTo r shelves inner b s e new

@@ -1,0 +1,6 @@
+pub mod Houses
+pub mod Went
+pub mod Needed
+pub mod Joins
+pub mod Held
+pub mod Used

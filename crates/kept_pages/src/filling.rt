@@ -1,0 +1,209 @@
+//! Elements whose places are filled in, with what is found, or else with what is built.
+ghost use Rattle.std.specs.Prelude.{◌≡◌, ◌∷◌, [], IfOk, IfSome, OnOk};
+ghost use Rattle.std.specs.Arc.{arc_value};
+ghost use Rattle.html_out.specs.Segment.{part_of, parts_of};
+ghost use Rattle.content_state.specs.Places.{open_places};
+ghost use Rattle.cache_entries.specs.declared.key.Subject.TheVariants as subject_is;
+ghost use Rattle.cache_entries.specs.declared.kept.Bin.TheVariants as bin_is;
+ghost use Rattle.cache_entries.specs.Entries.{IsHere};
+ghost use Rattle.page_meaning.specs.Meaning.{meaning};
+ghost use Rattle.render_canvas.specs.Board.{pieces_of};
+ghost use Rattle.render_array.specs.declared.element.Element.TheVariants as element_is;
+ghost use Rattle.render_array.specs.Whole.{whole, fragment_level};
+ghost use Rattle.element_entries.specs.Keys.{visit};
+ghost use Rattle.kept_pages.specs.Houses.{Steady, Reads};
+ghost use Rattle.kept_pages.specs.Joins.{IsWhole, Joins};
+ghost use Rattle.kept_pages.specs.Needed.{Visits, OfFragment, InFragment, NeededBelow, NeededFor};
+ghost use Rattle.kept_pages.specs.Held.{Shelves, IsTold, SeenIn, Closes, Tells, BuiltUp};
+
+use crate::joining::{Child, Filled, add_bytes, add_child, leave_open};
+use crate::keeping::keep_if;
+use crate::looking::{Seen, look};
+use crate::places::fragment_at;
+use cache_entries::{Bin, Subject};
+use cacheability::{Context, OrderedSet};
+use content_state::{Fragment, Hole};
+use element_entries::{Joined, Reader, entry_of};
+use html_out::{Segment, Segments};
+use render_array::{Element, build};
+use render_canvas::Built;
+use renderer::element_level;
+use site_house::House;
+use std::alloc::{AllocError, Global};
+use std::sync::Arc;
+
+/// What is kept of a fragment, where it may be shown.
+fn look_for<H: House>(
+    alloc: Global,
+    house: &mut H,
+    reader: &Reader<'_>,
+    fragment: &Fragment,
+) -> Result<Seen, AllocError>
+    requires { Reads (H.sees house.old) reader.now }
+    ensures steady { Steady (H.sees house.old) (H.sees house.new) }
+    ensures here { IfOk result (λ seen. IfSome seen.entry (λ e. IsHere meaning (subject_is.Fragment fragment.now) (visit reader.now) (arc_value e))) }
+    ensures told { IfOk result (λ seen. (shelves : Shelves) → IsTold (H.sees house.old) shelves → SeenIn reader.now shelves bin_is.Fragments (subject_is.Fragment fragment.now) seen (H.sees house.new)) }
+{
+    let subject = Subject::Fragment(*fragment);
+    look(alloc, house, reader, Bin::Fragments, &subject)
+}
+
+/// What stands in the place of a fragment that was put together, which is kept where it may be.
+fn keep_whole<H: House>(
+    alloc: Global,
+    house: &mut H,
+    reader: &Reader<'_>,
+    fragment: &Fragment,
+    filled: Filled,
+    told: Option<&OrderedSet<Context>>,
+) -> Result<Child, AllocError>
+    requires reads { Reads (H.sees house.old) reader.now }
+    requires whole { IsWhole (whole reader.now.ask.now.path (element_is.Fragment fragment.now)) (visit reader.now) filled.joined }
+    ensures steady { Steady (H.sees house.old) (H.sees house.new) }
+    ensures here { IfOk result (λ child. IsHere meaning (subject_is.Fragment fragment.now) (visit reader.now) (arc_value child.entry)) }
+    ensures built { IfOk result (λ child. child.built ≡ filled.built) }
+    ensures told { IfOk result (λ child. (shelves : Shelves) → IsTold (H.sees house.old) shelves → Closes reader.now shelves bin_is.Fragments (subject_is.Fragment fragment.now) (arc_value child.entry) (H.sees house.new)) }
+{
+    let Filled { joined, built } = filled;
+    let entry = Arc::new(alloc, entry_of(alloc, reader, joined)?)?;
+    let subject = Subject::Fragment(*fragment);
+    keep_if(alloc, house, reader, Bin::Fragments, &subject, &entry, told)?;
+    Ok(Child { entry, built })
+}
+
+/// The element that a fragment is.
+fn element_of(fragment: &Fragment) -> Element
+    ensures { result ≡ element_is.Fragment fragment.now }
+{
+    Element::Fragment(*fragment)
+}
+
+/// A fragment that stands in a place: found where it is kept and fresh, else built.
+#[cycle(filling)]
+fn some_fragment<H: House>(
+    alloc: Global,
+    house: &mut H,
+    reader: &Reader<'_>,
+    fragment: &Fragment,
+) -> Result<Child, AllocError>
+    requires { Reads (H.sees house.old) reader.now }
+    ensures steady { Steady (H.sees house.old) (H.sees house.new) }
+    ensures here { IfOk result (λ child. IsHere meaning (subject_is.Fragment fragment.now) (visit reader.now) (arc_value child.entry)) }
+    ensures told { IfOk result (λ child. Tells reader.now (OfFragment (NeededBelow (fragment_level fragment.now) (visit reader.now)) (visit reader.now) fragment.now) (H.sees house.old) (H.sees house.new) 0 child.built) }
+{
+    let Seen { entry, told } = look_for(alloc, house, reader, fragment)?;
+    match entry {
+        Some(entry) => Ok(Child { entry, built: 0 }),
+        None => built_fragment(alloc, house, reader, fragment, told.as_deref()),
+    }
+}
+
+/// A fragment that is built, and kept where it may be.
+#[cycle(filling)]
+fn built_fragment<H: House>(
+    alloc: Global,
+    house: &mut H,
+    reader: &Reader<'_>,
+    fragment: &Fragment,
+    told: Option<&OrderedSet<Context>>,
+) -> Result<Child, AllocError>
+    requires { Reads (H.sees house.old) reader.now }
+    ensures steady { Steady (H.sees house.old) (H.sees house.new) }
+    ensures here { IfOk result (λ child. IsHere meaning (subject_is.Fragment fragment.now) (visit reader.now) (arc_value child.entry)) }
+    ensures told { IfOk result (λ child. BuiltUp reader.now (InFragment (visit reader.now) fragment.now) bin_is.Fragments (subject_is.Fragment fragment.now) (arc_value child.entry) (H.sees house.old) (H.sees house.new) child.built) }
+{
+    let filled = fill(alloc, house, reader, element_of(fragment))?;
+    keep_whole(alloc, house, reader, fragment, filled, told)
+}
+
+/// An element that is built, its places filled in.
+#[cycle(filling)]
+pub fn fill<H: House>(
+    alloc: Global,
+    house: &mut H,
+    reader: &Reader<'_>,
+    element: Element,
+) -> Result<Filled, AllocError>
+    requires { Reads (H.sees house.old) reader.now }
+    ensures steady { Steady (H.sees house.old) (H.sees house.new) }
+    ensures whole { IfOk result (λ f. IsWhole (whole reader.now.ask.now.path element) (visit reader.now) f.joined) }
+    ensures told { IfOk result (λ f. Tells reader.now (NeededFor reader.now.ask.now.path (visit reader.now) element) (H.sees house.old) (H.sees house.new) 1 f.built) }
+{
+    let Built {
+        segments,
+        cacheability,
+        libraries,
+        last,
+        status,
+    } = build(
+        alloc,
+        reader.state,
+        reader.viewer,
+        reader.ask,
+        reader.moment,
+        &element,
+    )?;
+    let mut filled = Filled {
+        joined: Joined {
+            segments: Segments::new(alloc),
+            cacheability,
+            libraries: libraries.into_vec(),
+            last,
+            status,
+        },
+        built: 1,
+    };
+    let below = element_level(element);
+    add_parts(alloc, house, reader, below, segments.parts(), &mut filled)?;
+    Ok(filled)
+}
+
+/// The parts of an element of a level behind what is there, their places filled in.
+#[cycle(filling)]
+fn add_parts<H: House>(
+    alloc: Global,
+    house: &mut H,
+    reader: &Reader<'_>,
+    below: u8,
+    parts: &[Segment<Hole>],
+    filled: &mut Filled,
+) -> Result<(), AllocError>
+    requires { Reads (H.sees house.old) reader.now }
+    ensures steady { Steady (H.sees house.old) (H.sees house.new) }
+    ensures joins { OnOk result (Joins below (visit reader.now) (pieces_of (parts_of parts.now)) filled.old.joined filled.new.joined) }
+    ensures told { OnOk result (Tells reader.now (Visits (NeededBelow below (visit reader.now)) (open_places (pieces_of (parts_of parts.now)))) (H.sees house.old) (H.sees house.new) filled.old.built filled.new.built) }
+{
+    for part in parts {
+        add_part(alloc, house, reader, below, part, filled)?;
+    }
+    Ok(())
+}
+
+/// One part of an element of a level behind what is there, its place filled in.
+#[cycle(filling)]
+fn add_part<H: House>(
+    alloc: Global,
+    house: &mut H,
+    reader: &Reader<'_>,
+    below: u8,
+    part: &Segment<Hole>,
+    filled: &mut Filled,
+) -> Result<(), AllocError>
+    requires { Reads (H.sees house.old) reader.now }
+    ensures steady { Steady (H.sees house.old) (H.sees house.new) }
+    ensures joins { OnOk result (Joins below (visit reader.now) (pieces_of (part_of part.now ∷ [])) filled.old.joined filled.new.joined) }
+    ensures told { OnOk result (Tells reader.now (Visits (NeededBelow below (visit reader.now)) (open_places (pieces_of (part_of part.now ∷ [])))) (H.sees house.old) (H.sees house.new) filled.old.built filled.new.built) }
+{
+    match part {
+        Segment::Bytes(shared) => add_bytes(&mut filled.joined, shared),
+        Segment::Hole(hole) => match fragment_at(hole, below) {
+            None => leave_open(&mut filled.joined, hole),
+            Some(fragment) => {
+                let child = some_fragment(alloc, house, reader, &fragment)?;
+                add_child(alloc, &mut filled.joined, &child.entry)?;
+                filled.built = filled.built.saturating_add(child.built);
+                Ok(())
+            }
+        },
+    }
+}

@@ -1,0 +1,115 @@
+//! Keeping what was built.
+ghost use Rattle.std.specs.Prelude.{OnOk};
+ghost use Rattle.std.specs.Arc.{arc_value};
+ghost use Rattle.fragment_cache.specs.Bins.{Whole, Towards};
+ghost use Rattle.element_entries.specs.Keys.{visit, required, key_by};
+ghost use Rattle.kept_pages.specs.Houses.{Steady, Reads, IsMadeFor};
+ghost use Rattle.kept_pages.specs.Held.{Shelves, IsTold, Puts, Offers, Closes};
+
+use cache_entries::{Bin, Entry, Kept, Subject};
+use cacheability::{Context, OrderedSet};
+use element_entries::{Reader, key_of, may_keep, redirect_to, required_contexts};
+use site_house::House;
+use std::alloc::{AllocError, Global};
+use std::sync::Arc;
+
+/// Keeps an entry under its key with the values of these contexts, or lets it go where the house has no memory for it.
+fn keep_at<H: House>(
+    alloc: Global,
+    house: &mut H,
+    reader: &Reader<'_>,
+    bin: Bin,
+    subject: &Subject,
+    entry: &Arc<Entry>,
+    contexts: &[Context],
+) -> Result<(), AllocError>
+    requires reads { Reads (H.sees house.old) reader.now }
+    requires made { IsMadeFor reader.now subject.now (arc_value entry.now) }
+    ensures steady { Steady (H.sees house.old) (H.sees house.new) }
+    ensures told { OnOk result ((shelves : Shelves) → IsTold (H.sees house.old) shelves → Puts shelves bin (key_by (visit reader.now) subject.now contexts.now) (Whole (arc_value entry.now)) (H.sees house.new)) }
+{
+    let key = key_of(alloc, reader, subject, contexts)?;
+    let shared = Arc::try_clone(entry)?;
+    let _kept = house.keep(alloc, bin, key, Kept::Entry(shared));
+    Ok(())
+}
+
+/// Keeps a redirect under the first key, or lets it go where the house has no memory for it.
+fn keep_redirect<H: House>(
+    alloc: Global,
+    house: &mut H,
+    reader: &Reader<'_>,
+    bin: Bin,
+    subject: &Subject,
+    contexts: &Arc<OrderedSet<Context>>,
+) -> Result<(), AllocError>
+    ensures steady { Steady (H.sees house.old) (H.sees house.new) }
+    ensures told { OnOk result ((shelves : Shelves) → IsTold (H.sees house.old) shelves → Puts shelves bin (key_by (visit reader.now) subject.now required) (Towards (arc_value contexts.now)) (H.sees house.new)) }
+{
+    let first = key_of(alloc, reader, subject, &required_contexts())?;
+    let shared = Arc::try_clone(contexts)?;
+    let _kept = house.keep(alloc, bin, first, Kept::Redirect(shared));
+    Ok(())
+}
+
+/// Keeps an entry: under its first key, or, where it varies by more, under its second one, behind a redirect.
+fn keep<H: House>(
+    alloc: Global,
+    house: &mut H,
+    reader: &Reader<'_>,
+    bin: Bin,
+    subject: &Subject,
+    entry: &Arc<Entry>,
+    told: Option<&OrderedSet<Context>>,
+) -> Result<(), AllocError>
+    requires reads { Reads (H.sees house.old) reader.now }
+    requires made { IsMadeFor reader.now subject.now (arc_value entry.now) }
+    ensures steady { Steady (H.sees house.old) (H.sees house.new) }
+    ensures told { OnOk result ((shelves : Shelves) → IsTold (H.sees house.old) shelves → Offers reader.now shelves bin subject.now (arc_value entry.now) (H.sees house.new)) }
+{
+    match redirect_to(alloc, told, &entry.cacheability.contexts)? {
+        None => keep_at(
+            alloc,
+            house,
+            reader,
+            bin,
+            subject,
+            entry,
+            &required_contexts(),
+        ),
+        Some(contexts) => {
+            keep_redirect(alloc, house, reader, bin, subject, &contexts)?;
+            keep_at(
+                alloc,
+                house,
+                reader,
+                bin,
+                subject,
+                entry,
+                contexts.as_slice(),
+            )
+        }
+    }
+}
+
+/// Keeps an entry where it may be kept.
+pub fn keep_if<H: House>(
+    alloc: Global,
+    house: &mut H,
+    reader: &Reader<'_>,
+    bin: Bin,
+    subject: &Subject,
+    entry: &Arc<Entry>,
+    told: Option<&OrderedSet<Context>>,
+) -> Result<(), AllocError>
+    requires reads { Reads (H.sees house.old) reader.now }
+    requires made { IsMadeFor reader.now subject.now (arc_value entry.now) }
+    ensures steady { Steady (H.sees house.old) (H.sees house.new) }
+    ensures told { OnOk result ((shelves : Shelves) → IsTold (H.sees house.old) shelves → Closes reader.now shelves bin subject.now (arc_value entry.now) (H.sees house.new)) }
+{
+    if may_keep(bin, &entry.cacheability) {
+        keep(alloc, house, reader, bin, subject, entry, told)
+    } else {
+        Ok(())
+    }
+}

@@ -1,0 +1,11 @@
+//! Pages put together from what is kept: each part of a page is looked for, and where it isn't found it is built and kept.
+#![tactic(auto)]
+
+mod filling;
+mod joining;
+mod keeping;
+mod looking;
+mod page;
+mod places;
+
+pub use page::render_page;

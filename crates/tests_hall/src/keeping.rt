@@ -1,0 +1,82 @@
+//! What halls keep of pages, where each bin has room for one thing.
+
+use crate::site::{name, stored};
+use cache_entries::{Bin, Found, Kept, Key, Subject};
+use cacheability::OrderedSet;
+use content_rows::Items;
+use content_state::Fragment;
+use site_hall::{Alone, Hall, Rooms, Tally};
+use site_house::House;
+use site_keeper::MemoryKeeper;
+use std::alloc::{AllocError, Global};
+use std::num::NonZeroUsize;
+use std::sync::Arc;
+
+// The hall of a new site, where each bin has room for one thing.
+fn hall(alloc: Global) -> Result<Hall<MemoryKeeper>, AllocError> {
+    let Some(one) = NonZeroUsize::new(1) else {
+        return Err(AllocError);
+    };
+    let rooms = Rooms {
+        fragments: one,
+        dynamic: one,
+        anonymous: one,
+    };
+    let stored = stored(alloc, 0)?;
+    let copy = stored.duplicate(alloc)?;
+    let keeper = MemoryKeeper::new(alloc, copy, Vec::new(alloc));
+    Hall::with_rooms(alloc, keeper, stored, rooms).map_err(|_| AllocError)
+}
+
+// The key of the block of this name, whose values are none.
+fn key(alloc: Global, block: &[u8]) -> Result<Key, AllocError> {
+    Ok(Key {
+        subject: Subject::Fragment(Fragment::Block(name(block)?)),
+        values: Items::none(alloc),
+    })
+}
+
+// Keeps that a block stands under another key.
+fn keep<H: House>(alloc: Global, house: &mut H, bin: Bin, block: &[u8]) -> Result<(), AllocError> {
+    let contexts = Arc::new(alloc, OrderedSet::new(alloc))?;
+    house.keep(alloc, bin, key(alloc, block)?, Kept::Redirect(contexts))
+}
+
+// Whether it is found where a block stands.
+fn finds<H: House>(
+    alloc: Global,
+    house: &mut H,
+    bin: Bin,
+    block: &[u8],
+) -> Result<bool, AllocError> {
+    match house.look(alloc, bin, &key(alloc, block)?)? {
+        Found::Redirect(_) => Ok(true),
+        Found::Entry(_) | Found::Absent => Ok(false),
+    }
+}
+
+// Whether a hall finds what was kept last in a bin, and nothing in the others, and counts looks, finds and keeps.
+fn keeps_the_last(alloc: Global) -> Result<bool, AllocError> {
+    let mut alone = Alone::new(alloc, hall(alloc)?);
+    let before = finds(alloc, &mut alone, Bin::Fragments, b"a")?;
+    keep(alloc, &mut alone, Bin::Fragments, b"a")?;
+    let first = finds(alloc, &mut alone, Bin::Fragments, b"a")?;
+    let elsewhere = finds(alloc, &mut alone, Bin::Dynamic, b"a")?;
+    keep(alloc, &mut alone, Bin::Fragments, b"b")?;
+    let dropped = finds(alloc, &mut alone, Bin::Fragments, b"a")?;
+    let last = finds(alloc, &mut alone, Bin::Fragments, b"b")?;
+    let unkept = alone.unkept();
+    let tally = alone.into_hall().tally();
+    let counted = Tally {
+        looks: 5,
+        found: 2,
+        kept: 2,
+    };
+    Ok(!before && first && !elsewhere && !dropped && last && unkept == 0 && tally == counted)
+}
+
+#[test]
+fn the_last_is_found(rt: HostRuntime) {
+    let right = keeps_the_last(rt.alloc()).expect(&rt, "memory");
+    assert!(rt; right);
+}
