@@ -1,0 +1,9 @@
+pub mod Settled
+pub mod Visits
+pub mod Deciding
+pub mod SameNodes
+pub mod SameListings
+pub mod SameBlocks
+pub mod SamePages
+pub mod SameCells
+pub mod SameReads
