@@ -1,12 +1,14 @@
 -- What access decides is the same on alike visits.
+use Rattle.std.specs.Prelude.{Option, Some, None, if◌then◌else◌}
 use Rattle.std.proofs.Common.{◌≡◌, ◌∙◌, ℕ, List, refl, sym, ap}
 use Rattle.cacheability.specs.declared.op.Op.TheVariants as op
 use Rattle.cacheability.specs.declared.context.Context.TheVariants as context
 use Rattle.content_rows.specs.Permission.{has}
+use Rattle.content_rows.specs.declared.row.User.{User}
 use Rattle.content_state.specs.declared.route.Route.{Route}
 use Rattle.content_state.specs.declared.route.Route.TheVariants as route
 use Rattle.content_state.specs.Rows.{node_of}
-use Rattle.content_state.specs.Read.{answer, TermRow, UserRow}
+use Rattle.content_state.specs.Read.{answer, TermRow}
 use Rattle.content_state.specs.Context.{Visit, value}
 use Rattle.content_state.specs.Viewer.{access_content}
 use Rattle.content_state.specs.Plan.{Plan, Done, Write, Attach, Reading, Asking, Clock, Part, ◌>>=◌}
@@ -21,7 +23,7 @@ use Rattle.site_access.proofs.PlansDecide.{node_read, field_read}
 use Rattle.render_canvas.specs.Decision.{is_allowed}
 use Rattle.render_array.specs.Nodes.{may_view_node, may_view_field, may_view_term, may_view_user}
 use Rattle.page_secrets.proofs.Settled.{settled, settled_bind, Alike, alike_bind, alike_done, alike_if}
-use Rattle.page_secrets.proofs.Visits.{sees, AlikeVisits, alike_reading, alike_asking}
+use Rattle.page_secrets.proofs.Visits.{sees, AlikeVisits, alike_reading, alike_user, alike_asking}
 
 -- of a plan that shows nothing what it gives is left
 silent_left : {A : Type 0} (p : Plan A) (v : Visit) → IsSilent p v → settled v p ≡ Done (result_of p v)
@@ -85,14 +87,26 @@ same_term_access alike t =
     alike_bind _ _ (same_holds alike access_content) (λ content.
     alike_done (term_decision (is_published found) administers content))))
 
-pub same_user_access : {v v' : Visit} → AlikeVisits v v' → (u : ℕ) → Alike v v' (user_access u) (user_access u)
-unfolding user_access
-same_user_access alike u =
-    alike_bind _ _ (alike_reading alike (UserRow u) tt) (λ found.
+-- what is decided of a user that was found
+abbrev found_access : ℕ → Option User → Plan Access
+found_access u found = do
+  profiles ← holds access_user_profiles
+  administers ← holds administer_users
+  if permitted_profile (is_active found) profiles administers then Done Allowed else (do
+    own ← is_owner u
+    Done (own_decision (is_active found) own))
+
+same_found_access : {v v' : Visit} → AlikeVisits v v' → (u : ℕ) (found : Option User) → Alike v v' (found_access u found) (found_access u found)
+same_found_access alike u found =
     alike_bind _ _ (same_holds alike access_user_profiles) (λ profiles.
     alike_bind _ _ (same_holds alike administer_users) (λ administers.
     alike_if (permitted_profile (is_active found) profiles administers) (alike_done Allowed)
-    (alike_bind _ _ (same_owner alike u) (λ own. alike_done (own_decision (is_active found) own))))))
+    (alike_bind _ _ (same_owner alike u) (λ own. alike_done (own_decision (is_active found) own)))))
+
+pub same_user_access : {v v' : Visit} → AlikeVisits v v' → (u : ℕ) → Alike v v' (user_access u) (user_access u)
+unfolding user_access
+same_user_access alike u =
+    alike_user alike u (found_access u) (same_found_access alike u None) (λ user digest salt. same_found_access alike u (Some user))
 
 pub same_listing_access : {v v' : Visit} → AlikeVisits v v' → Alike v v' listing_access listing_access
 unfolding listing_access

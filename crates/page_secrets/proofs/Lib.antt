@@ -1,4 +1,5 @@
 pub mod Settled
+pub mod Likeness
 pub mod Visits
 pub mod Deciding
 pub mod SameNodes
@@ -6,4 +7,6 @@ pub mod SameListings
 pub mod SameBlocks
 pub mod SamePages
 pub mod SameCells
+pub mod Decided
 pub mod SameReads
+pub mod LikePages

@@ -11,9 +11,11 @@ use Rattle.content_rows.specs.declared.row.Link.{Link}
 use Rattle.content_rows.specs.declared.row.Listing.{Listing}
 use Rattle.content_rows.specs.declared.row.Menu.{Menu}
 use Rattle.content_rows.specs.declared.row.Region.{Region}
+use Rattle.content_rows.specs.declared.row.User.{User}
+use Rattle.content_state.specs.Plan.{Plan, write, escaped, ◌>>◌}
 use Rattle.content_state.specs.declared.route.Route.{Route}
 use Rattle.content_state.specs.declared.route.Route.TheVariants as route
-use Rattle.content_state.specs.Read.{BlockRow, MenuRow, ListingRow, UserRow, AllBlocks, PathRoute}
+use Rattle.content_state.specs.Read.{BlockRow, MenuRow, ListingRow, AllBlocks, PathRoute}
 use Rattle.content_state.specs.Context.{Visit}
 use Rattle.content_state.specs.Viewer.{access_content}
 use Rattle.site_lists.specs.declared.tree.MenuPlace.{MenuPlace}
@@ -21,11 +23,19 @@ use Rattle.site_lists.specs.MenuPlaces.{places_of}
 use Rattle.site_lists.specs.Visible.{for_viewer, at_front, names_front, on_path, visible}
 use Rattle.render_canvas.specs.Decision.{is_allowed}
 use Rattle.render_canvas.specs.Reads.{region_names}
+use Rattle.render_array.specs.Pieces.{hello_start, paragraph_end}
 use Rattle.render_array.specs.Menus.{may_follow_to, may_follow, may_follow_link, Shown, none_shown, with_place, with_shown, link_shown, link_at, lists_end, link_closed, depth_after, links_shown, menu_view, menu_or_nothing, menu_shown}
-use Rattle.render_array.specs.Blocks.{text_body, menu_there, menu_body, listing_there, listing_body, hello, greeting_body, csrf_of_session, csrf_body, clock_body, body_of_kind, block_label, block_view, block_or_nothing, block_shown, block_if_visible, block_place, region}
+use Rattle.render_array.specs.Blocks.{text_body, menu_there, menu_body, listing_there, listing_body, hello, name_of_user, greeting_body, csrf_of_session, csrf_body, clock_body, body_of_kind, block_label, block_view, block_or_nothing, block_shown, block_if_visible, block_place, region}
 use Rattle.page_secrets.proofs.Settled.{Alike, alike_bind, alike_done, alike_write, alike_escaped, alike_attach, alike_part, alike_clock, alike_if, alike_each, alike_folded}
-use Rattle.page_secrets.proofs.Visits.{AlikeVisits, alike_reading, alike_asking}
+use Rattle.page_secrets.proofs.Visits.{AlikeVisits, alike_reading, alike_user, alike_asking}
 use Rattle.page_secrets.proofs.Deciding.{same_holds, same_route_access}
+
+-- what greets a user that was found
+abbrev hello_found : Option User → Plan (Unit {0})
+hello_found found = do
+  write hello_start
+  escaped (name_of_user found)
+  write paragraph_end
 
 module _ (v v' : Visit) (alike : AlikeVisits v v') where
   -- ---- which links are shown
@@ -119,11 +129,12 @@ module _ (v v' : Visit) (alike : AlikeVisits v v') where
   same_listing_body None = alike_done tt
   same_listing_body (Some name) = alike_bind _ _ (alike_reading alike (ListingRow name) tt) (same_listing_there name)
 
+  same_hello_found : (found : Option User) → Alike v v' (hello_found found) (hello_found found)
+  same_hello_found found = alike_bind _ _ (alike_write _) (λ _. alike_bind _ _ (alike_escaped _) (λ _. alike_write _))
+
   same_hello : (uid : ℕ) → Alike v v' (hello uid) (hello uid)
   unfolding hello
-  same_hello uid =
-      alike_bind _ _ (alike_reading alike (UserRow uid) tt) (λ user. alike_bind _ _ (alike_write _) (λ _.
-      alike_bind _ _ (alike_escaped _) (λ _. alike_write _)))
+  same_hello uid = alike_user alike uid hello_found (same_hello_found None) (λ user digest salt. same_hello_found (Some user))
 
   same_greeting : Alike v v' greeting_body greeting_body
   unfolding greeting_body

@@ -24,7 +24,8 @@ use Rattle.content_state.specs.SiteRules.{InOrder, is_text, text_of}
 use Rattle.site_access.specs.Access.{access_to_node}
 use Rattle.site_lists.specs.Listed.{is_listed, rank_of}
 use Rattle.render_canvas.specs.Decision.{is_allowed}
-use Rattle.page_secrets.specs.Alike.{AreAlikeNodes, AreAlikeAt, with_fields}
+use Rattle.page_secrets.specs.Alike.{AreAlikeNodes, with_fields}
+use Rattle.page_secrets.proofs.Likeness.{LookAlikeAt}
 
 -- ---- rows in order
 
@@ -48,37 +49,39 @@ module _ (viewer : Viewer) (rows rows' : List (Cell × Row)) where
   -- entry by entry one cell, with rows that are alike
   abbrev pub AreAlikeLists : List (Cell × Row) → List (Cell × Row) → Type 0
   AreAlikeLists [] [] = Unit {0}
-  AreAlikeLists (e ∷ es) (d ∷ ds) = (e.0 ≡ d.0) × AreAlikeAt viewer rows rows' e.0 (Some e.1) (Some d.1) × AreAlikeLists es ds
+  AreAlikeLists (e ∷ es) (d ∷ ds) = (e.0 ≡ d.0) × LookAlikeAt viewer rows rows' e.0 (Some e.1) (Some d.1) × AreAlikeLists es ds
   AreAlikeLists _ _ = ⊥
 
-  at_rows : (c : Cell) {f f' g g' : Option Row} → f ≡ f' → g ≡ g' → AreAlikeAt viewer rows rows' c f g → AreAlikeAt viewer rows rows' c f' g'
+  at_rows : (c : Cell) {f f' g g' : Option Row} → f ≡ f' → g ≡ g' → LookAlikeAt viewer rows rows' c f g → LookAlikeAt viewer rows rows' c f' g'
   at_rows c {f' = f'} {g = g} first other alike =
-      subst (λ o. AreAlikeAt viewer rows rows' c f' o) other (subst (λ o. AreAlikeAt viewer rows rows' c o g) first alike)
+      subst (λ o. LookAlikeAt viewer rows rows' c f' o) other (subst (λ o. LookAlikeAt viewer rows rows' c o g) first alike)
 
-  one_alone : (c : Cell) (r : Row) → AreAlikeAt viewer rows rows' c (Some r) None → ⊥
-  one_alone c r (inl same) = cc
-  one_alone c r (inr nodes) = let is = nodes.found_too in cc
+  one_alone : (c : Cell) (r : Row) → LookAlikeAt viewer rows rows' c (Some r) None → ⊥
+  one_alone c r (inl (inl same)) = cc
+  one_alone c r (inl (inr nodes)) = let is = nodes.found_too in cc
+  one_alone c r (inr users) = let is = users.found_too in cc
 
-  other_alone : (c : Cell) (r : Row) → AreAlikeAt viewer rows rows' c None (Some r) → ⊥
-  other_alone c r (inl same) = cc
-  other_alone c r (inr nodes) = let is = nodes.found_is in cc
+  other_alone : (c : Cell) (r : Row) → LookAlikeAt viewer rows rows' c None (Some r) → ⊥
+  other_alone c r (inl (inl same)) = cc
+  other_alone c r (inl (inr nodes)) = let is = nodes.found_is in cc
+  other_alone c r (inr users) = let is = users.found_is in cc
 
   -- behind the first cell of both
   alike_behind : (x y : Cell × Row) (xs ys : List (Cell × Row)) → InOrder (x ∷ xs) → InOrder (y ∷ ys) → x.0 ≡ y.0
-      → (c : Cell) → AreAlikeAt viewer rows rows' c (row_at (x ∷ xs) c) (row_at (y ∷ ys) c) → AreAlikeAt viewer rows rows' c (row_at xs c) (row_at ys c)
-  alike_behind x y xs ys sorted sorted' is c alike = elim (is_eq (cell_cmp c x.0)) as (λ b. is_eq (cell_cmp c x.0) ≡ b → AreAlikeAt viewer rows rows' c (row_at xs c) (row_at ys c)) [
+      → (c : Cell) → LookAlikeAt viewer rows rows' c (row_at (x ∷ xs) c) (row_at (y ∷ ys) c) → LookAlikeAt viewer rows rows' c (row_at xs c) (row_at ys c)
+  alike_behind x y xs ys sorted sorted' is c alike = elim (is_eq (cell_cmp c x.0)) as (λ b. is_eq (cell_cmp c x.0) ≡ b → LookAlikeAt viewer rows rows' c (row_at xs c) (row_at ys c)) [
     | true ↦ λ e.
         let first : c ≡ x.0 = cell_cmp_exact c x.0 ((Equal-is (cell_cmp c x.0)).0 e) in
         let none : row_at xs c ≡ None = ap (row_at xs) first ∙ below_all x.0 xs (sorted_head cell_cmp x.0 (keys_of xs) sorted) in
         let none' : row_at ys c ≡ None = ap (row_at ys) (first ∙ is) ∙ below_all y.0 ys (sorted_head cell_cmp y.0 (keys_of ys) sorted') in
-        inl (none ∙ sym none')
+        inl (inl (none ∙ sym none'))
     | false ↦ λ e.
         let e' : is_eq (cell_cmp c y.0) ≡ false = ap (λ d. is_eq (cell_cmp c d)) (sym is) ∙ e in
         at_rows c (ap (λ b. cond b (Some x.1) (row_at xs c)) e) (ap (λ b. cond b (Some y.1) (row_at ys c)) e') alike
   ] refl
 
   pub alike_lists : (xs ys : List (Cell × Row)) → InOrder xs → InOrder ys
-      → ((c : Cell) → AreAlikeAt viewer rows rows' c (row_at xs c) (row_at ys c)) → AreAlikeLists xs ys
+      → ((c : Cell) → LookAlikeAt viewer rows rows' c (row_at xs c) (row_at ys c)) → AreAlikeLists xs ys
   alike_lists [] [] sorted sorted' alike = tt
   alike_lists [] (y ∷ ys) sorted sorted' alike = absurd (other_alone y.0 y.1 (at_rows y.0 refl (first_row y ys) (alike y.0)))
   alike_lists (x ∷ xs) [] sorted sorted' alike = absurd (one_alone x.0 x.1 (at_rows x.0 (first_row x xs) refl (alike x.0)))
@@ -101,10 +104,12 @@ module _ (viewer : Viewer) (rows rows' : List (Cell × Row)) where
 
   -- ---- blocks
 
-  same_block : (e d : Cell × Row) → e.0 ≡ d.0 → AreAlikeAt viewer rows rows' e.0 (Some e.1) (Some d.1) → block_entry e ≡ block_entry d
-  same_block e d is (inl same) = let r = same_some e.1 d.1 same in λ i. block_entry (is i, r i)
-  same_block e d is (inr nodes) =
+  same_block : (e d : Cell × Row) → e.0 ≡ d.0 → LookAlikeAt viewer rows rows' e.0 (Some e.1) (Some d.1) → block_entry e ≡ block_entry d
+  same_block e d is (inl (inl same)) = let r = same_some e.1 d.1 same in λ i. block_entry (is i, r i)
+  same_block e d is (inl (inr nodes)) =
       ap (λ c. block_entry (c, e.1)) nodes.cell_is ∙ sym (ap (λ c. block_entry (c, d.1)) (sym is ∙ nodes.cell_is))
+  same_block e d is (inr users) =
+      ap (λ c. block_entry (c, e.1)) users.cell_is ∙ sym (ap (λ c. block_entry (c, d.1)) (sym is ∙ users.cell_is))
 
   pub same_blocks : (xs ys : List (Cell × Row)) → AreAlikeLists xs ys → blocks_of xs ≡ blocks_of ys
   same_blocks [] [] alike = refl
@@ -121,9 +126,12 @@ module _ (viewer : Viewer) (rows rows' : List (Cell × Row)) where
   same_node_path n a b (inl hidden) = hidden.path
   same_node_path n a b (inr differs) = sym (ap (λ (o : Node). o.path) differs.others)
 
-  same_path : (c : Cell) (r r' : Row) → AreAlikeAt viewer rows rows' c (Some r) (Some r') → text_of unique.Path r ≡ text_of unique.Path r'
-  same_path c r r' (inl same) = ap (text_of unique.Path) (same_some r r' same)
-  same_path c r r' (inr nodes) =
+  same_path : (c : Cell) (r r' : Row) → LookAlikeAt viewer rows rows' c (Some r) (Some r') → text_of unique.Path r ≡ text_of unique.Path r'
+  same_path c r r' (inl (inl same)) = ap (text_of unique.Path) (same_some r r' same)
+  same_path c r r' (inr users) =
+      ap (text_of unique.Path) (same_some r (row.User users.user) users.found_is)
+      ∙ sym (ap (text_of unique.Path) (same_some r' (row.User users.user') users.found_too))
+  same_path c r r' (inl (inr nodes)) =
       ap (text_of unique.Path) (same_some r (row.Node nodes.node) nodes.found_is)
       ∙ same_node_path nodes.n nodes.node nodes.node' nodes.alike
       ∙ sym (ap (text_of unique.Path) (same_some r' (row.Node nodes.node') nodes.found_too))
@@ -180,13 +188,17 @@ module _ (viewer : Viewer) (rows rows' : List (Cell × Row)) where
           subst (λ o. map rank_of (filter keeps ((n, a) ∷ xs)) ≡ map rank_of (filter keeps' ((n, o) ∷ ys))) (sym differs.others)
           (both_kept (n, a) (n, with_fields a b.fields) refl (ap (λ s. is_listed listing moment a && s) (same_sees n)))
 
-      entry_kept : (e d : Cell × Row) → e.0 ≡ d.0 → AreAlikeAt viewer rows rows' e.0 (Some e.1) (Some d.1)
+      entry_kept : (e d : Cell × Row) → e.0 ≡ d.0 → LookAlikeAt viewer rows rows' e.0 (Some e.1) (Some d.1)
           → map rank_of (filter keeps (cons_option (node_entry e) xs)) ≡ map rank_of (filter keeps' (cons_option (node_entry d) ys))
-      entry_kept e d is (inl same) =
+      entry_kept e d is (inl (inl same)) =
           let r = same_some e.1 d.1 same in
           let one : node_entry e ≡ node_entry d = λ i. node_entry (is i, r i) in
           one_kept (node_entry e) ∙ ap (λ o. map rank_of (filter keeps' (cons_option o ys))) one
-      entry_kept e d is (inr nodes) =
+      entry_kept e d is (inr users) =
+          ap (λ c. map rank_of (filter keeps (cons_option (node_entry (c, e.1)) xs))) users.cell_is
+          ∙ rest
+          ∙ sym (ap (λ c. map rank_of (filter keeps' (cons_option (node_entry (c, d.1)) ys))) (sym is ∙ users.cell_is))
+      entry_kept e d is (inl (inr nodes)) =
           let r = same_some e.1 (row.Node nodes.node) nodes.found_is in
           let r' = same_some d.1 (row.Node nodes.node') nodes.found_too in
           let c = nodes.cell_is in

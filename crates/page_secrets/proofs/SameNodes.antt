@@ -13,7 +13,7 @@ use Rattle.content_state.specs.declared.element.Mode.TheVariants as mode
 use Rattle.content_state.specs.declared.element.Depth.{Depth}
 use Rattle.content_state.specs.declared.element.Depth.TheVariants as depth
 use Rattle.content_state.specs.Rows.{node_of}
-use Rattle.content_state.specs.Read.{TypeRow, TermRow, UserRow}
+use Rattle.content_state.specs.Read.{TypeRow, TermRow}
 use Rattle.content_state.specs.Context.{Visit}
 use Rattle.content_state.specs.Plan.{Plan, Done, reading, ◌>>=◌}
 use Rattle.site_access.specs.Access.{access_to_found_field, owner_in, field_of, type_in}
@@ -21,7 +21,7 @@ use Rattle.render_canvas.specs.Decision.{is_allowed}
 use Rattle.render_array.specs.Nodes.{may_view_node, may_view_field, linked_author, author_found, author, submitted, is_submitted, submitted_if, field_value, field_shown, field_with, field, teaser_field, fields, teaser_fields, with_term, with_viewable_term, term_named, term_item, terms_shown, terms, embedded, refs, refs_below, node_full, href, linked_title, node_teaser, node_embed, node_in_mode, node_or_nothing, node_shown}
 use Rattle.page_secrets.specs.Alike.{IsHiddenField, with_fields}
 use Rattle.page_secrets.proofs.Settled.{settled, settled_bind, Alike, alike_bind, alike_after, alike_done, alike_write, alike_escaped, alike_attach, alike_part, alike_if, alike_each, alike_folded}
-use Rattle.page_secrets.proofs.Visits.{sees, AreAlikeFound, AlikeVisits, alike_reading}
+use Rattle.page_secrets.proofs.Visits.{sees, AreAlikeFound, AlikeVisits, alike_reading, alike_user}
 use Rattle.page_secrets.proofs.Deciding.{view_left, same_view, field_answer, field_left, same_term_view, same_user_view}
 
 -- ---- who submitted it, and when
@@ -41,7 +41,7 @@ module _ (v v' : Visit) (alike : AlikeVisits v v') where
   same_author : (uid : ℕ) → Alike v v' (author uid) (author uid)
   unfolding author
   same_author uid =
-      alike_if (uid == 0) (alike_write _) (alike_bind _ _ (alike_reading alike (UserRow uid) tt) (same_author_found uid))
+      alike_if (uid == 0) (alike_write _) (alike_user alike uid (author_found uid) (same_author_found uid None) (λ user digest salt. same_author_found uid (Some user)))
 
   -- ---- terms
 

@@ -15,7 +15,7 @@ use Rattle.content_state.specs.declared.element.Fragment.TheVariants as fragment
 use Rattle.content_state.specs.declared.element.Hole.{Hole}
 use Rattle.content_state.specs.declared.element.Hole.TheVariants as hole
 use Rattle.content_state.specs.Rows.{node_of}
-use Rattle.content_state.specs.Read.{SiteRow, TermRow, UserRow, ListingRow, PathRoute}
+use Rattle.content_state.specs.Read.{SiteRow, TermRow, ListingRow, PathRoute}
 use Rattle.content_state.specs.Context.{Visit}
 use Rattle.content_state.specs.Viewer.{access_content}
 use Rattle.content_state.specs.Plan.{Plan, Done, reading, ◌>>◌}
@@ -29,7 +29,7 @@ use Rattle.render_array.specs.Built.{fragment_shown, plan_of}
 use Rattle.render_array.specs.Whole.{plan_at, level, shown_below, whole}
 use Rattle.page_secrets.specs.Alike.{with_fields}
 use Rattle.page_secrets.proofs.Settled.{settled, settled_filling, Alike, alike_bind, alike_after, alike_done, alike_write, alike_escaped, alike_attach, alike_part, alike_if, alike_filled}
-use Rattle.page_secrets.proofs.Visits.{AreAlikeFound, AlikeVisits, alike_reading}
+use Rattle.page_secrets.proofs.Visits.{AreAlikeFound, AlikeVisits, alike_reading, alike_user}
 use Rattle.page_secrets.proofs.Deciding.{node_left, same_node_access, same_holds, same_term_access, same_user_access, same_listing_access}
 use Rattle.page_secrets.proofs.SameNodes.{same_node_shown}
 use Rattle.page_secrets.proofs.SameListings.{same_listing_shown, same_term_listing}
@@ -138,7 +138,7 @@ module _ (v v' : Visit) (alike : AlikeVisits v v') where
 
   same_user_page : (u : ℕ) → Alike v v' (user_page u) (user_page u)
   unfolding user_page
-  same_user_page u = alike_bind _ _ (alike_reading alike (UserRow u) tt) (same_user_found u)
+  same_user_page u = alike_user alike u (user_found u) same_not_found (λ user digest salt. same_user_found u (Some user))
 
   same_listing_answer : (name : List ℕ) (listing : Listing) (access : Access) → Alike v v' (listing_answer name listing access) (listing_answer name listing access)
   same_listing_answer name listing Allowed = same_framed 200 listing.title _ _ (alike_part _)

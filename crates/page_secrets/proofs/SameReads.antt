@@ -1,25 +1,21 @@
 -- On rows that are alike for a viewer, visits of that viewer are alike.
-use Rattle.std.proofs.Common.{◌≡◌, ◌∙◌, ℕ, List, [], ◌∷◌, true, false, refl, sym, ap, subst, map, inl, inr}
+use Rattle.std.proofs.Common.{◌≡◌, ◌∙◌, ℕ, List, refl, sym, ap, subst, map, inl, inr}
 use Rattle.std.proofs.Math.Path.{fun_ext}
-use Rattle.std.specs.Prelude.{Bool, ◌&&◌, ◌||◌, not, is_some, Option, Some, None, option_and_then, option_map, if◌then◌else◌}
-use Rattle.std.specs.List.{filter_map, find, list_any}
+use Rattle.std.specs.Prelude.{Bool, ◌||◌, is_some, Option, Some, None, option_and_then, option_map, if◌then◌else◌}
+use Rattle.std.specs.List.{filter_map, find}
 use Rattle.std.specs.Str.{bytes_eq}
 use Rattle.cacheability.specs.declared.op.Op.TheVariants as op
 use Rattle.cacheability.specs.declared.context.Context.{Context}
 use Rattle.cacheability.specs.declared.context.Context.TheVariants as context
-use Rattle.access_result.specs.declared.reason.Reason.TheVariants as reason
-use Rattle.content_rows.specs.Permission.{role_names, permissions_of, has, records_of, granted, grants_of}
+use Rattle.content_rows.specs.Permission.{role_names, permissions_of, has, grants_of}
 use Rattle.content_rows.specs.declared.cell.Cell.{Cell}
 use Rattle.content_rows.specs.declared.cell.Cell.TheVariants as cell
 use Rattle.content_rows.specs.declared.row.Row.{Row}
-use Rattle.content_rows.specs.declared.row.Role.{Role}
 use Rattle.content_rows.specs.declared.row.User.{User}
 use Rattle.content_rows.specs.declared.row.Node.{Node}
 use Rattle.content_rows.specs.declared.row.Menu.{Menu}
 use Rattle.content_rows.specs.declared.row.Session.{Session}
-use Rattle.content_rows.specs.declared.row.FieldRow.{FieldRow}
 use Rattle.content_rows.specs.declared.row.Listing.{Listing}
-use Rattle.content_rows.specs.declared.permission.Permissions.{Permissions}
 use Rattle.content_rows.specs.declared.permission.ViewGrants.TheVariants as view_grants
 use Rattle.content_state.specs.declared.ask.Ask.{Ask}
 use Rattle.content_state.specs.declared.ask.Viewer.{Viewer}
@@ -29,117 +25,92 @@ use Rattle.content_state.specs.Route.{id_after, node_front, term_front, user_fro
 use Rattle.content_state.specs.Read.{Read, SiteRow, TypeRow, RoleRow, UserRow, TermRow, NodeRow, MenuRow, ListingRow, BlockRow, AllNodes, NodesOfType, AllBlocks, PathRoute, answer}
 use Rattle.content_state.specs.Context.{Visit, trail_in, value, upward, preorder}
 use Rattle.content_state.specs.SiteRules.{InOrder}
-use Rattle.content_state.specs.Viewer.{viewer_by, viewer_with, viewer_of, roles_of, present_roles, viewer_permissions, view_grants_of, may, bypass_node_access, access_content, view_own_unpublished, administer_nodes}
-use Rattle.site_access.specs.Access.{Access, Allowed, Denied, owns, votes_in, access_by, access_to_node, holds_named, access_to_found_field, missing, field_of, field_of_type}
+use Rattle.content_state.specs.Viewer.{viewer_by, viewer_with, viewer_of, roles_of, present_roles, viewer_permissions, view_grants_of, bypass_node_access}
+use Rattle.site_access.specs.Access.{Access, access_by, access_to_node, access_to_found_field, field_of, field_of_type}
 use Rattle.site_lists.specs.Listed.{in_order, rank_cmp}
 use Rattle.render_canvas.specs.Decision.{is_allowed}
-use Rattle.page_secrets.specs.Alike.{AreAlikeNodes, AreAlikeAt}
-use Rattle.page_secrets.proofs.Visits.{IsOfNoNode, AreAlikeFound, sees, listed, AlikeVisits}
+use Rattle.page_secrets.specs.Alike.{AreAlikeNodes}
+use Rattle.page_secrets.specs.Passwords.{with_password}
+use Rattle.page_secrets.proofs.Likeness.{LookAlikeAt}
+use Rattle.page_secrets.proofs.Decided.{decided, votes_by, as_votes, both_denied, field_by, as_field}
+use Rattle.page_secrets.proofs.Visits.{IsOfNeither, AreAlikeFound, AreOneUser, sees, listed, AlikeVisits}
 use Rattle.page_secrets.proofs.SameCells.{AreAlikeLists, alike_lists, same_blocks, same_cell_with, same_ranks}
 
--- ---- access, by what a viewer is permitted and granted
+module _ (viewer : Viewer) (rows rows' : List (Cell × Row)) (alike : (c : Cell) → LookAlikeAt viewer rows rows' c (row_at rows c) (row_at rows' c)) where
+  -- ---- rows that are no nodes and no users
 
--- what permissions and votes decide of viewing a node
-abbrev decided : ℕ → Permissions → List Bool → Access
-decided n held votes =
-    if has held bypass_node_access then Allowed
-    else (if not (has held access_content) then Denied (reason.Permission access_content)
-    else (if list_any (λ vote. vote) votes then Allowed else Denied (reason.Grant op.View n)))
+  by_cell : (c : Cell) (f g : Option Row) → ((n : ℕ) → c ≡ cell.Node n → ⊥) → ((u : ℕ) → c ≡ cell.User u → ⊥) → LookAlikeAt viewer rows rows' c f g → f ≡ g
+  by_cell c f g no_node no_user (inl (inl same)) = same
+  by_cell c f g no_node no_user (inl (inr nodes)) = absurd (no_node nodes.n nodes.cell_is)
+  by_cell c f g no_node no_user (inr users) = absurd (no_user users.u users.cell_is)
 
-abbrev votes_by : Viewer → Permissions → Option User → List Role → Option Node → List Bool
-votes_by viewer held user roles None = []
-votes_by viewer held user roles (Some node) =
-    (not node.status && owns viewer.uid node.uid && has held view_own_unpublished)
-    ∷ granted op.View (records_of node) (grants_of user roles)
-    ∷ []
-
--- the plain definitions say the same
-as_votes : (rows : List (Cell × Row)) (viewer : Viewer) (found : Option Node)
-    → votes_in rows viewer op.View found ≡ votes_by viewer (viewer_permissions rows viewer) (user_of rows viewer.uid) (present_roles rows viewer) found
-as_votes rows viewer None = refl
-as_votes rows viewer (Some node) = refl
-
--- where both deny, they deny for one reason
-denied_by : (n : ℕ) (bypass content vote vote' : Bool)
-    → is_allowed (if bypass then Allowed else (if not content then Denied (reason.Permission access_content) else (if vote then Allowed else Denied (reason.Grant op.View n)))) ≡ false
-    → is_allowed (if bypass then Allowed else (if not content then Denied (reason.Permission access_content) else (if vote' then Allowed else Denied (reason.Grant op.View n)))) ≡ false
-    → (if bypass then Allowed else (if not content then Denied (reason.Permission access_content) else (if vote then Allowed else Denied (reason.Grant op.View n))))
-    ≡ (if bypass then Allowed else (if not content then Denied (reason.Permission access_content) else (if vote' then Allowed else Denied (reason.Grant op.View n))))
-denied_by n true content vote vote' denied denied' = refl
-denied_by n false false vote vote' denied denied' = refl
-denied_by n false true false false denied denied' = refl
-denied_by n false true true vote' denied denied' = cc
-denied_by n false true false true denied denied' = cc
-
-both_denied : (n : ℕ) (held : Permissions) (votes votes' : List Bool)
-    → is_allowed (decided n held votes) ≡ false → is_allowed (decided n held votes') ≡ false → decided n held votes ≡ decided n held votes'
-both_denied n held votes votes' =
-    denied_by n (has held bypass_node_access) (has held access_content) (list_any (λ vote. vote) votes) (list_any (λ vote. vote) votes')
-
--- what permissions decide of viewing a field
-abbrev holds_with : Permissions → Option (List ℕ) → Bool
-holds_with held None = true
-holds_with held (Some permission) = has held permission
-
-abbrev field_by : Viewer → Permissions → ℕ → List ℕ → Option FieldRow → Access
-field_by viewer held uid name None = Denied (reason.OwnerOnly name)
-field_by viewer held uid name (Some field) =
-    if not (holds_with held field.view) then Denied (missing field.view)
-    else (if not field.owner || owns viewer.uid uid || has held administer_nodes then Allowed else Denied (reason.OwnerOnly field.name))
-
-as_holds : (rows : List (Cell × Row)) (viewer : Viewer) (permission : Option (List ℕ)) → holds_named rows viewer permission ≡ holds_with (viewer_permissions rows viewer) permission
-as_holds rows viewer None = refl
-as_holds rows viewer (Some permission) = refl
-
-as_field : (rows : List (Cell × Row)) (viewer : Viewer) (uid : ℕ) (name : List ℕ) (found : Option FieldRow)
-    → access_to_found_field rows viewer op.View uid name found ≡ field_by viewer (viewer_permissions rows viewer) uid name found
-as_field rows viewer uid name None = refl
-as_field rows viewer uid name (Some field) =
-    ap (λ b. if not b then Denied (missing field.view) else (if not field.owner || owns viewer.uid uid || may rows viewer administer_nodes then Allowed else Denied (reason.OwnerOnly field.name)))
-    (as_holds rows viewer field.view)
-
-module _ (viewer : Viewer) (rows rows' : List (Cell × Row)) (alike : (c : Cell) → AreAlikeAt viewer rows rows' c (row_at rows c) (row_at rows' c)) where
-  -- ---- rows that are no nodes
-
-  by_cell : (c : Cell) (f g : Option Row) → ((n : ℕ) → c ≡ cell.Node n → ⊥) → AreAlikeAt viewer rows rows' c f g → f ≡ g
-  by_cell c f g none (inl same) = same
-  by_cell c f g none (inr nodes) = absurd (none nodes.n nodes.cell_is)
-
-  same_row : (c : Cell) → ((n : ℕ) → c ≡ cell.Node n → ⊥) → row_at rows c ≡ row_at rows' c
-  same_row c none = by_cell c (row_at rows c) (row_at rows' c) none (alike c)
+  same_row : (c : Cell) → ((n : ℕ) → c ≡ cell.Node n → ⊥) → ((u : ℕ) → c ≡ cell.User u → ⊥) → row_at rows c ≡ row_at rows' c
+  same_row c no_node no_user = by_cell c (row_at rows c) (row_at rows' c) no_node no_user (alike c)
 
   same_site : site_of rows ≡ site_of rows'
-  same_site = ap (option_and_then as_site) (same_row cell.Site (λ n e. cc))
+  same_site = ap (option_and_then as_site) (same_row cell.Site (λ n e. cc) (λ u e. cc))
 
   same_type : (name : List ℕ) → type_of rows name ≡ type_of rows' name
-  same_type name = ap (option_and_then as_type) (same_row (cell.NodeType name) (λ n e. cc))
+  same_type name = ap (option_and_then as_type) (same_row (cell.NodeType name) (λ n e. cc) (λ u e. cc))
 
   same_role : (name : List ℕ) → role_of rows name ≡ role_of rows' name
-  same_role name = ap (option_and_then as_role) (same_row (cell.Role name) (λ n e. cc))
-
-  same_user : (u : ℕ) → user_of rows u ≡ user_of rows' u
-  same_user u = ap (option_and_then as_user) (same_row (cell.User u) (λ n e. cc))
+  same_role name = ap (option_and_then as_role) (same_row (cell.Role name) (λ n e. cc) (λ u e. cc))
 
   same_term : (t : ℕ) → term_of rows t ≡ term_of rows' t
-  same_term t = ap (option_and_then as_term) (same_row (cell.Term t) (λ n e. cc))
+  same_term t = ap (option_and_then as_term) (same_row (cell.Term t) (λ n e. cc) (λ u e. cc))
 
   same_menu : (name : List ℕ) → menu_of rows name ≡ menu_of rows' name
-  same_menu name = ap (option_and_then as_menu) (same_row (cell.Menu name) (λ n e. cc))
+  same_menu name = ap (option_and_then as_menu) (same_row (cell.Menu name) (λ n e. cc) (λ u e. cc))
 
   same_listing : (name : List ℕ) → listing_of rows name ≡ listing_of rows' name
-  same_listing name = ap (option_and_then as_listing) (same_row (cell.Listing name) (λ n e. cc))
+  same_listing name = ap (option_and_then as_listing) (same_row (cell.Listing name) (λ n e. cc) (λ u e. cc))
 
   same_block_row : (name : List ℕ) → block_of rows name ≡ block_of rows' name
-  same_block_row name = ap (option_and_then as_block) (same_row (cell.Block name) (λ n e. cc))
+  same_block_row name = ap (option_and_then as_block) (same_row (cell.Block name) (λ n e. cc) (λ u e. cc))
 
   same_session : (name : List ℕ) → session_of rows name ≡ session_of rows' name
-  same_session name = ap (option_and_then as_session) (same_row (cell.Session name) (λ n e. cc))
+  same_session name = ap (option_and_then as_session) (same_row (cell.Session name) (λ n e. cc) (λ u e. cc))
+
+  -- ---- users
+
+  same_itself : (found : Option User) → AreOneUser found found
+  same_itself None = tt
+  same_itself (Some user) = refl
+
+  users_by : (u : ℕ) (f g : Option Row) → LookAlikeAt viewer rows rows' (cell.User u) f g → AreOneUser (option_and_then as_user f) (option_and_then as_user g)
+  users_by u f g (inl (inl same)) =
+      subst (λ o. AreOneUser (option_and_then as_user f) (option_and_then as_user o)) same (same_itself (option_and_then as_user f))
+  users_by u f g (inl (inr nodes)) = absurd (no_node nodes.n nodes.cell_is)
+    where
+      no_node : (n : ℕ) → cell.User u ≡ cell.Node n → ⊥
+      no_node n e = cc
+  users_by u f g (inr users) =
+      subst (λ o. AreOneUser (option_and_then as_user o) (option_and_then as_user g)) (sym users.found_is)
+      (subst (λ o. AreOneUser (Some users.user) (option_and_then as_user o)) (sym users.found_too) users.others)
+
+  one_user : (u : ℕ) → AreOneUser (user_of rows u) (user_of rows' u)
+  one_user u = users_by u (row_at rows (cell.User u)) (row_at rows' (cell.User u)) (alike (cell.User u))
+
+  -- what doesn't hang on the password is the same
+  told_by : {X : Type 0} (g : Option User → X) (found found' : Option User) → AreOneUser found found'
+      → ((user : User) (digest : Option (List ℕ)) (salt : List ℕ) → g (Some user) ≡ g (Some (with_password user digest salt)))
+      → g found ≡ g found'
+  told_by g None None one same = refl
+  told_by g (Some user) (Some user') one same = same user user'.digest user'.salt ∙ ap (λ o. g (Some o)) (sym one)
+  told_by g None (Some user') one same = absurd one
+  told_by g (Some user) None one same = absurd one
+
+  of_user : {X : Type 0} (g : Option User → X) (u : ℕ)
+      → ((user : User) (digest : Option (List ℕ)) (salt : List ℕ) → g (Some user) ≡ g (Some (with_password user digest salt)))
+      → g (user_of rows u) ≡ g (user_of rows' u)
+  of_user g u same = told_by g (user_of rows u) (user_of rows' u) (one_user u) same
 
   -- ---- who views
 
   viewer_from : (token : List ℕ) (moment : ℕ) (session : Option Session) → viewer_with rows token session moment ≡ viewer_with rows' token session moment
   viewer_from token moment None = refl
-  viewer_from token moment (Some session) = ap (λ u. viewer_by token session u moment) (same_user session.uid)
+  viewer_from token moment (Some session) =
+      of_user (λ o. viewer_by token session o moment) session.uid (λ user digest salt. refl)
 
   pub same_viewer : (cookie : Option (List ℕ)) (moment : ℕ) → viewer_of rows cookie moment ≡ viewer_of rows' cookie moment
   same_viewer None moment = refl
@@ -147,7 +118,7 @@ module _ (viewer : Viewer) (rows rows' : List (Cell × Row)) (alike : (c : Cell)
       viewer_from token moment (session_of rows token) ∙ ap (λ s. viewer_with rows' token s moment) (same_session token)
 
   same_roles : roles_of rows viewer ≡ roles_of rows' viewer
-  same_roles = ap (role_names viewer.uid) (same_user viewer.uid)
+  same_roles = of_user (role_names viewer.uid) viewer.uid (λ user digest salt. refl)
 
   same_present : present_roles rows viewer ≡ present_roles rows' viewer
   same_present =
@@ -158,12 +129,16 @@ module _ (viewer : Viewer) (rows rows' : List (Cell × Row)) (alike : (c : Cell)
   same_permissions : viewer_permissions rows viewer ≡ viewer_permissions rows' viewer
   same_permissions = ap (permissions_of viewer.uid) same_present
 
+  granted_same : grants_of (user_of rows viewer.uid) (present_roles rows viewer) ≡ grants_of (user_of rows' viewer.uid) (present_roles rows' viewer)
+  granted_same =
+      of_user (λ o. grants_of o (present_roles rows viewer)) viewer.uid (λ user digest salt. refl)
+      ∙ ap (grants_of (user_of rows' viewer.uid)) same_present
+
   same_grants : view_grants_of rows viewer ≡ view_grants_of rows' viewer
   same_grants =
       let held = same_permissions in
-      let user = same_user viewer.uid in
-      let roles = same_present in
-      λ i. if has (held i) bypass_node_access then view_grants.All else view_grants.These (grants_of (user i) (roles i))
+      let grants = granted_same in
+      λ i. if has (held i) bypass_node_access then view_grants.All else view_grants.These (grants i)
 
   -- ---- paths
 
@@ -187,11 +162,15 @@ module _ (viewer : Viewer) (rows rows' : List (Cell × Row)) (alike : (c : Cell)
   same_number : (n m : ℕ) → cell.Node n ≡ cell.Node m → n ≡ m
   same_number n m e = cc
 
-  found_by : (n : ℕ) (f g : Option Row) → AreAlikeAt viewer rows rows' (cell.Node n) f g
+  found_by : (n : ℕ) (f g : Option Row) → LookAlikeAt viewer rows rows' (cell.Node n) f g
       → AreAlikeFound viewer rows rows' n (option_and_then as_node f) (option_and_then as_node g)
-  found_by n f g (inl same) =
+  found_by n f g (inl (inl same)) =
       subst (λ o. AreAlikeFound viewer rows rows' n (option_and_then as_node f) (option_and_then as_node o)) same (itself n (option_and_then as_node f))
-  found_by n f g (inr nodes) =
+  found_by n f g (inr users) = absurd (no_user users.u users.cell_is)
+    where
+      no_user : (u : ℕ) → cell.Node n ≡ cell.User u → ⊥
+      no_user u e = cc
+  found_by n f g (inl (inr nodes)) =
       subst (λ o. AreAlikeFound viewer rows rows' n (option_and_then as_node o) (option_and_then as_node g)) (sym nodes.found_is)
       (subst (λ o. AreAlikeFound viewer rows rows' n (Some nodes.node) (option_and_then as_node o)) (sym nodes.found_too)
       (subst (λ m. AreAlikeNodes viewer rows rows' m nodes.node nodes.node') (sym (same_number n nodes.n nodes.cell_is)) nodes.alike))
@@ -209,7 +188,7 @@ module _ (viewer : Viewer) (rows rows' : List (Cell × Row)) (alike : (c : Cell)
 
   -- what the viewer's votes for a node decide, which both rows give it alike
   abbrev votes_of : Option Node → List Bool
-  votes_of found = votes_by viewer (viewer_permissions rows viewer) (user_of rows viewer.uid) (present_roles rows viewer) found
+  votes_of found = votes_by viewer (viewer_permissions rows viewer) (grants_of (user_of rows viewer.uid) (present_roles rows viewer)) found
 
   abbrev decided_of : ℕ → Option Node → Access
   decided_of n found = decided n (viewer_permissions rows viewer) (votes_of found)
@@ -221,9 +200,8 @@ module _ (viewer : Viewer) (rows rows' : List (Cell × Row)) (alike : (c : Cell)
   node_decided' n =
       ap (access_by rows' viewer op.View n) (as_votes rows' viewer (node_of rows' n))
       ∙ (let held = sym same_permissions in
-      let user = sym (same_user viewer.uid) in
-      let roles = sym same_present in
-      λ i. decided n (held i) (votes_by viewer (held i) (user i) (roles i) (node_of rows' n)))
+      let grants = sym granted_same in
+      λ i. decided n (held i) (votes_by viewer (held i) (grants i) (node_of rows' n)))
 
   -- a node that both have alike gets the same access
   access_by_found : (n : ℕ) (f g : Option Node) → AreAlikeFound viewer rows rows' n f g → node_of rows n ≡ f → node_of rows' n ≡ g
@@ -271,7 +249,7 @@ module _ (viewer : Viewer) (rows rows' : List (Cell × Row)) (alike : (c : Cell)
     same_found_route : (path : List ℕ) (n t u : Option ℕ) → found_route rows path n t u ≡ found_route rows' path n t u
     same_found_route path (Some n) t u = same_node_route n
     same_found_route path None (Some t) u = ap (λ o. if is_some o then route.Term t else route.Nothing) (same_term t)
-    same_found_route path None None (Some u) = ap (λ o. if is_some o then route.User u else route.Nothing) (same_user u)
+    same_found_route path None None (Some u) = of_user (λ o. if is_some o then route.User u else route.Nothing) u (λ user digest salt. refl)
     same_found_route path None None None =
         same_cell_route (cell_with rows path) ∙ ap (cell_route rows') (same_cell_with viewer rows rows' path rows rows' lists)
 
@@ -308,11 +286,11 @@ module _ (viewer : Viewer) (rows rows' : List (Cell × Row)) (alike : (c : Cell)
       same_value (context.MenuTrail name) =
           same_trail ask.path (menu_of rows name) ∙ ap (trail_in rows' ask.path) (same_menu name)
 
-      same_answer : (r : Read) → IsOfNoNode r → answer rows r ≡ answer rows' r
+      same_answer : (r : Read) → IsOfNeither r → answer rows r ≡ answer rows' r
       same_answer SiteRow none = same_site
       same_answer (TypeRow t) none = same_type t
       same_answer (RoleRow r) none = same_role r
-      same_answer (UserRow u) none = same_user u
+      same_answer (UserRow u) none = absurd none
       same_answer (TermRow t) none = same_term t
       same_answer (NodeRow n) none = absurd none
       same_answer (MenuRow m) none = same_menu m
@@ -336,5 +314,6 @@ module _ (viewer : Viewer) (rows rows' : List (Cell × Row)) (alike : (c : Cell)
         access = same_access;
         fields = same_fields;
         found = same_found;
+        users = one_user;
         listings = same_listed;
       }

@@ -1,6 +1,6 @@
-//! What pages keep from a viewer: what access denies leaves no trace in what a page shows.
+//! What pages keep to themselves: what access denies leaves no trace in what a page shows, nor does a password.
 #![tactic(auto)]
 
 mod laws;
 
-pub use laws::nothing_leaks;
+pub use laws::{no_password_shows, nothing_leaks};
