@@ -1,0 +1,12 @@
+pub mod Settled
+pub mod Likeness
+pub mod Visits
+pub mod Deciding
+pub mod SameNodes
+pub mod SameListings
+pub mod SameBlocks
+pub mod SamePages
+pub mod SameCells
+pub mod Decided
+pub mod SameReads
+pub mod LikePages

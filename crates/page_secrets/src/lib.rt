@@ -1,0 +1,6 @@
+//! What pages keep to themselves: what access denies leaves no trace in what a page shows, nor does a password.
+#![tactic(auto)]
+
+mod laws;
+
+pub use laws::{no_password_shows, nothing_leaks};
