@@ -1,6 +1,9 @@
 pub mod Parts
 pub mod Entries
+pub mod Frames
 pub mod Shelves
 pub mod Counting
 pub mod Pages
 pub mod Using
+pub mod Timeless
+pub mod Most
