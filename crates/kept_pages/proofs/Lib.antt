@@ -1,6 +1,6 @@
 pub mod Parts
 pub mod Entries
-pub mod Frames
+pub mod OfFrames
 pub mod Shelves
 pub mod Counting
 pub mod Pages

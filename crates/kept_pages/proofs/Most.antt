@@ -36,7 +36,7 @@ use Rattle.kept_pages.specs.Went.{Went, Done, number_built}
 use Rattle.kept_pages.specs.Held.{Tells}
 use Rattle.kept_pages.proofs.Parts.{same_pieces}
 use Rattle.kept_pages.proofs.Counting.{number_then, needed_lower}
-use Rattle.kept_pages.proofs.Frames.{below_page, stands, OfRows, lazy_of_rows}
+use Rattle.kept_pages.proofs.OfFrames.{below_page, stands, OfRows, lazy_of_rows}
 use Rattle.kept_pages.proofs.Timeless.{Timeless, plan_timeless}
 
 visits_most : (At : Hole → Went → Type 0) (count : Hole → ℕ) → ((h : Hole) (t : Went) → At h t → number_built t ≤ count h) → (hs : List Hole) (t : Went) → Visits At hs t → number_built t ≤ sum_by count hs
@@ -186,8 +186,9 @@ module _ (v : Visit) where
         let sum = sum_by-cons (count_below 5 v) hole.Meta (open_places made.0) in
         omega arith
     place_count (hole.Fragment f) k x n shown libraries rest_of made =
-        then_count (in_frame f (whole [] (element.Fragment f))) (λ _. k) x n (count_open v (hole.Fragment f)) 0 shown libraries (λ a own attached mk. (let one = fragment_count f a own attached mk in omega arith))
-        (λ a rest others mk. rest_of rest others mk) (subst (λ o. Made (at_place o (hole.Fragment f) k) v x shown libraries needs) (stands f) made)
+        let all = then_count (in_frame f (whole [] (element.Fragment f))) (λ _. k) x n (count_open v (hole.Fragment f)) 0 shown libraries (λ a own attached mk. (let one = fragment_count f a own attached mk in omega arith))
+        (λ a rest others mk. rest_of rest others mk) (subst (λ o. Made (at_place o (hole.Fragment f) k) v x shown libraries needs) (stands f) made) in
+        omega arith
 
     frame_count : {A : Type 0} (p : Plan A) (x : A) (shown : List Piece) (libraries : List Library) → Timeless v p → Made (filled_in (for_everybody (shown_below 5)) p) v x shown libraries needs → open_count shown ≤ sum_by (count_open v) (met p v).places
     frame_count (Gives a) x shown libraries timeless made = let none = ap open_count made.1 in omega arith

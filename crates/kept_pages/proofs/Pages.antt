@@ -27,7 +27,6 @@ use Rattle.kept_pages.specs.Joins.{MakesPage}
 use Rattle.kept_pages.specs.Needed.{OfRequest}
 use Rattle.kept_pages.specs.Held.{Tells}
 use Rattle.site_house.specs.House.{HouseView}
-use Rattle.kept_pages.proofs.Counting.{at_most}
 
 module _ (r : Reader) (status : Option ℕ) (pieces : List Piece) (libraries : List Library) (is : MakesPage (visit r) status pieces libraries) where
   abbrev here : Viewer → Visit

@@ -1,5 +1,5 @@
 -- Elements whose places are filled in, part by part.
-use Rattle.std.proofs.Common.{ℕ, zero, suc, Bool, true, false, List, [], ◌∷◌, ◌++◌, ◌≡◌, ◌<◌, ◌+◌, refl, sym, ◌∙◌, ap, subst, append_assoc, append-nil, arith, take, length, get_or, Option, Some, None, Contains, inl, inr}
+use Rattle.std.proofs.Common.{ℕ, zero, suc, Bool, true, false, List, [], ◌∷◌, ◌++◌, ◌≡◌, ◌<◌, ◌≤◌, ◌+◌, refl, sym, ◌∙◌, ap, subst, append_assoc, append-nil, arith, take, length, get_or, Option, Some, None, Contains, inl, inr}
 use Rattle.std.specs.Prelude.{◌==◌, if◌then◌else◌, IfOk, OnOk, Result, Ok, Err}
 use Rattle.std.proofs.lemmas.Grind.{take_at_read}
 use Rattle.cacheability.specs.declared.cacheability.Cacheability.{Cacheability}
@@ -12,7 +12,7 @@ use Rattle.content_state.specs.declared.element.Hole.TheVariants as hole
 use Rattle.content_state.specs.declared.element.Library.{Library}
 use Rattle.content_state.specs.Context.{Visit}
 use Rattle.content_state.specs.Plan.{Piece, Place, bytes, Plan, Needs, Made}
-use Rattle.content_state.specs.Places.{Filling, filled_in, FillsPlace, Fills, SameMembers, MakesWhole}
+use Rattle.content_state.specs.Places.{Filling, filled_in, open_places, FillsPlace, Fills, SameMembers, MakesWhole}
 use Rattle.content_state.proofs.Filled.{in_append, in_left, in_right, same_refl, same_trans, same_after, filled}
 use Rattle.render_canvas.specs.declared.built.Built.{Built}
 use Rattle.render_canvas.specs.Board.{pieces_of}
@@ -113,7 +113,7 @@ joins_open fill v h old new none a = record {
 }
 
 -- what stands in a place
-in_place : (fill : Filling) (v : Visit) (h : Hole) (p : Plan (Option ℕ)) (status : Option ℕ) (own : List Piece) (attached : List Library) (needs : Needs) → fill h ≡ Some p → Made p v status own attached needs → Fills fill v needs (Place h ∷ []) own attached
+pub in_place : (fill : Filling) (v : Visit) (h : Hole) (p : Plan (Option ℕ)) (status : Option ℕ) (own : List Piece) (attached : List Library) (needs : Needs) → fill h ≡ Some p → Made p v status own attached needs → Fills fill v needs (Place h ∷ []) own attached
 in_place fill v h p status own attached needs stands made =
     subst (λ o. FillsPlace o v needs h (Fills fill v needs []) own attached) (sym stands) (record {
       own = own;
@@ -184,6 +184,26 @@ whole_of fill v p status pieces libraries old new makes over same none state joi
     filled_makes : MakesWhole (filled_in fill p) v status joins.shown (makes.attached ++ joins.attached) (needs_of new)
     filled_makes = filled fill p v status pieces makes.attached (needs_of new) joins.shown joins.attached
         (Made-kept p v status pieces makes.attached (needs_of old) (needs_of new) joins.kept makes.made) joins.fills
+
+-- what was built is begun
+pub begins_of : (p : Plan (Option ℕ)) (v : Visit) (b : Built) (begun : Begun) → Builds p v b → begun.segments ≡ b.segments → begun.filled.joined.segments ≡ [] → begun.filled.joined.libraries.items ≡ b.libraries
+    → begun.filled.joined.cacheability ≡ b.cacheability → begun.filled.joined.last ≡ b.last → begun.filled.joined.status ≡ b.status → begun.filled.built ≡ 1 → Begins p v begun
+begins_of p v b begun builds segments none libraries cacheability last status one = record {
+  makes = record {
+    attached = b.libraries;
+    made = subst (λ s. Made p v begun.filled.joined.status (pieces_of s) b.libraries (needs_of begun.filled.joined)) (sym segments)
+        (subst (λ s. Made p v s (pieces_of b.segments) b.libraries (needs_of begun.filled.joined)) (sym status)
+        (subst (λ (n : Needs). Made p v b.status (pieces_of b.segments) b.libraries n) needs builds.made));
+    same = subst (SameMembers b.libraries) (sym libraries) (same_refl b.libraries);
+  };
+  not_over = (let same = last in let over = builds.not_over in omega arith);
+  places = ap (λ s. open_places (pieces_of s)) segments ∙ builds.places;
+  none = none;
+  one = one;
+}
+  where
+    needs : needs_built b ≡ needs_of begun.filled.joined
+    needs i = record { tags = (sym cacheability i).tags; contexts = (sym cacheability i).contexts; last = sym last i }
 
 -- what was begun
 pub begun_whole : (fill : Filling) (v : Visit) (p : Plan (Option ℕ)) (begun : Begun) (new : Joined) → Begins p v begun → Joins fill v (pieces_of begun.segments) begun.filled.joined new → IsWhole (filled_in fill p) v new

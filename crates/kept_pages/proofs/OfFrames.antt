@@ -27,12 +27,17 @@ use Rattle.render_array.specs.declared.element.Element.TheVariants as element
 use Rattle.render_array.specs.Whole.{fragment_level, shown_below, whole}
 use Rattle.cache_entries.specs.declared.entry.Entry.{Entry}
 use Rattle.cache_entries.specs.declared.key.Subject.TheVariants as subject
-use Rattle.cache_entries.specs.Entries.{IsHere, pieces_of as pieces_kept}
-use Rattle.page_meaning.specs.Lazy.{is_lazy_listing, is_lazy_kind, is_lazy_block, is_lazy}
+use Rattle.cache_entries.specs.Entries.{IsHere, needs_of as needs_entry}
+use Rattle.content_state.specs.Ask.{IsAsk}
+use Rattle.kept_pages.proofs.Entries.{target_is}
+use Rattle.cache_contexts.proofs.Tests.{nowhere}
+use Rattle.page_meaning.specs.Lazy.{is_lazy_listing, is_lazy_kind, is_lazy_block, is_lazy, TellsOn}
 use Rattle.page_meaning.specs.Meaning.{meaning, open_if, in_frame, for_everybody, framed}
 use Rattle.page_meaning.proofs.Frames.{page_filled}
 use Rattle.renderer.proofs.Standing.{some_below}
 use Rattle.element_entries.specs.declared.making.Joined.{Joined}
+use Rattle.element_entries.specs.declared.reader.Reader.{Reader}
+use Rattle.element_entries.specs.Keys.{visit}
 use Rattle.element_entries.specs.Making.{needs_of}
 use Rattle.kept_pages.specs.declared.joining.Begun.{Begun}
 use Rattle.kept_pages.specs.Needed.{stays_lazy, tags_of_lazy}
@@ -109,6 +114,32 @@ frame_shown (fragment.Menu name) child v x own libraries needs lazy tags made = 
 frame_shown (fragment.Listing name where_placed) child v x own libraries needs lazy tags made = made
 frame_shown (fragment.TermListing t) child v x own libraries needs lazy tags made = made
 frame_shown (fragment.Node n m) child v x own libraries needs lazy tags made = made
+
+-- ---- whether a fragment is lazy was asked
+
+pub asks_block : (r : Reader) (name : List ℕ) (f : Fragment) (old new : Joined) (lazy : Bool) → f ≡ fragment.Block name → TellsOn r.state.now (is_lazy name) old.cacheability lazy new.cacheability → new ≡ record old { cacheability = new.cacheability } → AsksLazy (visit r) f old lazy new
+asks_block r name f old new lazy is tells same = subst (λ x. AsksLazy (visit r) x old lazy new) (sym is) (record {
+  told = (tells (visit r) refl).result;
+  tags = (tells (visit r) refl).tags;
+  contexts = (tells (visit r) refl).contexts;
+  age = (tells (visit r) refl).age;
+  segments = ap (λ (j : Joined). j.segments) same;
+  libraries = ap (λ (j : Joined). j.libraries) same;
+  last = ap (λ (j : Joined). j.last) same;
+  status = ap (λ (j : Joined). j.status) same;
+})
+
+pub asks_none : (v : Visit) (f g : Fragment) (j : Joined) → f ≡ g → stays_lazy v g ≡ false → tags_of_lazy v g ≡ [] → AsksLazy v f j false j
+asks_none v f g j is never none = subst (λ x. AsksLazy v x j false j) (sym is) (record {
+  told = sym never;
+  tags = λ t. (λ h. inl h, λ h. elim h [ inl a ↦ a | inr b ↦ absurd (nowhere t (subst (λ ts. Contains ts t) none b)) ]);
+  contexts = refl;
+  age = refl;
+  segments = refl;
+  libraries = refl;
+  last = refl;
+  status = refl;
+})
 
 -- ---- a place of a page
 
@@ -196,4 +227,13 @@ made_page v j pieces same is = record {
   needs = needs_of j;
   makes = subst (λ ps. MakesWhole (whole v.ask.path element.Page) v j.status ps j.libraries.items (needs_of j)) same is.makes;
   not_over = is.not_over;
+}
+
+-- what is kept of a target that is asked for makes the page
+pub kept_page : (r : Reader) (e : Entry) (pieces : List Piece) → IsAsk r.ask.now → pieces_of e.segments ≡ pieces → IsHere meaning (subject.Target r.ask.now.target) (visit r) e → MakesPage (visit r) e.status pieces e.libraries
+kept_page r e pieces right same here = record {
+  needs = needs_entry e;
+  makes = subst (λ p. MakesWhole p (visit r) e.status pieces e.libraries (needs_entry e)) (target_is r.ask.now right)
+      (subst (λ ps. MakesWhole (meaning (subject.Target r.ask.now.target)) (visit r) e.status ps e.libraries (needs_entry e)) (same_pieces e.segments ∙ same) here.has.makes);
+  not_over = here.not_over;
 }
