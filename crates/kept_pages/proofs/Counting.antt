@@ -14,7 +14,7 @@ use Rattle.content_state.specs.declared.element.Hole.{Hole}
 use Rattle.content_state.specs.declared.element.Hole.TheVariants as hole
 use Rattle.content_state.specs.Context.{Visit}
 use Rattle.content_state.specs.Met.{met}
-use Rattle.content_state.specs.Plan.{bytes, Done as Gives, ◌>>◌}
+use Rattle.content_state.specs.Plan.{bytes, Plan}
 use Rattle.content_state.specs.Places.{open_places}
 use Rattle.cache_entries.specs.declared.entry.Entry.{Entry}
 use Rattle.cache_entries.specs.declared.key.Subject.{Subject}
@@ -29,8 +29,9 @@ use Rattle.render_array.specs.declared.element.Element.{Element}
 use Rattle.render_array.specs.Built.{fragment_shown, plan_of}
 use Rattle.render_array.specs.Whole.{level, fragment_level, element_level, plan_at, count_at, count_below, element_count}
 use Rattle.renderer.proofs.Joining.{parts_append}
-use Rattle.kept_pages.specs.Joins.{StaysOpen}
-use Rattle.kept_pages.specs.Needed.{Visits, OfFragment, InFragment, OfPlace, either_shape, NeededBelow, NeededFor, stays_lazy, NeededInFrame, OfFrame, InHoles, OfWhole, OfTarget}
+use Rattle.kept_pages.specs.declared.joining.Begun.{Begun}
+use Rattle.kept_pages.specs.Joins.{Begins, StaysOpen}
+use Rattle.kept_pages.specs.Needed.{Visits, InPlaces, OfFragment, InFragment, OfPlace, either_shape, NeededBelow, NeededFor, stays_lazy, NeededInFrame, OfFrame, InHoles, OfWhole, OfTarget}
 use Rattle.kept_pages.specs.Went.{Went, Done, Found, Built, then_went, number_built, OfElement}
 use Rattle.kept_pages.specs.Held.{Shelves, IsTold, StaysKept, HeldBy, Held, SeenIn, Closes, Goes, Tells, BuiltUp}
 use Rattle.kept_pages.specs.declared.looking.Seen.{Seen}
@@ -252,6 +253,14 @@ told_child r below v house house' h f child old new is lower sum t =
     (tells_map r (OfFragment (NeededBelow (fragment_level f) v) v f) (Visits (NeededBelow below v) (hole.Fragment f ∷ [])) house house' old new
     (λ u of. visits_one (NeededBelow below v) (hole.Fragment f) u (needed_lower below (fragment_level f) v (hole.Fragment f) u refl lower of))
     (tells_child r (OfFragment (NeededBelow (fragment_level f) v) v f) house house' child old new sum t))
+
+-- what was begun has the places that its plan leaves open
+pub begun_told : (r : Reader) (At : Hole → Went → Type 0) (p : Plan (Option ℕ)) (v : Visit) (begun : Begun) (old new : HouseView) (built : ℕ) → Begins p v begun
+    → Tells r (Visits At (open_places (pieces_of begun.segments))) old new begun.filled.built built → Tells r (InPlaces At v p) old new 1 built
+begun_told r At p v begun old new built begins t =
+    tells_map r (Visits At (met p v).places) (InPlaces At v p) old new 1 built (λ u of. of)
+    (subst (λ n. Tells r (Visits At (met p v).places) old new n built) begins.one
+    (subst (λ hs. Tells r (Visits At hs) old new begun.filled.built built) begins.places t))
 
 -- in a page that is kept for whoever views it
 shape_of : (b b' : Bool) (One Other : Went → Type 0) (t : Went) → b' ≡ b → either_shape b One Other t → either_shape b' One Other t

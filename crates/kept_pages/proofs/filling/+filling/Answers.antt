@@ -12,7 +12,7 @@ use Rattle.element_entries.specs.Keys.{visit}
 use Rattle.kept_pages.specs.Joins.{Takes}
 use Rattle.kept_pages.specs.Held.{Tells}
 use Rattle.kept_pages.specs.Needed.{InFragment, NeededBelow, NeededFor}
-use Rattle.kept_pages.proofs.Counting.{built_up, counts_fragment, tells_built, tells_found, tells_fragment, told_bytes, told_open, told_child, told_part}
+use Rattle.kept_pages.proofs.Counting.{built_up, counts_fragment, tells_built, tells_found, tells_fragment, begun_told, told_bytes, told_open, told_child, told_part}
 use Rattle.kept_pages.proofs.Entries.{steady_on}
 use Rattle.kept_pages.proofs.Parts.{nothing_below, joins_bytes, joins_open, joins_child, joins_part, begun_whole, on_ok_any, if_ok_both}
 use Rattle.kept_pages.proofs.filling.+filling.Goals as goal
@@ -64,6 +64,11 @@ pub fill-returns-clause-whole : goal.fill-returns-clause-whole
 fill-returns-clause-whole g t c =
     begun_whole (shown_below (element_level c.args.element)) (visit c.args.reader.now) (plan_of c.args.reader.now.ask.now.path c.args.element) _ c.add_parts.new.filled.joined c.in_ok-segments.ensures
     (rw c.element_level-below.ensures at (rw c.parts.ensures at c.in_ok-add_parts.ensures.joins))
+
+pub fill-returns-clause-told : goal.fill-returns-clause-told
+fill-returns-clause-told g t c =
+    begun_told c.args.reader.now (NeededBelow (element_level c.args.element) (visit c.args.reader.now)) (plan_of c.args.reader.now.ask.now.path c.args.element) (visit c.args.reader.now) c.in_ok-segments.field-0 _ _ _ c.in_ok-segments.ensures
+    (rw c.element_level-below.ensures at (rw c.parts.ensures at c.in_ok-add_parts.ensures.told))
 
 pub some_fragment-returns-in-Some-clause-told : goal.some_fragment-returns-in-Some-clause-told
 some_fragment-returns-in-Some-clause-told g t c =
