@@ -3,10 +3,9 @@ use Rattle.std.proofs.Common.{ℕ, zero, suc, List, [], ◌∷◌, ◌++◌, ◌
 use Rattle.std.specs.Arc.{arc_value}
 use Rattle.std.specs.declared.sync.Arc.{Arc}
 use Rattle.std.specs.declared.alloc.Global.{Global}
-use Rattle.std.specs.Prelude.{◌==◌, sum_by, if◌then◌else◌}
+use Rattle.std.specs.Prelude.{◌==◌}
 use Rattle.std.proofs.lemmas.Bool.Decides.{eqb_tells}
 use Rattle.std.proofs.lemmas.Grind.{take_at_read}
-use Rattle.std.proofs.lemmas.List.Sums.{sum_by-cons}
 use Rattle.html_out.specs.declared.part.Segment.{Segment}
 use Rattle.html_out.specs.Segment.{part_of, parts_of}
 use Rattle.content_state.specs.declared.element.Fragment.{Fragment}
@@ -25,13 +24,11 @@ use Rattle.cache_entries.specs.Entries.{IsHere}
 use Rattle.page_meaning.specs.Meaning.{meaning}
 use Rattle.render_canvas.specs.Board.{pieces_of}
 use Rattle.render_canvas.proofs.BoardLaws.{places-append, places_of_bytes}
-use Rattle.render_array.specs.declared.element.Element.{Element}
-use Rattle.render_array.specs.Built.{fragment_shown, plan_of}
-use Rattle.render_array.specs.Whole.{level, fragment_level, element_level, plan_at, count_at, count_below, element_count}
+use Rattle.render_array.specs.Whole.{level, fragment_level}
 use Rattle.renderer.proofs.Joining.{parts_append}
 use Rattle.kept_pages.specs.declared.joining.Begun.{Begun}
 use Rattle.kept_pages.specs.Joins.{Begins, StaysOpen}
-use Rattle.kept_pages.specs.Needed.{Visits, InPlaces, OfFragment, InFragment, OfPlace, either_shape, NeededBelow, NeededFor, stays_lazy, NeededInFrame, OfFrame, InHoles, OfWhole, OfTarget}
+use Rattle.kept_pages.specs.Needed.{Visits, InPlaces, OfFragment, InFragment, OfPlace, either_shape, NeededBelow, stays_lazy, NeededInFrame, OfFrame, InHoles, OfWhole, OfTarget}
 use Rattle.kept_pages.specs.Went.{Went, Done, Found, Built, then_went, number_built, OfElement}
 use Rattle.kept_pages.specs.Held.{Shelves, IsTold, StaysKept, HeldBy, Held, SeenIn, Closes, Goes, Tells, BuiltUp}
 use Rattle.kept_pages.specs.declared.looking.Seen.{Seen}

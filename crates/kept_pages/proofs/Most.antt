@@ -1,7 +1,7 @@
 -- No more are built for a page than it has elements.
-use Rattle.std.proofs.Common.{ℕ, zero, suc, List, [], ◌∷◌, ◌++◌, ◌≡◌, ◌≤◌, ◌+◌, min, Bool, true, false, refl, sym, ◌∙◌, ap, subst, arith, Option, Some, None, inl, inr}
+use Rattle.std.proofs.Common.{ℕ, zero, suc, List, [], ◌∷◌, ◌++◌, ◌≡◌, ◌≤◌, ◌+◌, min, Bool, true, false, refl, ◌∙◌, ap, subst, arith, Option, Some, None, inl, inr}
 use Rattle.std.specs.Prelude.{◌==◌, sum_by, if◌then◌else◌}
-use Rattle.std.proofs.lemmas.List.Sums.{sum_by-cons, sum_by-append}
+use Rattle.std.proofs.lemmas.List.Sums.{sum_by-cons}
 use Rattle.content_rows.specs.declared.cell.Cell.{Cell}
 use Rattle.content_rows.specs.declared.row.Row.{Row}
 use Rattle.content_state.specs.declared.ask.Ask.{Ask}
@@ -21,17 +21,16 @@ use Rattle.cache_entries.specs.declared.entry.Entry.{Entry}
 use Rattle.cache_entries.specs.declared.key.Subject.TheVariants as subject
 use Rattle.cache_entries.specs.Entries.{IsHere, needs_of}
 use Rattle.render_canvas.specs.Board.{pieces_of}
-use Rattle.render_canvas.proofs.BoardLaws.{places-append, places_of_bytes}
 use Rattle.render_array.specs.declared.element.Element.TheVariants as element
 use Rattle.render_array.specs.Built.{fragment_shown, plan_of}
 use Rattle.render_array.specs.Whole.{level, fragment_level, plan_at, count_at, count_below, element_count, shown_below, whole}
 use Rattle.render_array.specs.Shown.{OnlyMeta, page_count}
 use Rattle.render_array.proofs.Leaves.{fragment_closed}
 use Rattle.page_meaning.specs.Lazy.{is_lazy}
-use Rattle.page_meaning.specs.Meaning.{meaning, open_if, in_frame, for_everybody, framed}
+use Rattle.page_meaning.specs.Meaning.{meaning, open_if, in_frame, for_everybody}
 use Rattle.element_entries.specs.declared.reader.Reader.{Reader}
 use Rattle.site_house.specs.House.{HouseView}
-use Rattle.kept_pages.specs.Needed.{Visits, OfPlace, either_shape, NeededBelow, OfFragment, stays_lazy, NeededInFrame, OfFrame, InHoles, OfWhole, OfTarget, ForSession, OfRequest}
+use Rattle.kept_pages.specs.Needed.{Visits, OfPlace, either_shape, NeededBelow, OfFragment, stays_lazy, NeededInFrame, OfFrame, OfWhole, OfTarget, ForSession, OfRequest}
 use Rattle.kept_pages.specs.Went.{Went, Done, number_built}
 use Rattle.kept_pages.specs.Held.{Tells}
 use Rattle.kept_pages.proofs.Parts.{same_pieces}

@@ -10,18 +10,16 @@ use Rattle.content_state.specs.declared.element.Depth.TheVariants as depth
 use Rattle.content_state.specs.declared.element.Mode.TheVariants as mode
 use Rattle.content_state.specs.declared.element.Fragment.{Fragment}
 use Rattle.content_state.specs.declared.element.Fragment.TheVariants as fragment
-use Rattle.content_state.specs.declared.element.Hole.{Hole}
 use Rattle.content_state.specs.declared.element.Hole.TheVariants as hole
 use Rattle.content_state.specs.declared.element.Library.{Library}
 use Rattle.content_state.specs.Read.{answer, cover, BlockRow}
 use Rattle.content_state.specs.Context.{Visit}
 use Rattle.content_state.specs.Met.{met, result_of}
-use Rattle.content_state.specs.Plan.{Piece, Place, Plan, Done, Write, Attach, Reading, Asking, Clock, Part, ◌>>=◌, Needs, AllIn, Made, reading, part}
-use Rattle.content_state.specs.Places.{filled_in, SameMembers, MakesWhole, Fills}
-use Rattle.content_state.proofs.Filled.{in_left, in_right, same_refl}
+use Rattle.content_state.specs.Plan.{Piece, Place, Plan, Done, Write, Attach, Reading, Asking, Clock, Part, Needs, AllIn, Made, reading, part}
+use Rattle.content_state.specs.Places.{SameMembers, MakesWhole}
+use Rattle.content_state.proofs.Filled.{in_right, same_refl}
 use Rattle.content_state.proofs.Made.{Made-then}
 use Rattle.render_canvas.specs.Board.{pieces_of}
-use Rattle.render_canvas.specs.Canvas.{Keeps}
 use Rattle.render_canvas.proofs.Run.{Keeps-trans}
 use Rattle.render_array.specs.declared.element.Element.TheVariants as element
 use Rattle.render_array.specs.Whole.{fragment_level, shown_below, whole}
@@ -39,10 +37,9 @@ use Rattle.element_entries.specs.declared.making.Joined.{Joined}
 use Rattle.element_entries.specs.declared.reader.Reader.{Reader}
 use Rattle.element_entries.specs.Keys.{visit}
 use Rattle.element_entries.specs.Making.{needs_of}
-use Rattle.kept_pages.specs.declared.joining.Begun.{Begun}
 use Rattle.kept_pages.specs.Needed.{stays_lazy, tags_of_lazy}
-use Rattle.kept_pages.specs.Joins.{IsWhole, Begins, Reopens, Appends, Takes, TakesFragment, Joins, AsksLazy, MakesPage}
-use Rattle.kept_pages.proofs.Parts.{same_pieces, joins_open, joins_filled, in_place, child_made, whole_of, begun_whole}
+use Rattle.kept_pages.specs.Joins.{IsWhole, Reopens, Appends, TakesFragment, Joins, AsksLazy, MakesPage}
+use Rattle.kept_pages.proofs.Parts.{same_pieces, joins_open, joins_filled, in_place, child_made, whole_of}
 
 -- ---- whether a block is lazy is asked of rows alone
 

@@ -1,32 +1,20 @@
 -- The whole page is the page of the request.
-use Rattle.std.proofs.Common.{ℕ, ◌≡◌, ◌≤◌, List, sym, subst, min}
+use Rattle.std.proofs.Common.{ℕ, ◌≡◌, List, sym, subst}
 use Rattle.std.specs.Prelude.{Some, IsTrue, Option}
-use Rattle.content_rows.specs.declared.cell.Cell.{Cell}
-use Rattle.content_rows.specs.declared.row.Row.{Row}
-use Rattle.content_state.specs.declared.ask.Ask.{Ask}
-use Rattle.html_out.specs.declared.part.Segment.{Segment}
-use Rattle.html_out.specs.Segment.{parts_of}
 use Rattle.content_state.specs.declared.ask.Viewer.{Viewer}
 use Rattle.content_state.specs.Context.{Visit}
 use Rattle.content_state.specs.Viewer.{viewer_of}
 use Rattle.content_state.specs.declared.element.Library.{Library}
 use Rattle.content_state.specs.Plan.{Piece, Made}
-use Rattle.render_canvas.specs.Board.{pieces_of}
-use Rattle.content_state.specs.declared.element.Hole.{Hole}
 use Rattle.render_array.specs.declared.element.Element.TheVariants as element
-use Rattle.render_array.specs.Whole.{whole, element_count}
-use Rattle.render_array.specs.Shown.{meta_text, OnlyMeta, IsFilled, IsPageStatus, is_page_status, IsPage, page_count}
+use Rattle.render_array.specs.Whole.{whole}
+use Rattle.render_array.specs.Shown.{meta_text, OnlyMeta, IsFilled, IsPageStatus, is_page_status, IsPage}
 use Rattle.render_array.proofs.Statuses.{page_status}
 use Rattle.render_array.proofs.Leaves.{page_closed}
 use Rattle.renderer.proofs.Texts.{same_meta}
-use Rattle.element_entries.specs.declared.making.Joined.{Joined}
 use Rattle.element_entries.specs.declared.reader.Reader.{Reader}
 use Rattle.element_entries.specs.Keys.{visit}
-use Rattle.element_entries.specs.Making.{needs_of}
 use Rattle.kept_pages.specs.Joins.{MakesPage}
-use Rattle.kept_pages.specs.Needed.{OfRequest}
-use Rattle.kept_pages.specs.Held.{Tells}
-use Rattle.site_house.specs.House.{HouseView}
 
 module _ (r : Reader) (status : Option ℕ) (pieces : List Piece) (libraries : List Library) (is : MakesPage (visit r) status pieces libraries) where
   abbrev here : Viewer → Visit

@@ -19,7 +19,7 @@ use Rattle.content_state.specs.declared.route.Route.TheVariants as route
 use Rattle.content_state.specs.Read.{answer, NodeRow, TermRow, UserRow, ListingRow, BlockRow, PathRoute}
 use Rattle.content_state.specs.Viewer.{access_content}
 use Rattle.content_state.specs.Context.{Visit, value}
-use Rattle.content_state.specs.Plan.{Plan, Done, Write, Attach, Reading, Asking, Clock, Part, ◌>>=◌, ◌>>◌, reading, asking, write, escaped, attach, part, each}
+use Rattle.content_state.specs.Plan.{Plan, Done, Write, Attach, Reading, Asking, Clock, Part, ◌>>=◌, reading, asking, write, escaped, attach, part, each}
 use Rattle.site_access.specs.Access.{Access, Allowed, Denied}
 use Rattle.site_access.specs.Plans.{holds, node_access}
 use Rattle.site_access.specs.Terms.{term_access}

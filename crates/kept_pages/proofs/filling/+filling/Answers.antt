@@ -1,10 +1,9 @@
-use Rattle.std.proofs.Common.{refl, ap, subst}
+use Rattle.std.proofs.Common.{refl, subst}
 use Rattle.std.specs.Arc.{arc_value}
 use Rattle.std.proofs.lemmas.Result.{on_ok_weaker, IfOk-weaker}
 use Rattle.cache_entries.specs.declared.entry.Entry.{Entry}
 use Rattle.cache_entries.specs.declared.key.Subject.TheVariants as subject
 use Rattle.cache_entries.specs.declared.kept.Bin.TheVariants as bin
-use Rattle.render_canvas.specs.Board.{pieces_of}
 use Rattle.render_array.specs.declared.element.Element.{Element}
 use Rattle.render_array.specs.Built.{plan_of}
 use Rattle.render_array.specs.Whole.{element_level, shown_below}
