@@ -3,10 +3,9 @@ use Rattle.std.proofs.Common.{ℕ, zero, suc, List, [], ◌∷◌, ◌++◌, ◌
 use Rattle.std.specs.Arc.{arc_value}
 use Rattle.std.specs.declared.sync.Arc.{Arc}
 use Rattle.std.specs.declared.alloc.Global.{Global}
-use Rattle.std.specs.Prelude.{◌==◌, sum_by, if◌then◌else◌}
+use Rattle.std.specs.Prelude.{◌==◌}
 use Rattle.std.proofs.lemmas.Bool.Decides.{eqb_tells}
 use Rattle.std.proofs.lemmas.Grind.{take_at_read}
-use Rattle.std.proofs.lemmas.List.Sums.{sum_by-cons}
 use Rattle.html_out.specs.declared.part.Segment.{Segment}
 use Rattle.html_out.specs.Segment.{part_of, parts_of}
 use Rattle.content_state.specs.declared.element.Fragment.{Fragment}
@@ -14,22 +13,23 @@ use Rattle.content_state.specs.declared.element.Hole.{Hole}
 use Rattle.content_state.specs.declared.element.Hole.TheVariants as hole
 use Rattle.content_state.specs.Context.{Visit}
 use Rattle.content_state.specs.Met.{met}
-use Rattle.content_state.specs.Plan.{bytes, Done as Gives, ◌>>◌}
+use Rattle.content_state.specs.Plan.{bytes, Plan}
 use Rattle.content_state.specs.Places.{open_places}
 use Rattle.cache_entries.specs.declared.entry.Entry.{Entry}
 use Rattle.cache_entries.specs.declared.key.Subject.{Subject}
 use Rattle.cache_entries.specs.declared.key.Subject.TheVariants as subject
 use Rattle.cache_entries.specs.declared.kept.Bin.{Bin}
 use Rattle.cache_entries.specs.declared.kept.Bin.TheVariants as bin
+use Rattle.cache_entries.specs.Entries.{IsHere}
+use Rattle.page_meaning.specs.Meaning.{meaning}
 use Rattle.render_canvas.specs.Board.{pieces_of}
 use Rattle.render_canvas.proofs.BoardLaws.{places-append, places_of_bytes}
-use Rattle.render_array.specs.declared.element.Element.{Element}
-use Rattle.render_array.specs.Built.{fragment_shown, plan_of}
-use Rattle.render_array.specs.Whole.{level, fragment_level, element_level, plan_at, count_at, count_below, element_count}
+use Rattle.render_array.specs.Whole.{level, fragment_level}
 use Rattle.renderer.proofs.Joining.{parts_append}
-use Rattle.kept_pages.specs.Joins.{StaysOpen}
-use Rattle.kept_pages.specs.Needed.{Visits, OfFragment, InFragment, OfPlace, either_shape, NeededBelow, NeededFor}
-use Rattle.kept_pages.specs.Went.{Went, Done, Found, Built, then_went, number_built}
+use Rattle.kept_pages.specs.declared.joining.Begun.{Begun}
+use Rattle.kept_pages.specs.Joins.{Begins, StaysOpen}
+use Rattle.kept_pages.specs.Needed.{Visits, InPlaces, OfFragment, InFragment, OfPlace, either_shape, NeededBelow, stays_lazy, NeededInFrame, OfFrame, InHoles, OfWhole, OfTarget}
+use Rattle.kept_pages.specs.Went.{Went, Done, Found, Built, then_went, number_built, OfElement}
 use Rattle.kept_pages.specs.Held.{Shelves, IsTold, StaysKept, HeldBy, Held, SeenIn, Closes, Goes, Tells, BuiltUp}
 use Rattle.kept_pages.specs.declared.looking.Seen.{Seen}
 use Rattle.kept_pages.proofs.Shelves.{stays-refl, stays-then}
@@ -78,7 +78,7 @@ both_more d count m n k is same = omega arith
 child_more : (child old new count n : ℕ) → new ≡ min (old + child) 18446744073709551615 → old ≡ min count 18446744073709551615 → child ≡ min (0 + n) 18446744073709551615 → new ≡ min (count + n) 18446744073709551615
 child_more child old new count n sum same told = omega arith
 
-one_more : (built count n : ℕ) → 0 ≡ min count 18446744073709551615 → built ≡ min (1 + n) 18446744073709551615 → built ≡ min (count + (1 + n + 0)) 18446744073709551615
+one_more : (built count n : ℕ) → 0 ≡ min count 18446744073709551615 → built ≡ min n 18446744073709551615 → built ≡ min (count + n) 18446744073709551615
 one_more built count n is told = omega arith
 
 -- ---- what became of what is kept
@@ -129,7 +129,7 @@ tells_then r One Two Both old mid new a b d both first second = record {
 }
 
 -- what a child was built of is taken in
-tells_child : (r : Reader) (Shape : Went → Type 0) (house house' : HouseView) (child old new : ℕ) → new ≡ min (old + child) 18446744073709551615 → Tells r Shape house house' 0 child → Tells r Shape house house' old new
+pub tells_child : (r : Reader) (Shape : Went → Type 0) (house house' : HouseView) (child old new : ℕ) → new ≡ min (old + child) 18446744073709551615 → Tells r Shape house house' 0 child → Tells r Shape house house' old new
 tells_child r Shape house house' child old new is t = record {
   tree = t.tree;
   shape = t.shape;
@@ -137,53 +137,77 @@ tells_child r Shape house house' child old new is t = record {
   goes = t.goes;
 }
 
--- what was built of what stands in its places, and offered
-pub built_up : (r : Reader) (Inner : Went → Type 0) (s : Subject) (e : Entry) (old mid new : HouseView) (built built' : ℕ) → built' ≡ built → Tells r Inner old mid 1 built
-    → ((shelves : Shelves) → IsTold mid shelves → Closes r shelves bin.Fragments s e new) → BuiltUp r Inner bin.Fragments s e old new built'
-built_up r Inner s e old mid new built built' same t closes = record {
+-- what was built of what this needed, and offered, where so many were built at first
+pub built_up : (r : Reader) (Inner : Went → Type 0) (b : Bin) (s : Subject) (e : Entry) (old mid new : HouseView) (first built built' : ℕ) → first ≡ min first 18446744073709551615 → ((t : Went) → first + number_built t ≡ number_built (Built b s e t Done)) → built' ≡ built → Tells r Inner old mid first built
+    → ((shelves : Shelves) → IsTold mid shelves → Closes r shelves b s e new) → BuiltUp r Inner b s e old new built'
+built_up r Inner b s e old mid new first built built' within counts same t closes = record {
   inner = t.tree;
   of_places = t.shape;
-  counted = same ∙ t.counted 1 refl;
+  counted = same ∙ t.counted first within ∙ ap (λ n. min n 18446744073709551615) (counts t.tree);
   goes = λ shelves told. let g = t.goes shelves told in record { filled = g.after; goes = g.goes; closes = closes g.after g.is };
 }
 
--- a fragment that wasn't found
-pub tells_built : (r : Reader) (v : Visit) (f : Fragment) (e : Entry) (seen : Seen) (old mid new : HouseView) (built : ℕ) → seen.entry ≡ None
-    → ((shelves : Shelves) → IsTold old shelves → SeenIn r shelves bin.Fragments (subject.Fragment f) seen mid)
-    → BuiltUp r (InFragment v f) bin.Fragments (subject.Fragment f) e mid new built → Tells r (OfFragment (NeededBelow (fragment_level f) v) v f) old new 0 built
-tells_built r v f e seen old mid new built none looked t = record {
-  tree = Built bin.Fragments (subject.Fragment f) e t.inner Done;
-  shape = record { entry = e; element = inr (record { inner = t.inner; of_places = t.of_places; is = refl }) };
-  counted = λ count is. one_more built count (number_built t.inner) is t.counted;
+-- the page itself is counted, and so is a fragment; that the whole page was put together is not
+pub counts_fragment : (s : Subject) (e : Entry) (t : Went) → 1 + number_built t ≡ number_built (Built bin.Fragments s e t Done)
+counts_fragment s e t = omega arith
+
+pub counts_frame : (s : Subject) (e : Entry) (t : Went) → 1 + number_built t ≡ number_built (Built bin.Dynamic s e t Done)
+counts_frame s e t = omega arith
+
+pub counts_target : (s : Subject) (e : Entry) (t : Went) → 0 + number_built t ≡ number_built (Built bin.Anonymous s e t Done)
+counts_target s e t = omega arith
+
+-- what wasn't found
+pub tells_built : (r : Reader) (Inner : Went → Type 0) (b : Bin) (s : Subject) (e : Entry) (seen : Seen) (old mid new : HouseView) (built : ℕ) → seen.entry ≡ None
+    → ((shelves : Shelves) → IsTold old shelves → SeenIn r shelves b s seen mid)
+    → BuiltUp r Inner b s e mid new built → Tells r (OfElement Inner b s e) old new 0 built
+tells_built r Inner b s e seen old mid new built none looked t = record {
+  tree = Built b s e t.inner Done;
+  shape = inr (record { inner = t.inner; of_places = t.of_places; is = refl });
+  counted = λ count is. one_more built count (number_built (Built b s e t.inner Done)) is t.counted;
   goes = λ shelves told.
-      let s = looked shelves told in
-      let g = t.goes s.after s.is in
+      let l = looked shelves told in
+      let g = t.goes l.after l.is in
       record {
         after = g.closes.after;
         is = g.closes.is;
-        goes = (s.not_held none, (s.after, g.filled, g.closes.after, s.stays, g.goes, record { rises = g.closes.rises; either = g.closes.either }, stays-refl g.closes.after));
+        goes = (l.not_held none, (l.after, g.filled, g.closes.after, l.stays, g.goes, record { rises = g.closes.rises; either = g.closes.either }, stays-refl g.closes.after));
       };
 }
 
--- one that was
-pub tells_found : (r : Reader) (v : Visit) (f : Fragment) (e : Arc Entry Global) (seen : Seen) (old new : HouseView) → seen.entry ≡ Some e
-    → ((shelves : Shelves) → IsTold old shelves → SeenIn r shelves bin.Fragments (subject.Fragment f) seen new) → Tells r (OfFragment (NeededBelow (fragment_level f) v) v f) old new 0 0
-tells_found r v f e seen old new is looked = record {
-  tree = Found bin.Fragments (subject.Fragment f) (arc_value e) Done;
-  shape = record { entry = arc_value e; element = inl refl };
+-- what was
+pub tells_found : (r : Reader) (Inner : Went → Type 0) (b : Bin) (s : Subject) (e : Arc Entry Global) (seen : Seen) (old new : HouseView) → seen.entry ≡ Some e
+    → ((shelves : Shelves) → IsTold old shelves → SeenIn r shelves b s seen new) → Tells r (OfElement Inner b s (arc_value e)) old new 0 0
+tells_found r Inner b s e seen old new is looked = record {
+  tree = Found b s (arc_value e) Done;
+  shape = inl refl;
   counted = λ count none. none_more 0 count none;
   goes = λ shelves told.
-      let s = looked shelves told in
+      let l = looked shelves told in
       record {
-        after = s.after;
-        is = s.is;
-        goes = (subst (λ (o : Option (Arc Entry Global)). IfSome o (λ x. HeldBy r shelves bin.Fragments (subject.Fragment f) (arc_value x))) is s.held, (s.after, s.stays, stays-refl s.after));
+        after = l.after;
+        is = l.is;
+        goes = (subst (λ (o : Option (Arc Entry Global)). IfSome o (λ x. HeldBy r shelves b s (arc_value x))) is l.held, (l.after, l.stays, stays-refl l.after));
       };
 }
+
+-- a fragment that was found or built
+pub tells_fragment : (r : Reader) (v : Visit) (f : Fragment) (e : Entry) (old new : HouseView) (built : ℕ) → Tells r (OfElement (InFragment v f) bin.Fragments (subject.Fragment f) e) old new 0 built → Tells r (OfFragment (NeededBelow (fragment_level f) v) v f) old new 0 built
+tells_fragment r v f e old new built t = tells_map r (OfElement (InFragment v f) bin.Fragments (subject.Fragment f) e) (OfFragment (NeededBelow (fragment_level f) v) v f) old new 0 built (λ u of. record { entry = e; element = of }) t
+
+-- the whole page of a target
+pub tells_target : (r : Reader) (v : Visit) (e : Entry) (old new : HouseView) (built : ℕ) → Tells r (OfElement (OfWhole v.ask.path v) bin.Anonymous (subject.Target v.ask.target) e) old new 0 built → Tells r (OfTarget v) old new 0 built
+tells_target r v e old new built t = tells_map r (OfElement (OfWhole v.ask.path v) bin.Anonymous (subject.Target v.ask.target) e) (OfTarget v) old new 0 built (λ u of. record { entry = e; element = of }) t
+
+-- a page as it is kept for whoever views it, and what stands in the places that are open there
+pub tells_whole : (r : Reader) (path : List ℕ) (v : Visit) (page : Entry) (old mid new : HouseView) (a b : ℕ) → IsHere meaning (subject.Page path) v page → Tells r (OfFrame path v page) old mid 0 a → Tells r (InHoles v page) mid new a b → Tells r (OfWhole path v) old new 0 b
+tells_whole r path v page old mid new a b here first second =
+    tells_then r (OfFrame path v page) (InHoles v page) (OfWhole path v) old mid new 0 a b
+    (λ t u of others. record { page = page; here = here; both = record { one = t; rest = u; is = refl; first = of; others = others } }) first second
 
 -- ---- what is needed in a place, by its level
 
-needed_lower : (k l : ℕ) (v : Visit) (h : Hole) (t : Went) → level h ≡ l → l < k → OfPlace (NeededBelow l v) v h t → NeededBelow k v h t
+pub needed_lower : (k l : ℕ) (v : Visit) (h : Hole) (t : Went) → level h ≡ l → l < k → OfPlace (NeededBelow l v) v h t → NeededBelow k v h t
 needed_lower zero l v h t is lower of = absurd (omega arith)
 needed_lower (suc k) l v h t is lower of = elim (eqb_tells (level h) k) [
   | inl e ↦ subst (λ b. either_shape b (OfPlace (NeededBelow k v) v h) (NeededBelow k v h) t) (sym e.0)
@@ -227,6 +251,31 @@ told_child r below v house house' h f child old new is lower sum t =
     (λ u of. visits_one (NeededBelow below v) (hole.Fragment f) u (needed_lower below (fragment_level f) v (hole.Fragment f) u refl lower of))
     (tells_child r (OfFragment (NeededBelow (fragment_level f) v) v f) house house' child old new sum t))
 
+-- what was begun has the places that its plan leaves open
+pub begun_told : (r : Reader) (At : Hole → Went → Type 0) (p : Plan (Option ℕ)) (v : Visit) (begun : Begun) (old new : HouseView) (built : ℕ) → Begins p v begun
+    → Tells r (Visits At (open_places (pieces_of begun.segments))) old new begun.filled.built built → Tells r (InPlaces At v p) old new 1 built
+begun_told r At p v begun old new built begins t =
+    tells_map r (Visits At (met p v).places) (InPlaces At v p) old new 1 built (λ u of. of)
+    (subst (λ n. Tells r (Visits At (met p v).places) old new n built) begins.one
+    (subst (λ hs. Tells r (Visits At hs) old new begun.filled.built built) begins.places t))
+
+-- in a page that is kept for whoever views it
+shape_of : (b b' : Bool) (One Other : Went → Type 0) (t : Went) → b' ≡ b → either_shape b One Other t → either_shape b' One Other t
+shape_of b b' One Other t is of = subst (λ x. either_shape x One Other t) (sym is) of
+
+pub told_meta : (r : Reader) (v : Visit) (house : HouseView) (built : ℕ) → Tells r (Visits (NeededInFrame v) (hole.Meta ∷ [])) house house built built
+told_meta r v house built = tells_none r (Visits (NeededInFrame v) (hole.Meta ∷ [])) house built (visits_one (NeededInFrame v) hole.Meta Done refl)
+
+pub told_lazy : (r : Reader) (v : Visit) (f : Fragment) (house : HouseView) (built : ℕ) → stays_lazy v f ≡ true → Tells r (Visits (NeededInFrame v) (hole.Fragment f ∷ [])) house house built built
+told_lazy r v f house built lazy =
+    tells_none r (Visits (NeededInFrame v) (hole.Fragment f ∷ [])) house built
+    (visits_one (NeededInFrame v) (hole.Fragment f) Done (shape_of true (stays_lazy v f) (λ u. u ≡ Done) (OfFragment (NeededBelow (fragment_level f) v) v f) Done lazy refl))
+
+pub told_shown : (r : Reader) (v : Visit) (f : Fragment) (old new : HouseView) (a b : ℕ) → stays_lazy v f ≡ false → Tells r (OfFragment (NeededBelow (fragment_level f) v) v f) old new a b → Tells r (Visits (NeededInFrame v) (hole.Fragment f ∷ [])) old new a b
+told_shown r v f old new a b lazy t =
+    tells_map r (OfFragment (NeededBelow (fragment_level f) v) v f) (Visits (NeededInFrame v) (hole.Fragment f ∷ [])) old new a b
+    (λ u of. visits_one (NeededInFrame v) (hole.Fragment f) u (shape_of false (stays_lazy v f) (λ w. w ≡ Done) (OfFragment (NeededBelow (fragment_level f) v) v f) u lazy of)) t
+
 pub told_part : (r : Reader) (At : Hole → Went → Type 0) (ss : List (Segment Hole)) (i : ℕ) (s : Segment Hole) (old mid new : HouseView) (a b d : ℕ) → i < length ss → s ≡ get_or ss i s
     → Tells r (Visits At (open_places (pieces_of (parts_of (take i ss))))) old mid a b → Tells r (Visits At (open_places (pieces_of (part_of s ∷ [])))) mid new b d
     → Tells r (Visits At (open_places (pieces_of (parts_of (take (i + 1) ss))))) old new a d
@@ -238,40 +287,3 @@ told_part r At ss i s old mid new a b d within is first second =
     (visits_then At (open_places (pieces_of (parts_of (take i ss)))) (open_places (pieces_of (part_of (get_or ss i s) ∷ []))))
     first
     (subst (λ t. Tells r (Visits At (open_places (pieces_of (part_of t ∷ [])))) mid new b d) is second)))
-
--- ---- no more are built than there are
-
-visits_most : (At : Hole → Went → Type 0) (count : Hole → ℕ) → ((h : Hole) (t : Went) → At h t → number_built t ≤ count h) → (hs : List Hole) (t : Went) → Visits At hs t → number_built t ≤ sum_by count hs
-visits_most At count most [] t is = let none = ap number_built is in omega arith
-visits_most At count most (h ∷ hs) t v =
-    let both = ap number_built v.is ∙ number_then v.one v.rest in
-    let first = most h v.one v.first in
-    let others = visits_most At count most hs v.rest v.others in
-    let sum = sum_by-cons count h hs in
-    omega arith
-
-place_most : (k : ℕ) (v : Visit) → ((h : Hole) (t : Went) → NeededBelow k v h t → number_built t ≤ count_below k v h) → (h : Hole) (t : Went) → OfPlace (NeededBelow k v) v h t → number_built t ≤ count_at (count_below k v) v (plan_at h)
-place_most k v most hole.Meta t is = let none = ap number_built is in omega arith
-place_most k v most (hole.Fragment f) t of = elim of.element [
-  | inl is ↦ (let none = ap number_built is in omega arith)
-  | inr b ↦ (
-      let whole = ap number_built b.is in
-      let inner = visits_most (NeededBelow k v) (count_below k v) most (met (fragment_shown f >> Gives None) v).places b.inner b.of_places in
-      omega arith)
-]
-
-either_most : (b : Bool) (At Rest : Went → Type 0) (t : Went) (one other : ℕ) → (At t → number_built t ≤ one) → (Rest t → number_built t ≤ other) → either_shape b At Rest t → number_built t ≤ (if b then one else other)
-either_most true At Rest t one other first second of = first of
-either_most false At Rest t one other first second of = second of
-
-below_most : (k : ℕ) (v : Visit) (h : Hole) (t : Went) → NeededBelow k v h t → number_built t ≤ count_below k v h
-below_most zero v h t is = let none = ap number_built is in omega arith
-below_most (suc k) v h t needed =
-    either_most (level h == k) (OfPlace (NeededBelow k v) v h) (NeededBelow k v h) t (count_at (count_below k v) v (plan_at h)) (count_below k v h)
-    (place_most k v (λ g u of. below_most k v g u of) h t) (below_most k v h t) needed
-
-pub at_most : (r : Reader) (path : List ℕ) (v : Visit) (e : Element) (old new : HouseView) (built : ℕ) → Tells r (NeededFor path v e) old new 1 built → built ≤ min (element_count path v e) 18446744073709551615
-at_most r path v e old new built t =
-    let told = t.counted 1 refl in
-    let most = visits_most (NeededBelow (element_level e) v) (count_below (element_level e) v) (below_most (element_level e) v) (met (plan_of path e) v).places t.tree t.shape in
-    omega arith

@@ -7,6 +7,8 @@ use Rattle.std.specs.declared.alloc.Global.{Global}
 use Rattle.content_state.specs.declared.element.Fragment.{Fragment}
 use Rattle.content_state.specs.declared.element.Hole.TheVariants.{Meta, Fragment as FragmentHole}
 use Rattle.content_state.specs.State.{State}
+use Rattle.content_state.specs.declared.ask.Ask.{Ask}
+use Rattle.content_state.specs.Ask.{IsAsk}
 use Rattle.content_state.specs.Replay.{replay}
 use Rattle.content_state.specs.SiteRules.{InOrder}
 use Rattle.content_state.specs.Plan.{Piece, Byte, Place}
@@ -19,13 +21,13 @@ use Rattle.cache_entries.specs.declared.key.Subject.{Subject}
 use Rattle.cache_entries.specs.declared.key.Subject.TheVariants as subject
 use Rattle.cache_entries.specs.declared.kept.Found.{Found}
 use Rattle.cache_entries.specs.declared.kept.Found.TheVariants as found
-use Rattle.cache_entries.specs.Entries.{IsHere, IsFresh, Has, HasNoParts, pieces_of as pieces_kept}
-use Rattle.cache_entries.specs.Sound.{IsSound}
+use Rattle.cache_entries.specs.Entries.{IsHere, IsFresh, Has, IsClosed, HasNoParts}
+use Rattle.cache_entries.specs.Sound.{IsSound, IsAskedFor}
 use Rattle.render_canvas.specs.Board.{pieces_of}
 use Rattle.render_array.specs.declared.element.Element.TheVariants as element
 use Rattle.render_array.specs.Shown.{OnlyMeta}
 use Rattle.render_array.specs.Whole.{whole}
-use Rattle.render_array.proofs.Leaves.{fragment_closed}
+use Rattle.render_array.proofs.Leaves.{fragment_closed, page_closed}
 use Rattle.fragment_cache.proofs.Fresh.{fresh_is_shown}
 use Rattle.page_meaning.specs.Meaning.{meaning}
 use Rattle.element_entries.specs.declared.making.Joined.{Joined}
@@ -85,8 +87,8 @@ module _ (r : Reader) (s : Subject) (e : Entry) (made : IsMadeFor r s e) where
     not_after = made.not_over;
   }
 
--- no part of a whole fragment is open
-no_parts : (ps : List Piece) → OnlyMeta ps → HasNoParts ps
+-- where no place is open but that of the libraries, no part is open
+pub no_parts : (ps : List Piece) → OnlyMeta ps → HasNoParts ps
 no_parts [] only f h = nowhere (FragmentHole f) h
 no_parts (Byte b ∷ ps) only f h = no_parts ps only f h
 no_parts (Place Meta ∷ ps) only f h = elim (head_or_tail Meta (open_places ps) (FragmentHole f) h) [
@@ -95,16 +97,24 @@ no_parts (Place Meta ∷ ps) only f h = elim (head_or_tail Meta (open_places ps)
 ]
 no_parts (Place (FragmentHole g) ∷ ps) only f h = absurd only
 
--- an entry of a fragment that was put together was made for its reader
-pub entry_made_for : (r : Reader) (f : Fragment) (j : Joined) (e : Entry) → IsWhole (whole r.ask.now.path (element.Fragment f)) (visit r) j → IsEntryOf r j e → IsMadeFor r (subject.Fragment f) e
-entry_made_for r f j e is of = record {
-  made_on = made_on (whole r.ask.now.path (element.Fragment f)) (subject.Fragment f) r j e of makes
-      (subst (λ ps. HasNoParts ps) (sym (same_pieces j.segments))
-      (no_parts (pieces_of j.segments) (fragment_closed r.ask.now.path f (visit r) j.status (pieces_of j.segments) is.makes.attached (needs_of j) is.makes.made)));
+-- an entry of what was put together for a reader was made for it
+pub entry_made_for : (r : Reader) (s : Subject) (j : Joined) (e : Entry) → IsWhole (meaning s) (visit r) j → IsClosed s (pieces_of j.segments) → IsAskedFor s r.viewer.now r.ask.now → IsEntryOf r j e → IsMadeFor r s e
+entry_made_for r s j e is closed asked of = record {
+  made_on = made_on (meaning s) s r j e of
+      (subst (λ ps. MakesWhole (meaning s) (visit r) j.status ps j.libraries.items (needs_of j)) (sym (same_pieces j.segments)) is.makes)
+      (subst (IsClosed s) (sym (same_pieces j.segments)) closed);
   moment = of.made_moment;
   not_over = (let same = of.last in let over = is.not_over in omega arith);
-  asked = tt;
+  asked = asked;
 }
-  where
-    makes : MakesWhole (whole r.ask.now.path (element.Fragment f)) (visit r) j.status (pieces_kept j.segments) j.libraries.items (needs_of j)
-    makes = subst (λ ps. MakesWhole (whole r.ask.now.path (element.Fragment f)) (visit r) j.status ps j.libraries.items (needs_of j)) (sym (same_pieces j.segments)) is.makes
+
+-- no part of a whole fragment is open, nor of a whole page
+pub fragment_has_no_parts : (r : Reader) (f : Fragment) (j : Joined) → IsWhole (whole r.ask.now.path (element.Fragment f)) (visit r) j → HasNoParts (pieces_of j.segments)
+fragment_has_no_parts r f j is = no_parts (pieces_of j.segments) (fragment_closed r.ask.now.path f (visit r) j.status (pieces_of j.segments) is.makes.attached (needs_of j) is.makes.made)
+
+pub page_has_no_parts : (r : Reader) (j : Joined) → IsWhole (whole r.ask.now.path element.Page) (visit r) j → HasNoParts (pieces_of j.segments)
+page_has_no_parts r j is = no_parts (pieces_of j.segments) (page_closed r.ask.now.path (visit r) j.status (pieces_of j.segments) is.makes.attached (needs_of j) is.makes.made)
+
+-- what is kept of a target that is asked for is the whole page of the path that is asked for
+pub target_is : (ask : Ask) → IsAsk ask → meaning (subject.Target ask.target) ≡ whole ask.path element.Page
+target_is ask right = ap (λ (path : List ℕ). whole path element.Page) (sym right.path)

@@ -1,6 +1,9 @@
 pub mod Parts
 pub mod Entries
+pub mod OfFrames
 pub mod Shelves
 pub mod Counting
 pub mod Pages
 pub mod Using
+pub mod Timeless
+pub mod Most

@@ -1,5 +1,5 @@
 -- Elements whose places are filled in, part by part.
-use Rattle.std.proofs.Common.{ℕ, zero, suc, Bool, true, false, List, [], ◌∷◌, ◌++◌, ◌≡◌, ◌<◌, ◌+◌, refl, sym, ◌∙◌, ap, subst, append_assoc, append-nil, arith, take, length, get_or, Option, Some, None, Contains, inl, inr}
+use Rattle.std.proofs.Common.{ℕ, zero, suc, Bool, true, false, List, [], ◌∷◌, ◌++◌, ◌≡◌, ◌<◌, ◌≤◌, ◌+◌, refl, sym, ◌∙◌, ap, subst, append_assoc, append-nil, arith, take, length, get_or, Option, Some, None, Contains, inl, inr}
 use Rattle.std.specs.Prelude.{◌==◌, if◌then◌else◌, IfOk, OnOk, Result, Ok, Err}
 use Rattle.std.proofs.lemmas.Grind.{take_at_read}
 use Rattle.cacheability.specs.declared.cacheability.Cacheability.{Cacheability}
@@ -12,7 +12,7 @@ use Rattle.content_state.specs.declared.element.Hole.TheVariants as hole
 use Rattle.content_state.specs.declared.element.Library.{Library}
 use Rattle.content_state.specs.Context.{Visit}
 use Rattle.content_state.specs.Plan.{Piece, Place, bytes, Plan, Needs, Made}
-use Rattle.content_state.specs.Places.{filled_in, FillsPlace, Fills, SameMembers, MakesWhole}
+use Rattle.content_state.specs.Places.{Filling, filled_in, open_places, FillsPlace, Fills, SameMembers, MakesWhole}
 use Rattle.content_state.proofs.Filled.{in_append, in_left, in_right, same_refl, same_trans, same_after, filled}
 use Rattle.render_canvas.specs.declared.built.Built.{Built}
 use Rattle.render_canvas.specs.Board.{pieces_of}
@@ -31,7 +31,8 @@ use Rattle.cache_entries.specs.Entries.{IsHere, needs_of as needs_entry, pieces_
 use Rattle.page_meaning.specs.Meaning.{meaning}
 use Rattle.element_entries.specs.declared.making.Joined.{Joined}
 use Rattle.element_entries.specs.Making.{needs_of}
-use Rattle.kept_pages.specs.Joins.{IsWhole, StaysOpen, Appends, Takes, Joins}
+use Rattle.kept_pages.specs.declared.joining.Begun.{Begun}
+use Rattle.kept_pages.specs.Joins.{IsWhole, Begins, StaysOpen, Appends, Takes, Joins}
 
 -- the pieces of segments, by the one definition and the other
 pub same_pieces : (ps : List (Part Hole)) → pieces_kept ps ≡ pieces_of ps
@@ -39,26 +40,27 @@ same_pieces [] = refl
 same_pieces (Text bs ∷ ps) = ap (λ l. bytes bs ++ l) (same_pieces ps)
 same_pieces (Open h ∷ ps) = ap (λ l. Place h ∷ l) (same_pieces ps)
 
-joins_then : (below : ℕ) (v : Visit) (a b : List Piece) (old mid new : Joined) → Joins below v a old mid → Joins below v b mid new → Joins below v (a ++ b) old new
-joins_then below v a b old mid new first second = record {
+-- the same libraries behind
+same_front : (xs ys zs : List Library) → SameMembers xs ys → SameMembers (xs ++ zs) (ys ++ zs)
+same_front xs ys zs same = record {
+  there = λ x h. elim (in_append xs zs x h) [ inl g ↦ in_left ys zs x (same.there x g) | inr g ↦ in_right ys zs x g ];
+  back = λ x h. elim (in_append ys zs x h) [ inl g ↦ in_left xs zs x (same.back x g) | inr g ↦ in_right xs zs x g ];
+}
+
+joins_then : (fill : Filling) (v : Visit) (a b : List Piece) (old mid new : Joined) → Joins fill v a old mid → Joins fill v b mid new → Joins fill v (a ++ b) old new
+joins_then fill v a b old mid new first second = record {
   shown = first.shown ++ second.shown;
   attached = first.attached ++ second.attached;
   appended = second.appended ∙ ap (λ p. p ++ second.shown) first.appended ∙ append_assoc (pieces_of old.segments) first.shown second.shown;
   libraries = same_trans new.libraries.items (mid.libraries.items ++ second.attached) (old.libraries.items ++ (first.attached ++ second.attached)) second.libraries
       (subst (λ l. SameMembers (mid.libraries.items ++ second.attached) l) (append_assoc old.libraries.items first.attached second.attached)
-      (same_before mid.libraries.items (old.libraries.items ++ first.attached) second.attached first.libraries));
+      (same_front mid.libraries.items (old.libraries.items ++ first.attached) second.attached first.libraries));
   kept = Keeps-trans (needs_of old) (needs_of mid) (needs_of new) first.kept second.kept;
   not_over = λ h. second.not_over (first.not_over h);
   status = second.status ∙ first.status;
-  fills = fills_append (shown_below below) v (needs_of new) a b first.shown second.shown first.attached second.attached
-      (fills_kept (shown_below below) v (needs_of mid) (needs_of new) a first.shown first.attached second.kept first.fills) second.fills;
+  fills = fills_append fill v (needs_of new) a b first.shown second.shown first.attached second.attached
+      (fills_kept fill v (needs_of mid) (needs_of new) a first.shown first.attached second.kept first.fills) second.fills;
 }
-  where
-    same_before : (xs ys zs : List Library) → SameMembers xs ys → SameMembers (xs ++ zs) (ys ++ zs)
-    same_before xs ys zs same = record {
-      there = λ x h. elim (in_append xs zs x h) [ inl g ↦ in_left ys zs x (same.there x g) | inr g ↦ in_right ys zs x g ];
-      back = λ x h. elim (in_append ys zs x h) [ inl g ↦ in_left xs zs x (same.back x g) | inr g ↦ in_right xs zs x g ];
-    }
 
 keeps_same : (old new : Joined) → new.cacheability ≡ old.cacheability → new.last ≡ old.last → Keeps (needs_of old) (needs_of new)
 keeps_same old new cacheability last = record {
@@ -73,8 +75,8 @@ same_with_none old new e =
     (subst (λ l. SameMembers old.libraries.items l) (sym (append-nil old.libraries.items)) (same_refl old.libraries.items))
 
 -- bytes
-pub joins_bytes : (below : ℕ) (v : Visit) (bs : List ℕ) (old new : Joined) → Appends (bytes bs) old new → Joins below v (bytes bs ++ []) old new
-joins_bytes below v bs old new a = subst (λ p. Joins below v p old new) (sym (append-nil (bytes bs))) (record {
+pub joins_bytes : (fill : Filling) (v : Visit) (bs : List ℕ) (old new : Joined) → Appends (bytes bs) old new → Joins fill v (bytes bs ++ []) old new
+joins_bytes fill v bs old new a = subst (λ p. Joins fill v p old new) (sym (append-nil (bytes bs))) (record {
   shown = bytes bs;
   attached = [];
   appended = a.appended;
@@ -82,7 +84,7 @@ joins_bytes below v bs old new a = subst (λ p. Joins below v p old new) (sym (a
   kept = keeps_same old new a.cacheability a.last;
   not_over = λ h. (let last = a.last in omega arith);
   status = a.status;
-  fills = fills_bytes (shown_below below) v (needs_of new) bs;
+  fills = fills_bytes fill v (needs_of new) bs;
 })
 
 -- a place that stays open
@@ -98,8 +100,8 @@ pub nothing_below : (below : ℕ) (h : Hole) → StaysOpen below h → shown_bel
 nothing_below below h (inl is) = subst (λ x. shown_below below x ≡ None) (sym is) (open_meta below)
 nothing_below below h (inr over) = none_below below h over
 
-pub joins_open : (below : ℕ) (v : Visit) (h : Hole) (old new : Joined) → StaysOpen below h → Appends (Place h ∷ []) old new → Joins below v (Place h ∷ []) old new
-joins_open below v h old new stays a = record {
+pub joins_open : (fill : Filling) (v : Visit) (h : Hole) (old new : Joined) → fill h ≡ None → Appends (Place h ∷ []) old new → Joins fill v (Place h ∷ []) old new
+joins_open fill v h old new none a = record {
   shown = Place h ∷ [];
   attached = [];
   appended = a.appended;
@@ -107,71 +109,106 @@ joins_open below v h old new stays a = record {
   kept = keeps_same old new a.cacheability a.last;
   not_over = λ x. (let last = a.last in omega arith);
   status = a.status;
-  fills = subst (λ o. FillsPlace o v (needs_of new) h (Fills (shown_below below) v (needs_of new) []) (Place h ∷ []) []) (sym (nothing_below below h stays)) (record { rest = []; shown_is = refl; follows = (refl, refl) });
+  fills = subst (λ o. FillsPlace o v (needs_of new) h (Fills fill v (needs_of new) []) (Place h ∷ []) []) (sym none) (record { rest = []; shown_is = refl; follows = (refl, refl) });
 }
 
--- a child
-pub joins_child : (below : ℕ) (v : Visit) (h : Hole) (f : Fragment) (child : Entry) (old new : Joined) → h ≡ hole.Fragment f → fragment_level f < below → IsHere meaning (subject.Fragment f) v child → Takes child old new → Joins below v (Place h ∷ []) old new
-joins_child below v h f child old new is lower here takes = record {
+-- what stands in a place
+pub in_place : (fill : Filling) (v : Visit) (h : Hole) (p : Plan (Option ℕ)) (status : Option ℕ) (own : List Piece) (attached : List Library) (needs : Needs) → fill h ≡ Some p → Made p v status own attached needs → Fills fill v needs (Place h ∷ []) own attached
+in_place fill v h p status own attached needs stands made =
+    subst (λ o. FillsPlace o v needs h (Fills fill v needs []) own attached) (sym stands) (record {
+      own = own;
+      libraries = attached;
+      rest = [];
+      others = [];
+      status = status;
+      shown_is = sym (append-nil own);
+      attached_is = sym (append-nil attached);
+      made = made;
+      follows = (refl, refl);
+    })
+
+-- what an entry depends on was taken in
+taken : (child : Entry) (old new : Joined) → Takes child old new → Keeps (needs_entry child) (needs_of new)
+taken child old new takes = record { tags = λ t g. (takes.tags t).1 (inr g); contexts = λ c g. (takes.contexts c).1 (inr g); last = (let last = takes.last in omega arith) }
+
+-- a child that stands there by a plan, which makes it where what it depends on was taken in
+pub joins_filled : (fill : Filling) (v : Visit) (h : Hole) (p : Plan (Option ℕ)) (child : Entry) (attached : List Library) (old new : Joined) → fill h ≡ Some p → SameMembers attached child.libraries → v.moment ≤ child.last
+    → Made p v child.status (pieces_of child.segments) attached (needs_of new) → Takes child old new → Joins fill v (Place h ∷ []) old new
+joins_filled fill v h p child attached old new stands same not_over made takes = record {
   shown = pieces_of child.segments;
-  attached = made.attached;
+  attached = attached;
   appended = ap pieces_of takes.appended ∙ pieces_of-append old.segments child.segments;
-  libraries = subst (λ l. SameMembers l (old.libraries.items ++ made.attached)) (sym takes.libraries)
-      (same_after old.libraries.items child.libraries made.attached (record { there = made.same.back; back = made.same.there }));
+  libraries = subst (λ l. SameMembers l (old.libraries.items ++ attached)) (sym takes.libraries)
+      (same_after old.libraries.items child.libraries attached (record { there = same.back; back = same.there }));
   kept = record { tags = λ t g. (takes.tags t).1 (inl g); contexts = λ c g. (takes.contexts c).1 (inl g); last = (let last = takes.last in omega arith) };
-  not_over = λ x. (let last = takes.last in let child_last = here.not_over in omega arith);
+  not_over = λ x. (let last = takes.last in omega arith);
   status = takes.status;
-  fills = subst (λ o. FillsPlace o v (needs_of new) h (Fills (shown_below below) v (needs_of new) []) (pieces_of child.segments) made.attached) (sym stands) (record {
-    own = pieces_of child.segments;
-    libraries = made.attached;
-    rest = [];
-    others = [];
-    status = child.status;
-    shown_is = sym (append-nil (pieces_of child.segments));
-    attached_is = sym (append-nil made.attached);
-    made = Made-kept (whole [] (element.Fragment f)) v child.status (pieces_of child.segments) made.attached (needs_entry child) (needs_of new)
-        (record { tags = λ t g. (takes.tags t).1 (inr g); contexts = λ c g. (takes.contexts c).1 (inr g); last = (let last = takes.last in omega arith) })
-        (subst (λ ps. Made (whole [] (element.Fragment f)) v child.status ps made.attached (needs_entry child)) (same_pieces child.segments) made.made);
-    follows = (refl, refl);
-  });
+  fills = in_place fill v h p child.status (pieces_of child.segments) attached (needs_of new) stands made;
 }
-  where
-    made : MakesWhole (meaning (subject.Fragment f)) v child.status (pieces_kept child.segments) child.libraries (needs_entry child)
-    made = here.has.makes
 
-    stands : shown_below below h ≡ Some (whole [] (element.Fragment f))
-    stands = subst (λ x. shown_below below x ≡ Some (whole [] (element.Fragment f))) (sym is) (some_below below (fragment_level f) (hole.Fragment f) refl lower)
+-- a fragment that may be shown is made there
+pub child_made : (v : Visit) (f : Fragment) (child : Entry) (old new : Joined) → (here : IsHere meaning (subject.Fragment f) v child) → Takes child old new → Made (whole [] (element.Fragment f)) v child.status (pieces_of child.segments) here.has.makes.attached (needs_of new)
+child_made v f child old new here takes =
+    Made-kept (whole [] (element.Fragment f)) v child.status (pieces_of child.segments) here.has.makes.attached (needs_entry child) (needs_of new) (taken child old new takes)
+    (subst (λ ps. Made (whole [] (element.Fragment f)) v child.status ps here.has.makes.attached (needs_entry child)) (same_pieces child.segments) here.has.makes.made)
+
+pub joins_child : (below : ℕ) (v : Visit) (h : Hole) (f : Fragment) (child : Entry) (old new : Joined) → h ≡ hole.Fragment f → fragment_level f < below → IsHere meaning (subject.Fragment f) v child → Takes child old new → Joins (shown_below below) v (Place h ∷ []) old new
+joins_child below v h f child old new is lower here takes =
+    joins_filled (shown_below below) v h (whole [] (element.Fragment f)) child here.has.makes.attached old new
+    (subst (λ x. shown_below below x ≡ Some (whole [] (element.Fragment f))) (sym is) (some_below below (fragment_level f) (hole.Fragment f) refl lower))
+    here.has.makes.same here.not_over (child_made v f child old new here takes) takes
 
 -- one part after others
-pub joins_part : (below : ℕ) (v : Visit) (ss : List (Segment Hole)) (i : ℕ) (s : Segment Hole) (old mid new : Joined) → i < length ss → s ≡ get_or ss i s → Joins below v (pieces_of (parts_of (take i ss))) old mid → Joins below v (pieces_of (part_of s ∷ [])) mid new → Joins below v (pieces_of (parts_of (take (i + 1) ss))) old new
-joins_part below v ss i s old mid new within is first second =
+pub joins_part : (fill : Filling) (v : Visit) (ss : List (Segment Hole)) (i : ℕ) (s : Segment Hole) (old mid new : Joined) → i < length ss → s ≡ get_or ss i s → Joins fill v (pieces_of (parts_of (take i ss))) old mid → Joins fill v (pieces_of (part_of s ∷ [])) mid new → Joins fill v (pieces_of (parts_of (take (i + 1) ss))) old new
+joins_part fill v ss i s old mid new within is first second =
     rw ((take_at_read ss i s within).1)
-    (subst (λ p. Joins below v p old new) (sym (parts_append (take i ss) (get_or ss i s)))
-    (joins_then below v (pieces_of (parts_of (take i ss))) (pieces_of (part_of (get_or ss i s) ∷ [])) old mid new first
-    (subst (λ t. Joins below v (pieces_of (part_of t ∷ [])) mid new) is second)))
+    (subst (λ p. Joins fill v p old new) (sym (parts_append (take i ss) (get_or ss i s)))
+    (joins_then fill v (pieces_of (parts_of (take i ss))) (pieces_of (part_of (get_or ss i s) ∷ [])) old mid new first
+    (subst (λ t. Joins fill v (pieces_of (part_of t ∷ [])) mid new) is second)))
 
--- what was built, its places filled in, is whole
-pub whole_of : (below : ℕ) (v : Visit) (p : Plan (Option ℕ)) (b : Built) (old new : Joined) → Builds p v b → pieces_of old.segments ≡ [] → old.libraries.items ≡ b.libraries → old.cacheability ≡ b.cacheability → old.last ≡ b.last → old.status ≡ b.status → Joins below v (pieces_of b.segments) old new → IsWhole (filled_in (shown_below below) p) v new
-whole_of below v p b old new builds segments libraries cacheability last status joins = record {
+-- what was made and is shown, its places filled in, is whole
+pub whole_of : (fill : Filling) (v : Visit) (p : Plan (Option ℕ)) (status : Option ℕ) (pieces : List Piece) (libraries : List Library) (old new : Joined) → MakesWhole p v status pieces libraries (needs_of old) → v.moment ≤ old.last
+    → old.libraries.items ≡ libraries → pieces_of old.segments ≡ [] → old.status ≡ status → Joins fill v pieces old new → IsWhole (filled_in fill p) v new
+whole_of fill v p status pieces libraries old new makes over same none state joins = record {
   makes = record {
-    attached = makes.attached;
-    made = subst (λ s. Made (filled_in (shown_below below) p) v s (pieces_of new.segments) makes.attached (needs_of new)) (sym (joins.status ∙ status))
-        (subst (λ s. Made (filled_in (shown_below below) p) v b.status s makes.attached (needs_of new)) (sym shown_is) makes.made);
-    same = same_trans makes.attached (b.libraries ++ joins.attached) new.libraries.items makes.same
-        (subst (λ l. SameMembers (l ++ joins.attached) new.libraries.items) libraries (record { there = joins.libraries.back; back = joins.libraries.there }));
+    attached = filled_makes.attached;
+    made = subst (λ s. Made (filled_in fill p) v s (pieces_of new.segments) filled_makes.attached (needs_of new)) (sym (joins.status ∙ state))
+        (subst (λ s. Made (filled_in fill p) v status s filled_makes.attached (needs_of new)) (sym (joins.appended ∙ ap (λ l. l ++ joins.shown) none)) filled_makes.made);
+    same = same_trans filled_makes.attached (makes.attached ++ joins.attached) new.libraries.items filled_makes.same
+        (same_trans (makes.attached ++ joins.attached) (libraries ++ joins.attached) new.libraries.items (same_front makes.attached libraries joins.attached makes.same)
+        (subst (λ l. SameMembers (l ++ joins.attached) new.libraries.items) same (record { there = joins.libraries.back; back = joins.libraries.there })));
   };
-  not_over = joins.not_over (let same = last in let over = builds.not_over in omega arith);
+  not_over = joins.not_over over;
 }
   where
-    kept : Keeps (needs_built b) (needs_of new)
-    kept = subst (λ (n : Needs). Keeps n (needs_of new)) (λ i. record { tags = (cacheability i).tags; contexts = (cacheability i).contexts; last = last i }) joins.kept
+    filled_makes : MakesWhole (filled_in fill p) v status joins.shown (makes.attached ++ joins.attached) (needs_of new)
+    filled_makes = filled fill p v status pieces makes.attached (needs_of new) joins.shown joins.attached
+        (Made-kept p v status pieces makes.attached (needs_of old) (needs_of new) joins.kept makes.made) joins.fills
 
-    makes : MakesWhole (filled_in (shown_below below) p) v b.status joins.shown (b.libraries ++ joins.attached) (needs_of new)
-    makes = filled (shown_below below) p v b.status (pieces_of b.segments) b.libraries (needs_of new) joins.shown joins.attached
-        (Made-kept p v b.status (pieces_of b.segments) b.libraries (needs_built b) (needs_of new) kept builds.made) joins.fills
+-- what was built is begun
+pub begins_of : (p : Plan (Option ℕ)) (v : Visit) (b : Built) (begun : Begun) → Builds p v b → begun.segments ≡ b.segments → begun.filled.joined.segments ≡ [] → begun.filled.joined.libraries.items ≡ b.libraries
+    → begun.filled.joined.cacheability ≡ b.cacheability → begun.filled.joined.last ≡ b.last → begun.filled.joined.status ≡ b.status → begun.filled.built ≡ 1 → Begins p v begun
+begins_of p v b begun builds segments none libraries cacheability last status one = record {
+  makes = record {
+    attached = b.libraries;
+    made = subst (λ s. Made p v begun.filled.joined.status (pieces_of s) b.libraries (needs_of begun.filled.joined)) (sym segments)
+        (subst (λ s. Made p v s (pieces_of b.segments) b.libraries (needs_of begun.filled.joined)) (sym status)
+        (subst (λ (n : Needs). Made p v b.status (pieces_of b.segments) b.libraries n) needs builds.made));
+    same = subst (SameMembers b.libraries) (sym libraries) (same_refl b.libraries);
+  };
+  not_over = (let same = last in let over = builds.not_over in omega arith);
+  places = ap (λ s. open_places (pieces_of s)) segments ∙ builds.places;
+  none = none;
+  one = one;
+}
+  where
+    needs : needs_built b ≡ needs_of begun.filled.joined
+    needs i = record { tags = (sym cacheability i).tags; contexts = (sym cacheability i).contexts; last = sym last i }
 
-    shown_is : pieces_of new.segments ≡ joins.shown
-    shown_is = joins.appended ∙ ap (λ l. l ++ joins.shown) segments
+-- what was begun
+pub begun_whole : (fill : Filling) (v : Visit) (p : Plan (Option ℕ)) (begun : Begun) (new : Joined) → Begins p v begun → Joins fill v (pieces_of begun.segments) begun.filled.joined new → IsWhole (filled_in fill p) v new
+begun_whole fill v p begun new begins joins = whole_of fill v p begun.filled.joined.status (pieces_of begun.segments) begun.filled.joined.libraries.items begun.filled.joined new
+    begins.makes begins.not_over refl (ap pieces_of begins.none) refl joins
 
 -- what holds anyway holds of a call that ends well
 pub on_ok_any : {A E Q : Type 0} (r : Result A E) → Q → OnOk r Q

@@ -130,13 +130,13 @@ rest_of r first old (Built b s e inner rest) new alike (h, (looked, filled, kept
     record { rest = (may_not, i.rest, others.rest); alike = others.alike }
 
 -- what is told of a call
-pub used_of : (r : Reader) (Shape : Went → Type 0) (old new : HouseView) (built : ℕ) → Tells r Shape old new 1 built → (shelves : Shelves) → IsTold old shelves → KeptAndUsed r Shape shelves new 1 built
+pub used_of : (r : Reader) (Shape : Went → Type 0) (old new : HouseView) (built : ℕ) → Tells r Shape old new 0 built → (shelves : Shelves) → IsTold old shelves → KeptAndUsed r Shape shelves new built
 used_of r Shape old new built t shelves told =
     let g = t.goes shelves told in
     record {
       tree = t.tree;
       shape = t.shape;
-      counted = t.counted 1 refl;
+      counted = (let told = t.counted 0 refl in omega arith);
       after = g.after;
       is = g.is;
       held = λ none. all_held r shelves t.tree g.after g.goes none;

@@ -168,5 +168,5 @@ pub record BuildsTo (r : Reader) (old : Shelves) (inner : Went) (b : Bin) (s : S
 pub record BuiltUp (r : Reader) (Inner : Went → Type 0) (b : Bin) (s : Subject) (e : Entry) (old new : HouseView) (built : ℕ) : Type 0 where
   pub inner : Went
   pub of_places : Inner inner
-  pub counted : built ≡ min (1 + number_built inner) 18446744073709551615
+  pub counted : built ≡ min (number_built (Built b s e inner Done)) 18446744073709551615
   pub goes : (shelves : Shelves) → IsTold old shelves → BuildsTo r shelves inner b s e new

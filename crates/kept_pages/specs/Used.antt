@@ -1,6 +1,6 @@
 -- What is kept is used, and what may be kept is.
 -- https://www.drupal.org/docs/drupal-apis/cache-api/cache-api
-use Rattle.std.specs.Prelude.{ℕ, ◌≡◌, ◌+◌, min}
+use Rattle.std.specs.Prelude.{ℕ, ◌≡◌, min}
 use Rattle.element_entries.specs.declared.reader.Reader.{Reader}
 use Rattle.element_entries.specs.Keeping.{MayKeep}
 use Rattle.site_house.specs.House.{HouseView}
@@ -27,10 +27,10 @@ RestIsBuilt (Built b s e inner rest) = (MayKeep b e.cacheability → ⊥) × Res
 
 -- Of what was needed, and so many were built: where nothing was lost meanwhile, each that may be kept is held afterwards; and where
 -- just what may be kept was held before, just the rest was built.
-pub record KeptAndUsed (r : Reader) (Shape : Went → Type 0) (old : Shelves) (new : HouseView) (first built : ℕ) : Type 0 where
+pub record KeptAndUsed (r : Reader) (Shape : Went → Type 0) (old : Shelves) (new : HouseView) (built : ℕ) : Type 0 where
   pub tree : Went
   pub shape : Shape tree
-  pub counted : built ≡ min (first + number_built tree) 18446744073709551615
+  pub counted : built ≡ min (number_built tree) 18446744073709551615
   pub after : Shelves
   pub is : IsTold new after
   pub held : NothingLost old after → AllHeld r after tree

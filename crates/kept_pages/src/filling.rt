@@ -9,28 +9,26 @@ ghost use Rattle.cache_entries.specs.Entries.{IsHere};
 ghost use Rattle.page_meaning.specs.Meaning.{meaning};
 ghost use Rattle.render_canvas.specs.Board.{pieces_of};
 ghost use Rattle.render_array.specs.declared.element.Element.TheVariants as element_is;
-ghost use Rattle.render_array.specs.Whole.{whole, fragment_level};
+ghost use Rattle.render_array.specs.Whole.{whole, fragment_level, shown_below};
 ghost use Rattle.element_entries.specs.Keys.{visit};
 ghost use Rattle.kept_pages.specs.Houses.{Steady, Reads};
 ghost use Rattle.kept_pages.specs.Joins.{IsWhole, Joins};
 ghost use Rattle.kept_pages.specs.Needed.{Visits, OfFragment, InFragment, NeededBelow, NeededFor};
 ghost use Rattle.kept_pages.specs.Held.{Shelves, IsTold, SeenIn, Closes, Tells, BuiltUp};
 
-use crate::joining::{Child, Filled, add_bytes, add_child, leave_open};
-use crate::keeping::keep_if;
+use crate::joining::{Begun, Child, Filled, add_bytes, add_child, begin, leave_open};
+use crate::keeping::keep_filled;
 use crate::looking::{Seen, look};
 use crate::places::fragment_at;
 use cache_entries::{Bin, Subject};
 use cacheability::{Context, OrderedSet};
 use content_state::{Fragment, Hole};
-use element_entries::{Joined, Reader, entry_of};
-use html_out::{Segment, Segments};
-use render_array::{Element, build};
-use render_canvas::Built;
+use element_entries::Reader;
+use html_out::Segment;
+use render_array::Element;
 use renderer::element_level;
 use site_house::House;
 use std::alloc::{AllocError, Global};
-use std::sync::Arc;
 
 /// What is kept of a fragment, where it may be shown.
 fn look_for<H: House>(
@@ -64,11 +62,8 @@ fn keep_whole<H: House>(
     ensures built { IfOk result (λ child. child.built ≡ filled.built) }
     ensures told { IfOk result (λ child. (shelves : Shelves) → IsTold (H.sees house.old) shelves → Closes reader.now shelves bin_is.Fragments (subject_is.Fragment fragment.now) (arc_value child.entry) (H.sees house.new)) }
 {
-    let Filled { joined, built } = filled;
-    let entry = Arc::new(alloc, entry_of(alloc, reader, joined)?)?;
     let subject = Subject::Fragment(*fragment);
-    keep_if(alloc, house, reader, Bin::Fragments, &subject, &entry, told)?;
-    Ok(Child { entry, built })
+    keep_filled(alloc, house, reader, Bin::Fragments, &subject, filled, told)
 }
 
 /// The element that a fragment is.
@@ -80,7 +75,7 @@ fn element_of(fragment: &Fragment) -> Element
 
 /// A fragment that stands in a place: found where it is kept and fresh, else built.
 #[cycle(filling)]
-fn some_fragment<H: House>(
+pub fn some_fragment<H: House>(
     alloc: Global,
     house: &mut H,
     reader: &Reader<'_>,
@@ -118,7 +113,7 @@ fn built_fragment<H: House>(
 
 /// An element that is built, its places filled in.
 #[cycle(filling)]
-pub fn fill<H: House>(
+fn fill<H: House>(
     alloc: Global,
     house: &mut H,
     reader: &Reader<'_>,
@@ -129,30 +124,10 @@ pub fn fill<H: House>(
     ensures whole { IfOk result (λ f. IsWhole (whole reader.now.ask.now.path element) (visit reader.now) f.joined) }
     ensures told { IfOk result (λ f. Tells reader.now (NeededFor reader.now.ask.now.path (visit reader.now) element) (H.sees house.old) (H.sees house.new) 1 f.built) }
 {
-    let Built {
+    let Begun {
         segments,
-        cacheability,
-        libraries,
-        last,
-        status,
-    } = build(
-        alloc,
-        reader.state,
-        reader.viewer,
-        reader.ask,
-        reader.moment,
-        &element,
-    )?;
-    let mut filled = Filled {
-        joined: Joined {
-            segments: Segments::new(alloc),
-            cacheability,
-            libraries: libraries.into_vec(),
-            last,
-            status,
-        },
-        built: 1,
-    };
+        mut filled,
+    } = begin(alloc, reader, &element)?;
     let below = element_level(element);
     add_parts(alloc, house, reader, below, segments.parts(), &mut filled)?;
     Ok(filled)
@@ -160,7 +135,7 @@ pub fn fill<H: House>(
 
 /// The parts of an element of a level behind what is there, their places filled in.
 #[cycle(filling)]
-fn add_parts<H: House>(
+pub fn add_parts<H: House>(
     alloc: Global,
     house: &mut H,
     reader: &Reader<'_>,
@@ -170,7 +145,7 @@ fn add_parts<H: House>(
 ) -> Result<(), AllocError>
     requires { Reads (H.sees house.old) reader.now }
     ensures steady { Steady (H.sees house.old) (H.sees house.new) }
-    ensures joins { OnOk result (Joins below (visit reader.now) (pieces_of (parts_of parts.now)) filled.old.joined filled.new.joined) }
+    ensures joins { OnOk result (Joins (shown_below below) (visit reader.now) (pieces_of (parts_of parts.now)) filled.old.joined filled.new.joined) }
     ensures told { OnOk result (Tells reader.now (Visits (NeededBelow below (visit reader.now)) (open_places (pieces_of (parts_of parts.now)))) (H.sees house.old) (H.sees house.new) filled.old.built filled.new.built) }
 {
     for part in parts {
@@ -191,7 +166,7 @@ fn add_part<H: House>(
 ) -> Result<(), AllocError>
     requires { Reads (H.sees house.old) reader.now }
     ensures steady { Steady (H.sees house.old) (H.sees house.new) }
-    ensures joins { OnOk result (Joins below (visit reader.now) (pieces_of (part_of part.now ∷ [])) filled.old.joined filled.new.joined) }
+    ensures joins { OnOk result (Joins (shown_below below) (visit reader.now) (pieces_of (part_of part.now ∷ [])) filled.old.joined filled.new.joined) }
     ensures told { OnOk result (Tells reader.now (Visits (NeededBelow below (visit reader.now)) (open_places (pieces_of (part_of part.now ∷ [])))) (H.sees house.old) (H.sees house.new) filled.old.built filled.new.built) }
 {
     match part {

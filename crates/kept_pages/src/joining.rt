@@ -1,14 +1,18 @@
 //! Elements whose places are filled in, under way.
-ghost use Rattle.std.specs.Prelude.{◌≡◌, ◌∷◌, ◌++◌, [], OnOk};
+ghost use Rattle.std.specs.Prelude.{◌≡◌, ◌∷◌, ◌++◌, [], IfOk, OnOk};
 ghost use Rattle.std.specs.Arc.{arc_value};
 ghost use Rattle.html_out.specs.Part.{Hole as Opening};
 ghost use Rattle.content_state.specs.Plan.{bytes, Place};
-ghost use Rattle.kept_pages.specs.Joins.{Appends, Takes};
+ghost use Rattle.render_array.specs.Built.{plan_of};
+ghost use Rattle.element_entries.specs.Keys.{visit};
+ghost use Rattle.kept_pages.specs.Joins.{Begins, Reopens, Appends, Takes};
 
 use cache_entries::Entry;
 use content_state::Hole;
-use element_entries::Joined;
+use element_entries::{Joined, Reader};
 use html_out::{Bytes, Segments};
+use render_array::{Element, build};
+use render_canvas::Built;
 use std::alloc::{AllocError, Global};
 use std::sync::Arc;
 
@@ -19,11 +23,70 @@ pub struct Filled {
     pub built: u64,
 }
 
+/// An element that was built: what it shows, its places left open, and the whole of it, of which nothing is there yet.
+#[derive(Drop)]
+pub struct Begun {
+    pub segments: Segments<Hole>,
+    pub filled: Filled,
+}
+
 /// What stands in a place, and how many elements were built for it, up to the greatest u64.
 #[derive(Drop)]
 pub struct Child {
     pub entry: Arc<Entry>,
     pub built: u64,
+}
+
+/// An element that is built, its places left open.
+pub fn begin(alloc: Global, reader: &Reader<'_>, element: &Element) -> Result<Begun, AllocError>
+    ensures { IfOk result (λ begun. Begins (plan_of reader.now.ask.now.path element.now) (visit reader.now) begun) }
+{
+    let Built {
+        segments,
+        cacheability,
+        libraries,
+        last,
+        status,
+    } = build(
+        alloc,
+        reader.state,
+        reader.viewer,
+        reader.ask,
+        reader.moment,
+        element,
+    )?;
+    let joined = Joined {
+        segments: Segments::new(alloc),
+        cacheability,
+        libraries: libraries.into_vec(),
+        last,
+        status,
+    };
+    Ok(Begun {
+        segments,
+        filled: Filled { joined, built: 1 },
+    })
+}
+
+/// What is kept of a page, of which nothing is there yet.
+pub fn reopen(alloc: Global, frame: &Child) -> Result<Filled, AllocError>
+    ensures opens { IfOk result (λ filled. Reopens (arc_value frame.now.entry) filled.joined) }
+    ensures built { IfOk result (λ filled. filled.built ≡ frame.now.built) }
+{
+    let entry = &frame.entry;
+    let mut libraries = Vec::new(alloc);
+    libraries.extend_from_slice(entry.libraries.as_slice())?;
+    let joined = Joined {
+        segments: Segments::new(alloc),
+        cacheability: entry.cacheability.duplicate(alloc)?,
+        libraries,
+        last: entry.last,
+        status: entry.status,
+    };
+    Ok(Filled {
+        joined,
+        built: frame.built,
+    })
 }
 
 /// Bytes behind what is there.

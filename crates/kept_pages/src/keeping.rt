@@ -1,14 +1,20 @@
 //! Keeping what was built.
-ghost use Rattle.std.specs.Prelude.{OnOk};
+ghost use Rattle.std.specs.Prelude.{◌≡◌, IfOk, OnOk};
 ghost use Rattle.std.specs.Arc.{arc_value};
+ghost use Rattle.cache_entries.specs.Entries.{IsHere, IsClosed};
+ghost use Rattle.cache_entries.specs.Sound.{IsAskedFor};
 ghost use Rattle.fragment_cache.specs.Bins.{Whole, Towards};
+ghost use Rattle.page_meaning.specs.Meaning.{meaning};
+ghost use Rattle.render_canvas.specs.Board.{pieces_of};
 ghost use Rattle.element_entries.specs.Keys.{visit, required, key_by};
 ghost use Rattle.kept_pages.specs.Houses.{Steady, Reads, IsMadeFor};
+ghost use Rattle.kept_pages.specs.Joins.{IsWhole};
 ghost use Rattle.kept_pages.specs.Held.{Shelves, IsTold, Puts, Offers, Closes};
 
+use crate::joining::{Child, Filled};
 use cache_entries::{Bin, Entry, Kept, Subject};
 use cacheability::{Context, OrderedSet};
-use element_entries::{Reader, key_of, may_keep, redirect_to, required_contexts};
+use element_entries::{Reader, entry_of, key_of, may_keep, redirect_to, required_contexts};
 use site_house::House;
 use std::alloc::{AllocError, Global};
 use std::sync::Arc;
@@ -112,4 +118,29 @@ pub fn keep_if<H: House>(
     } else {
         Ok(())
     }
+}
+
+/// An entry of what was put together, which is kept where it may be.
+pub fn keep_filled<H: House>(
+    alloc: Global,
+    house: &mut H,
+    reader: &Reader<'_>,
+    bin: Bin,
+    subject: &Subject,
+    filled: Filled,
+    told: Option<&OrderedSet<Context>>,
+) -> Result<Child, AllocError>
+    requires reads { Reads (H.sees house.old) reader.now }
+    requires whole { IsWhole (meaning subject.now) (visit reader.now) filled.joined }
+    requires closed { IsClosed subject.now (pieces_of filled.joined.segments) }
+    requires asked { IsAskedFor subject.now reader.now.viewer.now reader.now.ask.now }
+    ensures steady { Steady (H.sees house.old) (H.sees house.new) }
+    ensures here { IfOk result (λ child. IsHere meaning subject.now (visit reader.now) (arc_value child.entry)) }
+    ensures built { IfOk result (λ child. child.built ≡ filled.built) }
+    ensures told { IfOk result (λ child. (shelves : Shelves) → IsTold (H.sees house.old) shelves → Closes reader.now shelves bin subject.now (arc_value child.entry) (H.sees house.new)) }
+{
+    let Filled { joined, built } = filled;
+    let entry = Arc::new(alloc, entry_of(alloc, reader, joined)?)?;
+    keep_if(alloc, house, reader, bin, subject, &entry, told)?;
+    Ok(Child { entry, built })
 }

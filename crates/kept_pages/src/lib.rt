@@ -2,10 +2,12 @@
 #![tactic(auto)]
 
 mod filling;
+mod frames;
 mod joining;
 mod keeping;
 mod looking;
 mod page;
 mod places;
+mod whole;
 
 pub use page::render_page;

@@ -1,23 +1,25 @@
 //! The page of a request.
-ghost use Rattle.std.specs.Prelude.{◌≡◌, ◌≤◌, IfOk, IsTrue, min};
+ghost use Rattle.std.specs.Prelude.{◌≡◌, ◌≤◌, IfOk, IsTrue, None, min};
+ghost use Rattle.html_out.specs.Segment.{parts_of};
 ghost use Rattle.content_state.specs.Ask.{IsAsk};
 ghost use Rattle.content_state.specs.Viewer.{viewer_of as named_viewer};
 ghost use Rattle.cache_contexts.specs.Values.{visit_on};
+ghost use Rattle.render_canvas.specs.Board.{pieces_of};
 ghost use Rattle.render_array.specs.Shown.{IsPage, is_page_status, page_count};
-ghost use Rattle.render_array.specs.Whole.{whole};
 ghost use Rattle.element_entries.specs.Keys.{visit};
 ghost use Rattle.site_house.specs.House.{Moves, Stays};
 ghost use Rattle.site_house.specs.Bins.{IsSeenIn};
-ghost use Rattle.kept_pages.specs.Joins.{IsWhole};
-ghost use Rattle.kept_pages.specs.Needed.{OfRequest};
+ghost use Rattle.kept_pages.specs.Houses.{Steady, Reads};
+ghost use Rattle.kept_pages.specs.Joins.{MakesPage};
+ghost use Rattle.kept_pages.specs.Needed.{OfWhole, OfTarget, OfRequest};
 ghost use Rattle.kept_pages.specs.Held.{Shelves, IsTold, Tells};
 ghost use Rattle.kept_pages.specs.Used.{KeptAndUsed};
 
-use crate::filling::fill;
-use crate::joining::Filled;
-use content_state::{Ask, State, Viewer};
+use crate::joining::{Child, Filled};
+use crate::whole::{some_target, whole_page};
+use content_state::{Ask, Hole, Library, State, Viewer};
 use element_entries::Reader;
-use render_array::Element;
+use html_out::Segment;
 use renderer::{Page, assembled};
 use site_house::House;
 use std::alloc::{AllocError, Global};
@@ -25,8 +27,10 @@ use std::alloc::{AllocError, Global};
 /// The page of a request on a state that the house has seen, for the viewer that its cookie names at the moment, in seconds
 /// since 1970. Its status is 200, or 403 where it may not be viewed, or 404 where its path leads nowhere. It is the page that
 /// would be shown if nothing were kept: each part of it that is kept, and fresh on the state, is shown as it was kept, on
-/// whichever state that was, and else it is built, and kept where it may be. Where there is no memory for keeping something
-/// it is let go. `Err` only where memory is wanting.
+/// whichever state that was, and else it is built, and kept where it may be. Nobody's session is given the whole page of the
+/// target where that is kept. Else the page of the path is looked for that is kept for whoever views it, and the places of
+/// lazy blocks, which are left open there, are filled in. Where there is no memory for keeping something it is let go. `Err`
+/// only where memory is wanting.
 /// <https://www.drupal.org/docs/drupal-apis/render-api/the-drupal-8-render-pipeline>
 pub fn render_page<H: House>(
     alloc: Global,
@@ -43,8 +47,8 @@ pub fn render_page<H: House>(
     ensures stays { Stays (H.sees house.old) (H.sees house.new) }
     ensures page { IfOk result (λ p. IsPage state.now.rows ask.now now p.status p.body.items) }
     ensures status { IfOk result (λ p. IsTrue (is_page_status p.status)) }
-    ensures built { IfOk result (λ p. Tells (record { state = state.entry; viewer = viewer.entry; ask = ask.entry; moment = now }) (OfRequest (visit_on state.now viewer.now ask.now now)) (H.sees house.old) (H.sees house.new) 1 p.built) }
-    ensures used { IfOk result (λ p. (shelves : Shelves) → IsTold (H.sees house.old) shelves → KeptAndUsed (record { state = state.entry; viewer = viewer.entry; ask = ask.entry; moment = now }) (OfRequest (visit_on state.now viewer.now ask.now now)) shelves (H.sees house.new) 1 p.built) }
+    ensures built { IfOk result (λ p. Tells (record { state = state.entry; viewer = viewer.entry; ask = ask.entry; moment = now }) (OfRequest (visit_on state.now viewer.now ask.now now)) (H.sees house.old) (H.sees house.new) 0 p.built) }
+    ensures used { IfOk result (λ p. (shelves : Shelves) → IsTold (H.sees house.old) shelves → KeptAndUsed (record { state = state.entry; viewer = viewer.entry; ask = ask.entry; moment = now }) (OfRequest (visit_on state.now viewer.now ask.now now)) shelves (H.sees house.new) p.built) }
     ensures at_most { IfOk result (λ p. p.built ≤ min (page_count state.now.rows ask.now now) 18446744073709551615) }
 {
     let reader = Reader {
@@ -53,21 +57,90 @@ pub fn render_page<H: House>(
         ask,
         moment: now,
     };
-    let filled = fill(alloc, house, &reader, Element::Page)?;
-    page_of(alloc, &reader, filled)
+    request_page(alloc, house, &reader)
 }
 
-/// The page of what was put together for it.
-fn page_of(alloc: Global, reader: &Reader<'_>, filled: Filled) -> Result<Page, AllocError>
+/// The page of a request, by whether its viewer has a session.
+fn request_page<H: House>(
+    alloc: Global,
+    house: &mut H,
+    reader: &Reader<'_>,
+) -> Result<Page, AllocError>
+    requires reads { Reads (H.sees house.old) reader.now }
     requires viewer { reader.now.viewer.now ≡ named_viewer reader.now.state.now.rows reader.now.ask.now.cookie reader.now.moment }
-    requires whole { IsWhole (whole reader.now.ask.now.path Element.Page) (visit reader.now) filled.joined }
+    ensures steady { Steady (H.sees house.old) (H.sees house.new) }
     ensures page { IfOk result (λ p. IsPage reader.now.state.now.rows reader.now.ask.now reader.now.moment p.status p.body.items) }
     ensures status { IfOk result (λ p. IsTrue (is_page_status p.status)) }
-    ensures built { IfOk result (λ p. p.built ≡ filled.built) }
+    ensures told { IfOk result (λ p. Tells reader.now (OfRequest (visit reader.now)) (H.sees house.old) (H.sees house.new) 0 p.built) }
 {
-    let Filled { joined, built } = filled;
-    let body = assembled(alloc, joined.segments.parts(), joined.libraries.as_slice())?;
-    match joined.status {
+    match reader.viewer.session {
+        None => shared_page(alloc, house, reader),
+        Some(_) => own_page(alloc, house, reader),
+    }
+}
+
+/// The page of a request for nobody's session.
+fn shared_page<H: House>(
+    alloc: Global,
+    house: &mut H,
+    reader: &Reader<'_>,
+) -> Result<Page, AllocError>
+    requires reads { Reads (H.sees house.old) reader.now }
+    requires nobody { reader.now.viewer.now.session ≡ None }
+    requires viewer { reader.now.viewer.now ≡ named_viewer reader.now.state.now.rows reader.now.ask.now.cookie reader.now.moment }
+    ensures steady { Steady (H.sees house.old) (H.sees house.new) }
+    ensures page { IfOk result (λ p. IsPage reader.now.state.now.rows reader.now.ask.now reader.now.moment p.status p.body.items) }
+    ensures status { IfOk result (λ p. IsTrue (is_page_status p.status)) }
+    ensures told { IfOk result (λ p. Tells reader.now (OfTarget (visit reader.now)) (H.sees house.old) (H.sees house.new) 0 p.built) }
+{
+    let Child { entry, built } = some_target(alloc, house, reader)?;
+    page_of(
+        alloc,
+        reader,
+        entry.segments.parts(),
+        entry.libraries.as_slice(),
+        entry.status,
+        built,
+    )
+}
+
+/// The page of a request for whoever has a session: nothing of the whole is kept.
+fn own_page<H: House>(alloc: Global, house: &mut H, reader: &Reader<'_>) -> Result<Page, AllocError>
+    requires reads { Reads (H.sees house.old) reader.now }
+    requires viewer { reader.now.viewer.now ≡ named_viewer reader.now.state.now.rows reader.now.ask.now.cookie reader.now.moment }
+    ensures steady { Steady (H.sees house.old) (H.sees house.new) }
+    ensures page { IfOk result (λ p. IsPage reader.now.state.now.rows reader.now.ask.now reader.now.moment p.status p.body.items) }
+    ensures status { IfOk result (λ p. IsTrue (is_page_status p.status)) }
+    ensures told { IfOk result (λ p. Tells reader.now (OfWhole reader.now.ask.now.path (visit reader.now)) (H.sees house.old) (H.sees house.new) 0 p.built) }
+{
+    let Filled { joined, built } = whole_page(alloc, house, reader)?;
+    page_of(
+        alloc,
+        reader,
+        joined.segments.parts(),
+        joined.libraries.as_slice(),
+        joined.status,
+        built,
+    )
+}
+
+/// The page that a whole one gives: the lines of its libraries are put in their place last.
+fn page_of(
+    alloc: Global,
+    reader: &Reader<'_>,
+    parts: &[Segment<Hole>],
+    libraries: &[Library],
+    status: Option<u16>,
+    built: u64,
+) -> Result<Page, AllocError>
+    requires viewer { reader.now.viewer.now ≡ named_viewer reader.now.state.now.rows reader.now.ask.now.cookie reader.now.moment }
+    requires makes { MakesPage (visit reader.now) status (pieces_of (parts_of parts.now)) libraries.now }
+    ensures page { IfOk result (λ p. IsPage reader.now.state.now.rows reader.now.ask.now reader.now.moment p.status p.body.items) }
+    ensures status { IfOk result (λ p. IsTrue (is_page_status p.status)) }
+    ensures built { IfOk result (λ p. p.built ≡ built) }
+{
+    let body = assembled(alloc, parts, libraries)?;
+    match status {
         Some(status) => Ok(Page {
             status,
             body,

@@ -1,24 +1,24 @@
-use Rattle.std.proofs.Common.{refl, ap, subst}
+use Rattle.std.proofs.Common.{refl, subst}
 use Rattle.std.specs.Arc.{arc_value}
 use Rattle.std.proofs.lemmas.Result.{on_ok_weaker, IfOk-weaker}
 use Rattle.cache_entries.specs.declared.entry.Entry.{Entry}
 use Rattle.cache_entries.specs.declared.key.Subject.TheVariants as subject
-use Rattle.render_canvas.specs.Board.{pieces_of}
+use Rattle.cache_entries.specs.declared.kept.Bin.TheVariants as bin
 use Rattle.render_array.specs.declared.element.Element.{Element}
 use Rattle.render_array.specs.Built.{plan_of}
-use Rattle.render_array.specs.Whole.{element_level}
+use Rattle.render_array.specs.Whole.{element_level, shown_below}
 use Rattle.element_entries.specs.Keys.{visit}
 use Rattle.kept_pages.specs.Joins.{Takes}
 use Rattle.kept_pages.specs.Held.{Tells}
 use Rattle.kept_pages.specs.Needed.{InFragment, NeededBelow, NeededFor}
-use Rattle.kept_pages.proofs.Counting.{built_up, tells_built, tells_found, told_bytes, told_open, told_child, told_part}
+use Rattle.kept_pages.proofs.Counting.{built_up, counts_fragment, tells_built, tells_found, tells_fragment, begun_told, told_bytes, told_open, told_child, told_part}
 use Rattle.kept_pages.proofs.Entries.{steady_on}
-use Rattle.kept_pages.proofs.Parts.{joins_bytes, joins_open, joins_child, joins_part, whole_of, on_ok_any, if_ok_both}
+use Rattle.kept_pages.proofs.Parts.{nothing_below, joins_bytes, joins_open, joins_child, joins_part, begun_whole, on_ok_any, if_ok_both}
 use Rattle.kept_pages.proofs.filling.+filling.Goals as goal
 
 pub add_part-returns-in-Bytes-clause-joins : goal.add_part-returns-in-Bytes-clause-joins
 add_part-returns-in-Bytes-clause-joins g t c =
-    rw c.in-Bytes.is (on_ok_weaker c.add_bytes.result (joins_bytes c.args.below _ _ _ _) c.add_bytes.ensures)
+    rw c.in-Bytes.is (on_ok_weaker c.add_bytes.result (joins_bytes (shown_below c.args.below) _ _ _ _) c.add_bytes.ensures)
 
 pub add_part-returns-in-Bytes-clause-told : goal.add_part-returns-in-Bytes-clause-told
 add_part-returns-in-Bytes-clause-told g t c =
@@ -26,7 +26,7 @@ add_part-returns-in-Bytes-clause-told g t c =
 
 pub add_part-returns-in-None-clause-joins : goal.add_part-returns-in-None-clause-joins
 add_part-returns-in-None-clause-joins g t c =
-    rw c.in-Hole.is (on_ok_weaker c.leave_open.result (joins_open c.args.below (visit c.args.reader.now) _ _ _ (c.in-None.ensures.stays refl)) c.leave_open.ensures)
+    rw c.in-Hole.is (on_ok_weaker c.leave_open.result (joins_open (shown_below c.args.below) (visit c.args.reader.now) _ _ _ (nothing_below c.args.below _ (c.in-None.ensures.stays refl))) c.leave_open.ensures)
 
 pub add_part-returns-in-None-clause-told : goal.add_part-returns-in-None-clause-told
 add_part-returns-in-None-clause-told g t c =
@@ -54,22 +54,30 @@ pub built_fragment-returns-clause-told : goal.built_fragment-returns-clause-told
 built_fragment-returns-clause-told g t c =
     if_ok_both c.keep_whole.result
     (λ child same closes.
-    built_up c.args.reader.now (InFragment (visit c.args.reader.now) c.args.fragment.now) (subject.Fragment c.args.fragment.now) (arc_value child.entry) _ _ _ c.in_ok-filled.filled.built child.built same
+    built_up c.args.reader.now (InFragment (visit c.args.reader.now) c.args.fragment.now) bin.Fragments (subject.Fragment c.args.fragment.now) (arc_value child.entry) _ _ _ 1 c.in_ok-filled.filled.built child.built refl
+    (counts_fragment (subject.Fragment c.args.fragment.now) (arc_value child.entry)) same
     (subst (λ (e : Element). Tells c.args.reader.now (NeededFor c.args.reader.now.ask.now.path (visit c.args.reader.now) e) (g.H.House.sees c.args.house.now) (g.H.House.sees c.fill.new.house) 1 c.in_ok-filled.filled.built) c.element_of.ensures c.in_ok-filled.ensures.told) closes)
     c.keep_whole.ensures.built c.keep_whole.ensures.told
 
 pub fill-returns-clause-whole : goal.fill-returns-clause-whole
 fill-returns-clause-whole g t c =
-    whole_of (element_level c.args.element) _ (plan_of c.args.reader.now.ask.now.path c.args.element) c.in_ok-segments.field-0 _ _ c.in_ok-segments.ensures
-    (ap pieces_of c.new.ensures) c.into_vec.ensures refl refl refl
+    begun_whole (shown_below (element_level c.args.element)) (visit c.args.reader.now) (plan_of c.args.reader.now.ask.now.path c.args.element) _ c.add_parts.new.filled.joined c.in_ok-segments.ensures
     (rw c.element_level-below.ensures at (rw c.parts.ensures at c.in_ok-add_parts.ensures.joins))
+
+pub fill-returns-clause-told : goal.fill-returns-clause-told
+fill-returns-clause-told g t c =
+    begun_told c.args.reader.now (NeededBelow (element_level c.args.element) (visit c.args.reader.now)) (plan_of c.args.reader.now.ask.now.path c.args.element) (visit c.args.reader.now) c.in_ok-segments.field-0 _ _ _ c.in_ok-segments.ensures
+    (rw c.element_level-below.ensures at (rw c.parts.ensures at c.in_ok-add_parts.ensures.told))
 
 pub some_fragment-returns-in-Some-clause-told : goal.some_fragment-returns-in-Some-clause-told
 some_fragment-returns-in-Some-clause-told g t c =
-    tells_found c.args.reader.now (visit c.args.reader.now) c.args.fragment.now c.in-Some.entry c.in_ok-entry.field-0 _ _ c.in-Some.is c.in_ok-entry.ensures.told
+    tells_fragment c.args.reader.now (visit c.args.reader.now) c.args.fragment.now (arc_value c.in-Some.entry) _ _ 0
+    (tells_found c.args.reader.now (InFragment (visit c.args.reader.now) c.args.fragment.now) bin.Fragments (subject.Fragment c.args.fragment.now) c.in-Some.entry c.in_ok-entry.field-0 _ _ c.in-Some.is c.in_ok-entry.ensures.told)
 
 pub some_fragment-returns-clause-told : goal.some_fragment-returns-clause-told
 some_fragment-returns-clause-told g t c =
     IfOk-weaker c.built_fragment.result _ _
-    (λ child built. tells_built c.args.reader.now (visit c.args.reader.now) c.args.fragment.now (arc_value child.entry) c.in_ok-entry.field-0 _ _ _ child.built c.in-None.is c.in_ok-entry.ensures.told built)
+    (λ child built.
+    tells_fragment c.args.reader.now (visit c.args.reader.now) c.args.fragment.now (arc_value child.entry) _ _ child.built
+    (tells_built c.args.reader.now (InFragment (visit c.args.reader.now) c.args.fragment.now) bin.Fragments (subject.Fragment c.args.fragment.now) (arc_value child.entry) c.in_ok-entry.field-0 _ _ _ child.built c.in-None.is c.in_ok-entry.ensures.told built))
     c.built_fragment.ensures.told

@@ -2,7 +2,7 @@ use Rattle.std.proofs.Common.{◌+◌, ◌*◌, take}
 use Rattle.html_out.specs.Segment.{parts_of}
 use Rattle.content_state.specs.Places.{open_places}
 use Rattle.render_canvas.specs.Board.{pieces_of}
-use Rattle.render_array.specs.Whole.{element_level, fragment_level}
+use Rattle.render_array.specs.Whole.{element_level, fragment_level, shown_below}
 use Rattle.element_entries.specs.Keys.{visit}
 use Rattle.kept_pages.specs.Houses.{Steady}
 use Rattle.kept_pages.specs.Joins.{Joins}
@@ -28,6 +28,6 @@ decreases-add_part g l = 5 * l.below
 abbrev pub invariant-add_parts-loop-part : goal.invariant-add_parts-loop-part
 invariant-add_parts-loop-part g l = record {
   steady : Steady (g.H.House.sees l.fn.house) (g.H.House.sees l.house);
-  joins : Joins l.fn.below (visit l.fn.reader) (pieces_of (parts_of (take l.part-index l.fn.parts))) l.fn.filled.joined l.filled.joined;
+  joins : Joins (shown_below l.fn.below) (visit l.fn.reader) (pieces_of (parts_of (take l.part-index l.fn.parts))) l.fn.filled.joined l.filled.joined;
   told : Tells l.fn.reader (Visits (NeededBelow l.fn.below (visit l.fn.reader)) (open_places (pieces_of (parts_of (take l.part-index l.fn.parts))))) (g.H.House.sees l.fn.house) (g.H.House.sees l.house) l.fn.filled.built l.filled.built;
 }

@@ -1,17 +1,5 @@
-use Rattle.std.proofs.Common.{sym, subst}
-use Rattle.cache_entries.specs.declared.entry.Entry.{Entry}
-use Rattle.cache_entries.specs.declared.key.Subject.TheVariants as subject
-use Rattle.kept_pages.specs.Houses.{IsMadeFor}
-use Rattle.kept_pages.proofs.Entries.{entry_made_for, made_is_here}
+use Rattle.kept_pages.proofs.Entries.{fragment_has_no_parts}
 use Rattle.kept_pages.proofs.filling.keep_whole.Goals as goal
 
-pub keep_if-requires-clause-made : goal.keep_if-requires-clause-made
-keep_if-requires-clause-made g c =
-    subst (λ (e : Entry). IsMadeFor c.args.reader.now (subject.Fragment c.args.fragment.now) e) (sym c.in_ok-entry.ensures.ok)
-    (entry_made_for c.args.reader.now c.args.fragment.now _ _ c.requires.whole c.in_ok-entry_of.ensures)
-
-pub returns-clause-here : goal.returns-clause-here
-returns-clause-here g c =
-    made_is_here c.args.reader.now (subject.Fragment c.args.fragment.now) _
-    (subst (λ (e : Entry). IsMadeFor c.args.reader.now (subject.Fragment c.args.fragment.now) e) (sym c.in_ok-entry.ensures.ok)
-    (entry_made_for c.args.reader.now c.args.fragment.now _ _ c.requires.whole c.in_ok-entry_of.ensures))
+pub keep_filled-requires-clause-closed : goal.keep_filled-requires-clause-closed
+keep_filled-requires-clause-closed g c = fragment_has_no_parts c.args.reader.now c.args.fragment.now c.args.filled.joined c.requires.whole

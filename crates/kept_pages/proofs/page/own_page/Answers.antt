@@ -1,0 +1,18 @@
+use Rattle.element_entries.specs.Keys.{visit}
+use Rattle.std.proofs.lemmas.Result.{IfOk-weaker}
+use Rattle.std.proofs.Common.{sym, ap, subst}
+use Rattle.render_canvas.specs.Board.{pieces_of}
+use Rattle.kept_pages.specs.Needed.{OfWhole}
+use Rattle.kept_pages.specs.Held.{Tells}
+use Rattle.kept_pages.proofs.OfFrames.{made_page}
+use Rattle.kept_pages.proofs.page.own_page.Goals as goal
+
+pub page_of-requires-clause-makes : goal.page_of-requires-clause-makes
+page_of-requires-clause-makes g c =
+    rw c.as_slice.ensures.value (made_page (visit c.args.reader.now) _ _ (sym (ap pieces_of c.parts.ensures)) c.in_ok-joined.ensures.whole)
+
+pub returns-clause-told : goal.returns-clause-told
+returns-clause-told g c =
+    IfOk-weaker c.page_of.result _ _
+    (λ p same. subst (λ n. Tells c.args.reader.now (OfWhole c.args.reader.now.ask.now.path (visit c.args.reader.now)) (g.H.House.sees c.args.house.now) (g.H.House.sees c.whole_page.new.house) 0 n) (sym same) c.in_ok-joined.ensures.told)
+    c.page_of.ensures.built
