@@ -7,8 +7,6 @@ use Rattle.std.specs.declared.alloc.Global.{Global}
 use Rattle.content_state.specs.declared.element.Fragment.{Fragment}
 use Rattle.content_state.specs.declared.element.Hole.TheVariants.{Meta, Fragment as FragmentHole}
 use Rattle.content_state.specs.State.{State}
-use Rattle.content_state.specs.declared.ask.Ask.{Ask}
-use Rattle.content_state.specs.Ask.{IsAsk}
 use Rattle.content_state.specs.Replay.{replay}
 use Rattle.content_state.specs.SiteRules.{InOrder}
 use Rattle.content_state.specs.Plan.{Piece, Byte, Place}
@@ -18,7 +16,6 @@ use Rattle.cache_contexts.proofs.Tests.{head_or_tail, nowhere}
 use Rattle.cache_entries.specs.declared.entry.Entry.{Entry}
 use Rattle.cache_entries.specs.declared.key.Key.{Key}
 use Rattle.cache_entries.specs.declared.key.Subject.{Subject}
-use Rattle.cache_entries.specs.declared.key.Subject.TheVariants as subject
 use Rattle.cache_entries.specs.declared.kept.Found.{Found}
 use Rattle.cache_entries.specs.declared.kept.Found.TheVariants as found
 use Rattle.cache_entries.specs.Entries.{IsHere, IsFresh, Has, IsClosed, HasNoParts}
@@ -114,7 +111,3 @@ fragment_has_no_parts r f j is = no_parts (pieces_of j.segments) (fragment_close
 
 pub page_has_no_parts : (r : Reader) (j : Joined) → IsWhole (whole r.ask.now.path element.Page) (visit r) j → HasNoParts (pieces_of j.segments)
 page_has_no_parts r j is = no_parts (pieces_of j.segments) (page_closed r.ask.now.path (visit r) j.status (pieces_of j.segments) is.makes.attached (needs_of j) is.makes.made)
-
--- what is kept of a target that is asked for is the whole page of the path that is asked for
-pub target_is : (ask : Ask) → IsAsk ask → meaning (subject.Target ask.target) ≡ whole ask.path element.Page
-target_is ask right = ap (λ (path : List ℕ). whole path element.Page) (sym right.path)

@@ -25,12 +25,10 @@ use Rattle.render_array.specs.declared.element.Element.TheVariants as element
 use Rattle.render_array.specs.Whole.{fragment_level, shown_below, whole}
 use Rattle.cache_entries.specs.declared.entry.Entry.{Entry}
 use Rattle.cache_entries.specs.declared.key.Subject.TheVariants as subject
-use Rattle.cache_entries.specs.Entries.{IsHere, needs_of as needs_entry}
-use Rattle.content_state.specs.Ask.{IsAsk}
-use Rattle.kept_pages.proofs.Entries.{target_is}
+use Rattle.cache_entries.specs.Entries.{IsHere}
 use Rattle.cache_contexts.proofs.Tests.{nowhere}
 use Rattle.page_meaning.specs.Lazy.{is_lazy_listing, is_lazy_kind, is_lazy_block, is_lazy, TellsOn}
-use Rattle.page_meaning.specs.Meaning.{meaning, open_if, in_frame, for_everybody, framed}
+use Rattle.page_meaning.specs.Meaning.{meaning, open_if, in_frame, framed}
 use Rattle.page_meaning.proofs.Frames.{page_filled}
 use Rattle.renderer.proofs.Standing.{some_below}
 use Rattle.element_entries.specs.declared.making.Joined.{Joined}
@@ -38,7 +36,7 @@ use Rattle.element_entries.specs.declared.reader.Reader.{Reader}
 use Rattle.element_entries.specs.Keys.{visit}
 use Rattle.element_entries.specs.Making.{needs_of}
 use Rattle.kept_pages.specs.Needed.{stays_lazy, tags_of_lazy}
-use Rattle.kept_pages.specs.Joins.{IsWhole, Reopens, Appends, TakesFragment, Joins, AsksLazy, MakesPage}
+use Rattle.kept_pages.specs.Joins.{IsWhole, Reopens, Appends, TakesFragment, Joins, AsksLazy, MakesPage, in_shared}
 use Rattle.kept_pages.proofs.Parts.{same_pieces, joins_open, joins_filled, in_place, child_made, whole_of}
 
 -- ---- whether a block is lazy is asked of rows alone
@@ -151,14 +149,14 @@ below_page (fragment.Node n (mode.Embed depth.One)) = omega arith
 below_page (fragment.Node n (mode.Embed depth.Two)) = omega arith
 below_page (fragment.Node n (mode.Embed depth.Three)) = omega arith
 
-pub stands : (f : Fragment) → for_everybody (shown_below 5) (hole.Fragment f) ≡ Some (in_frame f (whole [] (element.Fragment f)))
+pub stands : (f : Fragment) → in_shared (hole.Fragment f) ≡ Some (in_frame f (whole [] (element.Fragment f)))
 stands f = ap (option_map (in_frame f)) (some_below 5 (fragment_level f) (hole.Fragment f) refl (let low = below_page f in omega arith))
 
-pub joins_meta : (v : Visit) (old new : Joined) → Appends (Place hole.Meta ∷ []) old new → Joins (for_everybody (shown_below 5)) v (Place hole.Meta ∷ []) old new
-joins_meta v old new a = joins_open (for_everybody (shown_below 5)) v hole.Meta old new refl a
+pub joins_meta : (v : Visit) (old new : Joined) → Appends (Place hole.Meta ∷ []) old new → Joins in_shared v (Place hole.Meta ∷ []) old new
+joins_meta v old new a = joins_open in_shared v hole.Meta old new refl a
 
 -- once it was asked whether it is lazy
-asked : (v : Visit) (f : Fragment) (lazy : Bool) (outer : List Piece) (old mid new : Joined) → AsksLazy v f old lazy mid → Joins (for_everybody (shown_below 5)) v outer mid new → Joins (for_everybody (shown_below 5)) v outer old new
+asked : (v : Visit) (f : Fragment) (lazy : Bool) (outer : List Piece) (old mid new : Joined) → AsksLazy v f old lazy mid → Joins in_shared v outer mid new → Joins in_shared v outer old new
 asked v f lazy outer old mid new asks joins = record {
   shown = joins.shown;
   attached = joins.attached;
@@ -174,7 +172,7 @@ asked v f lazy outer old mid new asks joins = record {
   fills = joins.fills;
 }
 
-pub joins_lazy : (v : Visit) (f : Fragment) (lazy : Bool) (old mid new : Joined) → lazy ≡ true → AsksLazy v f old lazy mid → Appends (Place (hole.Fragment f) ∷ []) mid new → Joins (for_everybody (shown_below 5)) v (Place (hole.Fragment f) ∷ []) old new
+pub joins_lazy : (v : Visit) (f : Fragment) (lazy : Bool) (old mid new : Joined) → lazy ≡ true → AsksLazy v f old lazy mid → Appends (Place (hole.Fragment f) ∷ []) mid new → Joins in_shared v (Place (hole.Fragment f) ∷ []) old new
 joins_lazy v f lazy old mid new is asks a = asked v f lazy (Place (hole.Fragment f) ∷ []) old mid new asks (record {
   shown = Place (hole.Fragment f) ∷ [];
   attached = [];
@@ -187,13 +185,13 @@ joins_lazy v f lazy old mid new is asks a = asked v f lazy (Place (hole.Fragment
   };
   not_over = λ x. (let last = a.last in omega arith);
   status = a.status;
-  fills = in_place (for_everybody (shown_below 5)) v (hole.Fragment f) (in_frame f (whole [] (element.Fragment f))) None (Place (hole.Fragment f) ∷ []) [] (needs_of new) (stands f)
+  fills = in_place in_shared v (hole.Fragment f) (in_frame f (whole [] (element.Fragment f))) None (Place (hole.Fragment f) ∷ []) [] (needs_of new) (stands f)
       (frame_open f (whole [] (element.Fragment f)) v (needs_of new) (sym asks.told ∙ is) (λ t h. subst (λ (c : Cacheability). Contains c.tags t) (sym a.cacheability) ((asks.tags t).1 (inr h))));
 })
 
-pub joins_shown : (v : Visit) (f : Fragment) (lazy : Bool) (old mid new : Joined) → lazy ≡ false → AsksLazy v f old lazy mid → TakesFragment v f mid new → Joins (for_everybody (shown_below 5)) v (Place (hole.Fragment f) ∷ []) old new
+pub joins_shown : (v : Visit) (f : Fragment) (lazy : Bool) (old mid new : Joined) → lazy ≡ false → AsksLazy v f old lazy mid → TakesFragment v f mid new → Joins in_shared v (Place (hole.Fragment f) ∷ []) old new
 joins_shown v f lazy old mid new is asks t = asked v f lazy (Place (hole.Fragment f) ∷ []) old mid new asks
-    (joins_filled (for_everybody (shown_below 5)) v (hole.Fragment f) (in_frame f (whole [] (element.Fragment f))) t.child t.here.has.makes.attached mid new (stands f)
+    (joins_filled in_shared v (hole.Fragment f) (in_frame f (whole [] (element.Fragment f))) t.child t.here.has.makes.attached mid new (stands f)
     t.here.has.makes.same t.here.not_over
     (frame_shown f (whole [] (element.Fragment f)) v t.child.status (pieces_of t.child.segments) t.here.has.makes.attached (needs_of new) (sym asks.told ∙ is)
     (λ x h. (t.takes.tags x).1 (inl ((asks.tags x).1 (inr h)))) (child_made v f t.child mid new t.here t.takes)) t.takes)
@@ -218,19 +216,10 @@ frame_whole path v frame old new here reopens joins =
     same_needs : record { tags = frame.cacheability.tags; contexts = frame.cacheability.contexts; last = frame.last } ≡ needs_of old
     same_needs i = record { tags = (sym reopens.cacheability i).tags; contexts = (sym reopens.cacheability i).contexts; last = sym reopens.last i }
 
--- what was put together makes the page, and so does what is kept of a target
+-- what was put together makes the page
 pub made_page : (v : Visit) (j : Joined) (pieces : List Piece) → pieces_of j.segments ≡ pieces → IsWhole (whole v.ask.path element.Page) v j → MakesPage v j.status pieces j.libraries.items
 made_page v j pieces same is = record {
   needs = needs_of j;
   makes = subst (λ ps. MakesWhole (whole v.ask.path element.Page) v j.status ps j.libraries.items (needs_of j)) same is.makes;
   not_over = is.not_over;
-}
-
--- what is kept of a target that is asked for makes the page
-pub kept_page : (r : Reader) (e : Entry) (pieces : List Piece) → IsAsk r.ask.now → pieces_of e.segments ≡ pieces → IsHere meaning (subject.Target r.ask.now.target) (visit r) e → MakesPage (visit r) e.status pieces e.libraries
-kept_page r e pieces right same here = record {
-  needs = needs_entry e;
-  makes = subst (λ p. MakesWhole p (visit r) e.status pieces e.libraries (needs_entry e)) (target_is r.ask.now right)
-      (subst (λ ps. MakesWhole (meaning (subject.Target r.ask.now.target)) (visit r) e.status ps e.libraries (needs_entry e)) (same_pieces e.segments ∙ same) here.has.makes);
-  not_over = here.not_over;
 }

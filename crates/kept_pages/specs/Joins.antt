@@ -13,11 +13,11 @@ use Rattle.content_state.specs.Places.{Filling, Fills, SameMembers, MakesWhole, 
 use Rattle.cache_entries.specs.declared.entry.Entry.{Entry}
 use Rattle.cache_entries.specs.declared.key.Subject.TheVariants as subject
 use Rattle.cache_entries.specs.Entries.{IsHere}
-use Rattle.page_meaning.specs.Meaning.{meaning}
+use Rattle.page_meaning.specs.Meaning.{meaning, for_everybody}
 use Rattle.render_canvas.specs.Board.{pieces_of}
 use Rattle.render_canvas.specs.Canvas.{Keeps}
 use Rattle.render_array.specs.declared.element.Element.TheVariants as element
-use Rattle.render_array.specs.Whole.{level, whole}
+use Rattle.render_array.specs.Whole.{level, element_level, shown_below, whole}
 use Rattle.element_entries.specs.declared.making.Joined.{Joined}
 use Rattle.element_entries.specs.Making.{needs_of}
 use Rattle.kept_pages.specs.declared.joining.Begun.{Begun}
@@ -79,6 +79,10 @@ pub record TakesFragment (v : Visit) (f : Fragment) (old new : Joined) : Type 0 
   pub child : Entry
   pub here : IsHere meaning (subject.Fragment f) v child
   pub takes : Takes child old new
+
+-- what stands in the places of the page that is kept for whoever views it
+abbrev pub in_shared : Filling
+in_shared = for_everybody (shown_below (element_level element.Page))
 
 -- The outer pieces of an element are appended, their places filled in, and what was needed stays needed.
 pub record Joins (fill : Filling) (v : Visit) (outer : List Piece) (old new : Joined) : Type 0 where

@@ -7,12 +7,12 @@ ghost use Rattle.content_state.specs.Places.{open_places};
 ghost use Rattle.cache_entries.specs.declared.key.Subject.TheVariants as subject_is;
 ghost use Rattle.cache_entries.specs.declared.kept.Bin.TheVariants as bin_is;
 ghost use Rattle.cache_entries.specs.Entries.{IsHere};
-ghost use Rattle.page_meaning.specs.Meaning.{meaning, framed, for_everybody};
+ghost use Rattle.page_meaning.specs.Meaning.{meaning, framed};
 ghost use Rattle.render_canvas.specs.Board.{pieces_of};
-ghost use Rattle.render_array.specs.Whole.{fragment_level, shown_below};
+ghost use Rattle.render_array.specs.Whole.{fragment_level};
 ghost use Rattle.element_entries.specs.Keys.{visit};
 ghost use Rattle.kept_pages.specs.Houses.{Steady, Reads};
-ghost use Rattle.kept_pages.specs.Joins.{IsWhole, TakesFragment, Joins};
+ghost use Rattle.kept_pages.specs.Joins.{IsWhole, TakesFragment, in_shared, Joins};
 ghost use Rattle.kept_pages.specs.Needed.{Visits, OfFragment, NeededBelow, NeededInFrame, InFrame, OfFrame};
 ghost use Rattle.kept_pages.specs.Held.{Tells, BuiltUp};
 
@@ -98,7 +98,7 @@ fn add_shared_parts<H: House>(
 ) -> Result<(), AllocError>
     requires { Reads (H.sees house.old) reader.now }
     ensures steady { Steady (H.sees house.old) (H.sees house.new) }
-    ensures joins { OnOk result (Joins (for_everybody (shown_below 5)) (visit reader.now) (pieces_of (parts_of parts.now)) filled.old.joined filled.new.joined) }
+    ensures joins { OnOk result (Joins in_shared (visit reader.now) (pieces_of (parts_of parts.now)) filled.old.joined filled.new.joined) }
     ensures told { OnOk result (Tells reader.now (Visits (NeededInFrame (visit reader.now)) (open_places (pieces_of (parts_of parts.now)))) (H.sees house.old) (H.sees house.new) filled.old.built filled.new.built) }
 {
     for part in parts {
@@ -117,7 +117,7 @@ fn add_shared_part<H: House>(
 ) -> Result<(), AllocError>
     requires { Reads (H.sees house.old) reader.now }
     ensures steady { Steady (H.sees house.old) (H.sees house.new) }
-    ensures joins { OnOk result (Joins (for_everybody (shown_below 5)) (visit reader.now) (pieces_of (part_of part.now ∷ [])) filled.old.joined filled.new.joined) }
+    ensures joins { OnOk result (Joins in_shared (visit reader.now) (pieces_of (part_of part.now ∷ [])) filled.old.joined filled.new.joined) }
     ensures told { OnOk result (Tells reader.now (Visits (NeededInFrame (visit reader.now)) (open_places (pieces_of (part_of part.now ∷ [])))) (H.sees house.old) (H.sees house.new) filled.old.built filled.new.built) }
 {
     match part {
@@ -136,7 +136,7 @@ fn add_shared_place<H: House>(
 ) -> Result<(), AllocError>
     requires { Reads (H.sees house.old) reader.now }
     ensures steady { Steady (H.sees house.old) (H.sees house.new) }
-    ensures joins { OnOk result (Joins (for_everybody (shown_below 5)) (visit reader.now) (Place hole.now ∷ []) filled.old.joined filled.new.joined) }
+    ensures joins { OnOk result (Joins in_shared (visit reader.now) (Place hole.now ∷ []) filled.old.joined filled.new.joined) }
     ensures told { OnOk result (Tells reader.now (Visits (NeededInFrame (visit reader.now)) (hole.now ∷ [])) (H.sees house.old) (H.sees house.new) filled.old.built filled.new.built) }
 {
     match hole {

@@ -1,7 +1,10 @@
 //! How many elements are built for the pages of a connection.
 
+use crate::replayed::in_order;
 use cacheability::Name;
-use content_rows::{Cell, FieldValue, Items, Node, Row, Seq, Session, Text, starter};
+use content_rows::{
+    Block, BlockKind, Cell, FieldValue, Items, Node, Region, Row, Seq, Session, Text, starter,
+};
 use content_state::{Rows, State};
 use site_cli::{alone_with, rows_of};
 use site_http::serve_connection;
@@ -65,8 +68,43 @@ fn set(alloc: Global, rows: &mut Rows, cell: Cell, row: Row) -> Result<(), Alloc
     Ok(())
 }
 
-// The new site with a second node, and a session `abc` of its first user.
-fn rows(alloc: Global) -> Result<Rows, AllocError> {
+// What stands on each page beside its content.
+#[derive(Clone, Copy)]
+enum Placed {
+    Nothing,
+    // In the header, who is logged in.
+    Greeting,
+    // Aside, the time, which may be shown so many seconds.
+    Clock(u32),
+}
+
+// The block that stands on each page.
+fn block(alloc: Global, kind: BlockKind, age: Option<u32>, region: Region) -> Row {
+    Row::Block(Block {
+        age,
+        hide: false,
+        kind,
+        label: Text::from_vec(Vec::new(alloc)),
+        name: None,
+        paths: Items::none(alloc),
+        region,
+        roles: Items::none(alloc),
+        text: None,
+        weight: 0,
+    })
+}
+
+fn place(alloc: Global, rows: &mut Rows, placed: Placed) -> Result<(), AllocError> {
+    let row = match placed {
+        Placed::Nothing => return Ok(()),
+        Placed::Greeting => block(alloc, BlockKind::Greeting, None, Region::Header),
+        Placed::Clock(age) => block(alloc, BlockKind::Clock, Some(age), Region::Aside),
+    };
+    set(alloc, rows, Cell::Block(name(b"one")?), row)
+}
+
+// The new site with a second node, a session `abc` of its first user, and what stands on each page.
+fn rows(alloc: Global, placed: Placed) -> Result<Rows, AllocError> {
     let mut rows = rows_of(alloc, starter(alloc)?)?;
     set(alloc, &mut rows, Cell::Node(2), second(alloc)?)?;
     let seq = Seq {
@@ -81,20 +119,40 @@ fn rows(alloc: Global) -> Result<Rows, AllocError> {
     };
     let cell = Cell::Session(name(b"abc")?);
     set(alloc, &mut rows, cell, Row::Session(session))?;
+    place(alloc, &mut rows, placed)?;
     Ok(rows)
 }
 
-// How many elements are built for the pages that are asked for on a connection over that site.
-fn built(rt: &HostRuntime, input: &[u8]) -> Result<[u64; 8], AllocError> {
+// Requests over a site at these moments, how many elements are built for each reply, and pieces of the replies, in order.
+#[derive(Drop)]
+struct Case {
+    placed: Placed,
+    moments: &'static [u64],
+    requests: &'static [&'static str],
+    built: [u64; 8],
+    pieces: &'static [&'static str],
+}
+
+// The requests, one after the other.
+fn input(alloc: Global, requests: &[&str]) -> Result<Vec<u8>, AllocError> {
+    let mut bytes = Vec::new(alloc);
+    for request in requests {
+        bytes.extend_from_slice(request.as_bytes())?;
+    }
+    Ok(bytes)
+}
+
+// What a connection writes over such a site, and how many elements are built for each reply.
+fn served(rt: &HostRuntime, case: &Case) -> Result<(Vec<u8>, [u64; 8]), AllocError> {
     let alloc = rt.alloc();
-    let state = State::new(alloc, rows(alloc)?, Counts::new(alloc), 0)?;
+    let state = State::new(alloc, rows(alloc, case.placed)?, Counts::new(alloc), 0)?;
     if !state.is_valid(alloc)? {
         return Err(AllocError);
     }
     let mut house = alone_with(alloc, &state)?;
-    let mut source = MemorySource::new(Vec::from_slice(alloc, input)?, 64);
+    let mut source = MemorySource::new(input(alloc, case.requests)?, 64);
     let mut sink = MemorySink::new(alloc, 400_000)?;
-    let mut clock = ListClock::new(Vec::from_slice(alloc, &[1000])?);
+    let mut clock = ListClock::new(Vec::from_slice(alloc, case.moments)?);
     let mut entropy = ListEntropy::new(Vec::new(alloc));
     let mut gate = Noting {
         built: [0; 8],
@@ -113,31 +171,134 @@ fn built(rt: &HostRuntime, input: &[u8]) -> Result<[u64; 8], AllocError> {
     if ended != Ended::Closed {
         return Err(AllocError);
     }
-    Ok(gate.built)
+    Ok((Vec::from_slice(alloc, sink.bytes())?, gate.built))
 }
 
-// Each case: what is asked for, and how many elements are built for each reply.
+const PAGE: &str = "GET /node/1 HTTP/1.1\r\nHost: a\r\n\r\n";
 
-// The page itself is built each time; its node is kept, for visitors, and for whom all is permitted.
-const NODES: &[u8] =
-    b"GET /node/1 HTTP/1.1\r\nHost: a\r\n\r\nGET /node/1 HTTP/1.1\r\nHost: a\r\n\r\nGET /node/1 HTTP/1.1\r\nHost: a\r\nCookie: SESS=abc\r\n\r\nGET /node/1 HTTP/1.1\r\nHost: a\r\nCookie: SESS=abc\r\n\r\n";
+const BY_ABC: &str = "GET /node/1 HTTP/1.1\r\nHost: a\r\nCookie: SESS=abc\r\n\r\n";
 
-// The front page with two nodes, again, and once more after an edit of the first of them.
-const FRONT: &[u8] =
-    b"GET /node HTTP/1.1\r\nHost: a\r\n\r\nGET /node HTTP/1.1\r\nHost: a\r\n\r\nPATCH /node/1 HTTP/1.1\r\nHost: a\r\nCookie: SESS=abc\r\nX-CSRF-Token: ba7816bf8f01cfea414140de5dae2223\r\nContent-Type: application/json\r\nContent-Length: 21\r\n\r\n{\"title\":\"A\",\"vid\":1}GET /node HTTP/1.1\r\nHost: a\r\n\r\nGET /node HTTP/1.1\r\nHost: a\r\n\r\n";
+const FRONT: &str = "GET /node HTTP/1.1\r\nHost: a\r\n\r\n";
 
-// A page, again, and once more after all that is kept was let go.
-const REBUILT: &[u8] =
-    b"GET /node/1 HTTP/1.1\r\nHost: a\r\n\r\nGET /node/1 HTTP/1.1\r\nHost: a\r\n\r\nPOST /cache/rebuild HTTP/1.1\r\nHost: a\r\nCookie: SESS=abc\r\nX-CSRF-Token: ba7816bf8f01cfea414140de5dae2223\r\n\r\nGET /node/1 HTTP/1.1\r\nHost: a\r\n\r\nGET /node/1 HTTP/1.1\r\nHost: a\r\n\r\n";
+const NOWHERE: &str = "GET /node/9 HTTP/1.1\r\nHost: a\r\n\r\n";
+
+const EDIT: &str =
+    "PATCH /node/1 HTTP/1.1\r\nHost: a\r\nCookie: SESS=abc\r\nX-CSRF-Token: ba7816bf8f01cfea414140de5dae2223\r\nContent-Type: application/json\r\nContent-Length: 21\r\n\r\n{\"title\":\"A\",\"vid\":1}";
+
+const REBUILD: &str =
+    "POST /cache/rebuild HTTP/1.1\r\nHost: a\r\nCookie: SESS=abc\r\nX-CSRF-Token: ba7816bf8f01cfea414140de5dae2223\r\n\r\n";
 
 #[test]
 fn what_is_kept_is_not_built(rt: HostRuntime) {
-    let cases: [(&[u8], [u64; 8]); 3] = [
-        (NODES, [2, 1, 2, 1, 0, 0, 0, 0]),
-        (FRONT, [4, 1, 0, 3, 1, 0, 0, 0]),
-        (REBUILT, [2, 1, 0, 2, 1, 0, 0, 0]),
+    let cases = [
+        // A page, for visitors, and for whom all is permitted.
+        Case {
+            placed: Placed::Nothing,
+            moments: &[1000],
+            requests: &[PAGE, PAGE, BY_ABC, BY_ABC],
+            built: [2, 0, 2, 0, 0, 0, 0, 0],
+            pieces: &[],
+        },
+        // A page that leads nowhere.
+        Case {
+            placed: Placed::Nothing,
+            moments: &[1000],
+            requests: &[NOWHERE, NOWHERE],
+            built: [1, 0, 0, 0, 0, 0, 0, 0],
+            pieces: &["404 Not Found", "404 Not Found"],
+        },
+        // The front page with two nodes, again, and once more after an edit of the first of them.
+        Case {
+            placed: Placed::Nothing,
+            moments: &[1000],
+            requests: &[FRONT, FRONT, EDIT, FRONT, FRONT],
+            built: [4, 0, 0, 3, 0, 0, 0, 0],
+            pieces: &[],
+        },
+        // A page, again, and once more after all that is kept was let go.
+        Case {
+            placed: Placed::Nothing,
+            moments: &[1000],
+            requests: &[PAGE, PAGE, REBUILD, PAGE, PAGE],
+            built: [2, 0, 0, 2, 0, 0, 0, 0],
+            pieces: &[],
+        },
+        // Nobody is greeted as somebody else.
+        Case {
+            placed: Placed::Greeting,
+            moments: &[1000],
+            requests: &[PAGE, PAGE, BY_ABC, BY_ABC, PAGE],
+            built: [3, 0, 3, 0, 0, 0, 0, 0],
+            pieces: &[
+                "Content-Length: 330\r\n",
+                "Content-Length: 330\r\n",
+                "Content-Length: 310\r\n",
+                "<p>Hello, admin</p>",
+                "Content-Length: 310\r\n",
+                "<p>Hello, admin</p>",
+                "Content-Length: 330\r\n",
+            ],
+        },
+        // What may be shown at its own moment alone is built for each page that is kept but for it.
+        Case {
+            placed: Placed::Clock(0),
+            moments: &[1000, 1001, 1002],
+            requests: &[PAGE, PAGE, PAGE],
+            built: [3, 1, 1, 0, 0, 0, 0, 0],
+            pieces: &[
+                "<time>1970-01-01T00:16:40Z</time>",
+                "<time>1970-01-01T00:16:41Z</time>",
+                "<time>1970-01-01T00:16:42Z</time>",
+            ],
+        },
+        // A clock that went back.
+        Case {
+            placed: Placed::Nothing,
+            moments: &[100, 90],
+            requests: &[PAGE, PAGE],
+            built: [2, 2, 0, 0, 0, 0, 0, 0],
+            pieces: &[],
+        },
     ];
-    for (input, counts) in cases {
-        assert!(rt; built(&rt, input).expect(&rt, "memory") == counts);
+    for case in &cases {
+        let (text, built) = served(&rt, case).expect(&rt, "memory");
+        assert!(rt; built == case.built);
+        assert!(rt; in_order(&text, case.pieces));
+    }
+}
+
+#[test]
+fn a_page_lasts_as_long_as_what_it_shows(rt: HostRuntime) {
+    let cases = [
+        Case {
+            placed: Placed::Clock(60),
+            moments: &[1000, 1060, 1061],
+            requests: &[PAGE, PAGE, PAGE],
+            built: [0; 8],
+            pieces: &[
+                "Content-Length: 361\r\n",
+                "<time>1970-01-01T00:16:40Z</time>",
+                "Content-Length: 361\r\n",
+                "<time>1970-01-01T00:16:40Z</time>",
+                "<time>1970-01-01T00:17:41Z</time>",
+            ],
+        },
+        // The text is kept at moment 50, and the page that it stands on at 100.
+        Case {
+            placed: Placed::Clock(60),
+            moments: &[50, 100, 110, 111],
+            requests: &[FRONT, PAGE, PAGE, PAGE],
+            built: [0; 8],
+            pieces: &[
+                "<time>1970-01-01T00:00:50Z</time>",
+                "<time>1970-01-01T00:00:50Z</time>",
+                "<time>1970-01-01T00:00:50Z</time>",
+                "<time>1970-01-01T00:01:51Z</time>",
+            ],
+        },
+    ];
+    for case in &cases {
+        let (text, _) = served(&rt, case).expect(&rt, "memory");
+        assert!(rt; in_order(&text, case.pieces));
     }
 }

@@ -100,7 +100,7 @@ fn written<R: Threads + Wait + Sync>(
 }
 
 /// Whether these pieces stand in a text, one after the other.
-fn in_order(text: &[u8], pieces: &[&str]) -> bool {
+pub fn in_order(text: &[u8], pieces: &[&str]) -> bool {
     let mut from = 0;
     for piece in pieces {
         let rest = text.get(from..).unwrap_or(&[]);

@@ -1,8 +1,7 @@
 use Rattle.std.specs.Arc.{arc_value}
 use Rattle.std.proofs.lemmas.Result.{on_ok_weaker}
-use Rattle.page_meaning.specs.Meaning.{for_everybody}
-use Rattle.render_array.specs.Whole.{shown_below}
 use Rattle.element_entries.specs.Keys.{visit}
+use Rattle.kept_pages.specs.Joins.{in_shared}
 use Rattle.kept_pages.specs.Needed.{NeededInFrame}
 use Rattle.kept_pages.proofs.Counting.{told_bytes}
 use Rattle.kept_pages.proofs.Parts.{joins_bytes, on_ok_any}
@@ -10,7 +9,7 @@ use Rattle.kept_pages.proofs.frames.add_shared_part.Goals as goal
 
 pub returns-in-Bytes-clause-joins : goal.returns-in-Bytes-clause-joins
 returns-in-Bytes-clause-joins g c =
-    rw c.in-Bytes.is (on_ok_weaker c.add_bytes.result (joins_bytes (for_everybody (shown_below 5)) _ _ _ _) c.add_bytes.ensures)
+    rw c.in-Bytes.is (on_ok_weaker c.add_bytes.result (joins_bytes in_shared _ _ _ _) c.add_bytes.ensures)
 
 pub returns-in-Bytes-clause-told : goal.returns-in-Bytes-clause-told
 returns-in-Bytes-clause-told g c =

@@ -1,8 +1,7 @@
-use Rattle.page_meaning.specs.Meaning.{for_everybody}
 use Rattle.render_array.specs.declared.element.Element.TheVariants as element
 use Rattle.render_array.specs.Built.{plan_of}
-use Rattle.render_array.specs.Whole.{shown_below}
 use Rattle.element_entries.specs.Keys.{visit}
+use Rattle.kept_pages.specs.Joins.{in_shared}
 use Rattle.kept_pages.specs.Needed.{NeededInFrame}
 use Rattle.kept_pages.proofs.Counting.{begun_told}
 use Rattle.kept_pages.proofs.Parts.{begun_whole}
@@ -10,7 +9,7 @@ use Rattle.kept_pages.proofs.frames.build_frame.Goals as goal
 
 pub returns-clause-whole : goal.returns-clause-whole
 returns-clause-whole g c =
-    begun_whole (for_everybody (shown_below 5)) (visit c.args.reader.now) (plan_of c.args.reader.now.ask.now.path element.Page) _ c.add_shared_parts.new.filled.joined c.in_ok-segments.ensures
+    begun_whole in_shared (visit c.args.reader.now) (plan_of c.args.reader.now.ask.now.path element.Page) _ c.add_shared_parts.new.filled.joined c.in_ok-segments.ensures
     (rw c.parts.ensures at c.in_ok-add_shared_parts.ensures.joins)
 
 pub returns-clause-told : goal.returns-clause-told
