@@ -17,7 +17,7 @@ use Rattle.render_canvas.specs.Board.{pieces_of}
 use Rattle.render_array.specs.Built.{Builds}
 use Rattle.render_canvas.specs.Finished.{needs_of as needs_built}
 use Rattle.render_canvas.specs.Canvas.{Keeps}
-use Rattle.render_array.specs.Whole.{shown_below, count_below, count_with}
+use Rattle.render_array.specs.Whole.{count_with}
 use Rattle.render_canvas.proofs.BoardLaws.{finished, pieces_of-append, places-append, places_of_bytes}
 use Rattle.render_canvas.proofs.Run.{Keeps-refl, Keeps-trans, Made-kept}
 use Rattle.renderer.specs.declared.filled.Filled.{Filled}
@@ -82,8 +82,8 @@ sum_of c a b s is = omega arith
 one_place : (f : Hole → ℕ) (h : Hole) → sum_by f (h ∷ []) ≡ f h
 one_place f h = let one = sum_by-cons f h [] in let none : sum_by f [] ≡ 0 = refl in omega arith
 
-pub joins_none : (below : ℕ) (v : Visit) (f : Filled) → Joins below v [] f f
-joins_none below v f = record {
+pub joins_none : (fill : Filling) (counts : Hole → ℕ) (v : Visit) (f : Filled) → Joins fill counts v [] f f
+joins_none fill counts v f = record {
   shown = [];
   attached = [];
   appended = sym (append-nil (pieces_of f.segments));
@@ -95,8 +95,8 @@ joins_none below v f = record {
   counted = λ count is. is ∙ min_zero count;
 }
 
-joins_then : (below : ℕ) (v : Visit) (a b : List Piece) (old mid new : Filled) → Joins below v a old mid → Joins below v b mid new → Joins below v (a ++ b) old new
-joins_then below v a b old mid new first second = record {
+joins_then : (fill : Filling) (counts : Hole → ℕ) (v : Visit) (a b : List Piece) (old mid new : Filled) → Joins fill counts v a old mid → Joins fill counts v b mid new → Joins fill counts v (a ++ b) old new
+joins_then fill counts v a b old mid new first second = record {
   shown = first.shown ++ second.shown;
   attached = first.attached ++ second.attached;
   appended = second.appended ∙ ap (λ p. p ++ second.shown) first.appended ∙ append_assoc (pieces_of old.segments) first.shown second.shown;
@@ -106,10 +106,10 @@ joins_then below v a b old mid new first second = record {
   kept = Keeps-trans (needs_of old) (needs_of mid) (needs_of new) first.kept second.kept;
   not_over = λ h. second.not_over (first.not_over h);
   status = second.status ∙ first.status;
-  fills = fills_append (shown_below below) v (needs_of new) a b first.shown second.shown first.attached second.attached
-      (fills_kept (shown_below below) v (needs_of mid) (needs_of new) a first.shown first.attached second.kept first.fills) second.fills;
+  fills = fills_append fill v (needs_of new) a b first.shown second.shown first.attached second.attached
+      (fills_kept fill v (needs_of mid) (needs_of new) a first.shown first.attached second.kept first.fills) second.fills;
   counted = λ count is.
-      second.counted (count + sum_by (count_below below v) (open_places a)) (first.counted count is)
+      second.counted (count + sum_by counts (open_places a)) (first.counted count is)
       ∙ ap (λ n. min n 18446744073709551615) (total count);
 }
   where
@@ -119,10 +119,10 @@ joins_then below v a b old mid new first second = record {
       back = λ x h. elim (in_append ys zs x h) [ inl g ↦ in_left xs zs x (same.back x g) | inr g ↦ in_right xs zs x g ];
     }
 
-    total : (count : ℕ) → (count + sum_by (count_below below v) (open_places a)) + sum_by (count_below below v) (open_places b) ≡ count + sum_by (count_below below v) (open_places (a ++ b))
+    total : (count : ℕ) → (count + sum_by counts (open_places a)) + sum_by counts (open_places b) ≡ count + sum_by counts (open_places (a ++ b))
     total count =
-        sum_of count (sum_by (count_below below v) (open_places a)) (sum_by (count_below below v) (open_places b)) (sum_by (count_below below v) (open_places (a ++ b)))
-        (ap (sum_by (count_below below v)) (places-append a b) ∙ sum_by-append (count_below below v) (open_places a) (open_places b))
+        sum_of count (sum_by counts (open_places a)) (sum_by counts (open_places b)) (sum_by counts (open_places (a ++ b)))
+        (ap (sum_by counts) (places-append a b) ∙ sum_by-append counts (open_places a) (open_places b))
 
 pub keeps_same : (old new : Filled) → new.cacheability ≡ old.cacheability → new.last ≡ old.last → Keeps (needs_of old) (needs_of new)
 keeps_same old new cacheability last = record {
@@ -137,8 +137,8 @@ same_with_none old new e =
     (subst (λ l. SameMembers old.libraries.items l) (sym (append-nil old.libraries.items)) (same_refl old.libraries.items))
 
 -- bytes
-pub joins_bytes : (below : ℕ) (v : Visit) (bs : List ℕ) (old new : Filled) → Appends (bytes bs) old new → Joins below v (bytes bs ++ []) old new
-joins_bytes below v bs old new a = subst (λ p. Joins below v p old new) (sym (append-nil (bytes bs))) (record {
+pub joins_bytes : (fill : Filling) (counts : Hole → ℕ) (v : Visit) (bs : List ℕ) (old new : Filled) → Appends (bytes bs) old new → Joins fill counts v (bytes bs ++ []) old new
+joins_bytes fill counts v bs old new a = subst (λ p. Joins fill counts v p old new) (sym (append-nil (bytes bs))) (record {
   shown = bytes bs;
   attached = [];
   appended = a.appended;
@@ -146,14 +146,14 @@ joins_bytes below v bs old new a = subst (λ p. Joins below v p old new) (sym (a
   kept = keeps_same old new a.cacheability a.last;
   not_over = λ h. (let last = a.last in omega arith);
   status = a.status;
-  fills = fills_bytes (shown_below below) v (needs_of new) bs;
+  fills = fills_bytes fill v (needs_of new) bs;
   counted = λ count is. a.built ∙ is ∙ min_zero count
-      ∙ ap (λ n. min (count + n) 18446744073709551615) (sym (ap (sum_by (count_below below v)) (places_of_bytes bs)));
+      ∙ ap (λ n. min (count + n) 18446744073709551615) (sym (ap (sum_by counts) (places_of_bytes bs)));
 })
 
 -- a place that stays open
-pub joins_open : (below : ℕ) (v : Visit) (h : Hole) (old new : Filled) → shown_below below h ≡ None → count_below below v h ≡ 0 → Appends (Place h ∷ []) old new → Joins below v (Place h ∷ []) old new
-joins_open below v h old new fill count a = record {
+pub joins_open : (fill : Filling) (counts : Hole → ℕ) (v : Visit) (h : Hole) (old new : Filled) → fill h ≡ None → counts h ≡ 0 → Appends (Place h ∷ []) old new → Joins fill counts v (Place h ∷ []) old new
+joins_open fill counts v h old new open count a = record {
   shown = Place h ∷ [];
   attached = [];
   appended = a.appended;
@@ -161,14 +161,14 @@ joins_open below v h old new fill count a = record {
   kept = keeps_same old new a.cacheability a.last;
   not_over = λ x. (let last = a.last in omega arith);
   status = a.status;
-  fills = subst (λ o. FillsPlace o v (needs_of new) h (Fills (shown_below below) v (needs_of new) []) (Place h ∷ []) []) (sym fill) (record { rest = []; shown_is = refl; follows = (refl, refl) });
+  fills = subst (λ o. FillsPlace o v (needs_of new) h (Fills fill v (needs_of new) []) (Place h ∷ []) []) (sym open) (record { rest = []; shown_is = refl; follows = (refl, refl) });
   counted = λ total is. a.built ∙ is ∙ min_zero total
-      ∙ ap (λ n. min (total + n) 18446744073709551615) (sym (one_place (count_below below v) h ∙ count));
+      ∙ ap (λ n. min (total + n) 18446744073709551615) (sym (one_place counts h ∙ count));
 }
 
 -- a child
-pub joins_child : (below : ℕ) (v : Visit) (h : Hole) (p : Plan (Option ℕ)) (count : ℕ) (child old new : Filled) → shown_below below h ≡ Some p → count_below below v h ≡ count → IsWhole p v count child → Takes child old new → Joins below v (Place h ∷ []) old new
-joins_child below v h p count child old new fill count_is whole takes = record {
+pub joins_child : (fill : Filling) (counts : Hole → ℕ) (v : Visit) (h : Hole) (p : Plan (Option ℕ)) (count : ℕ) (child old new : Filled) → fill h ≡ Some p → counts h ≡ count → IsWhole p v count child → Takes child old new → Joins fill counts v (Place h ∷ []) old new
+joins_child fill counts v h p count child old new stands count_is whole takes = record {
   shown = pieces_of child.segments;
   attached = made.attached;
   appended = ap pieces_of takes.appended ∙ pieces_of-append old.segments child.segments;
@@ -177,7 +177,7 @@ joins_child below v h p count child old new fill count_is whole takes = record {
   kept = record { tags = λ t g. (takes.tags t).1 (inl g); contexts = λ c g. (takes.contexts c).1 (inl g); last = (let last = takes.last in omega arith) };
   not_over = λ x. (let last = takes.last in let child_last = whole.not_over in omega arith);
   status = takes.status;
-  fills = subst (λ o. FillsPlace o v (needs_of new) h (Fills (shown_below below) v (needs_of new) []) (pieces_of child.segments) made.attached) (sym fill) (record {
+  fills = subst (λ o. FillsPlace o v (needs_of new) h (Fills fill v (needs_of new) []) (pieces_of child.segments) made.attached) (sym stands) (record {
     own = pieces_of child.segments;
     libraries = made.attached;
     rest = [];
@@ -190,7 +190,7 @@ joins_child below v h p count child old new fill count_is whole takes = record {
     follows = (refl, refl);
   });
   counted = λ total is. total_of new.built old.built child.built total count takes.built is whole.counted
-      ∙ ap (λ n. min (total + n) 18446744073709551615) (sym (one_place (count_below below v) h ∙ count_is));
+      ∙ ap (λ n. min (total + n) 18446744073709551615) (sym (one_place counts h ∙ count_is));
 }
   where
     made : MakesWhole p v child.status (pieces_of child.segments) child.libraries.items (needs_of child)
@@ -204,35 +204,35 @@ parts_append ss s = ap pieces_of (mapped ss) ∙ pieces_of-append (parts_of ss) 
     mapped [] = refl
     mapped (t ∷ ts) = ap (λ l. part_of t ∷ l) (mapped ts)
 
-pub joins_part : (below : ℕ) (v : Visit) (ss : List (Segment Hole)) (i : ℕ) (s : Segment Hole) (old mid new : Filled) → i < length ss → s ≡ get_or ss i s → Joins below v (pieces_of (parts_of (take i ss))) old mid → Joins below v (pieces_of (part_of s ∷ [])) mid new → Joins below v (pieces_of (parts_of (take (i + 1) ss))) old new
-joins_part below v ss i s old mid new within is first second =
+pub joins_part : (fill : Filling) (counts : Hole → ℕ) (v : Visit) (ss : List (Segment Hole)) (i : ℕ) (s : Segment Hole) (old mid new : Filled) → i < length ss → s ≡ get_or ss i s → Joins fill counts v (pieces_of (parts_of (take i ss))) old mid → Joins fill counts v (pieces_of (part_of s ∷ [])) mid new → Joins fill counts v (pieces_of (parts_of (take (i + 1) ss))) old new
+joins_part fill counts v ss i s old mid new within is first second =
     rw ((take_at_read ss i s within).1)
-    (subst (λ p. Joins below v p old new) (sym (parts_append (take i ss) (get_or ss i s)))
-    (joins_then below v (pieces_of (parts_of (take i ss))) (pieces_of (part_of (get_or ss i s) ∷ [])) old mid new first
-    (subst (λ t. Joins below v (pieces_of (part_of t ∷ [])) mid new) is second)))
+    (subst (λ p. Joins fill counts v p old new) (sym (parts_append (take i ss) (get_or ss i s)))
+    (joins_then fill counts v (pieces_of (parts_of (take i ss))) (pieces_of (part_of (get_or ss i s) ∷ [])) old mid new first
+    (subst (λ t. Joins fill counts v (pieces_of (part_of t ∷ [])) mid new) is second)))
 
-pub joins_all : (below : ℕ) (v : Visit) (ss : List (Segment Hole)) (i : ℕ) (old new : Filled) → Joins below v (pieces_of (parts_of (take i ss))) old new → length ss ≤ i → Joins below v (pieces_of (parts_of ss)) old new
-joins_all below v ss i old new joins over = subst (λ l. Joins below v (pieces_of (parts_of l)) old new) (take_all i ss over) joins
+pub joins_all : (fill : Filling) (counts : Hole → ℕ) (v : Visit) (ss : List (Segment Hole)) (i : ℕ) (old new : Filled) → Joins fill counts v (pieces_of (parts_of (take i ss))) old new → length ss ≤ i → Joins fill counts v (pieces_of (parts_of ss)) old new
+joins_all fill counts v ss i old new joins over = subst (λ l. Joins fill counts v (pieces_of (parts_of l)) old new) (take_all i ss over) joins
 
 -- what was built, its places filled in, is whole
-pub whole_of : (below : ℕ) (v : Visit) (p : Plan (Option ℕ)) (b : Built) (old new : Filled) → Builds p v b → pieces_of old.segments ≡ [] → old.libraries.items ≡ b.libraries → old.cacheability ≡ b.cacheability → old.last ≡ b.last → old.status ≡ b.status → old.built ≡ 1 → Joins below v (pieces_of b.segments) old new → IsWhole (filled_in (shown_below below) p) v (count_with (count_below below v) v p) new
-whole_of below v p b old new builds segments libraries cacheability last status one joins = record {
+pub whole_of : (fill : Filling) (counts : Hole → ℕ) (v : Visit) (p : Plan (Option ℕ)) (b : Built) (old new : Filled) → Builds p v b → pieces_of old.segments ≡ [] → old.libraries.items ≡ b.libraries → old.cacheability ≡ b.cacheability → old.last ≡ b.last → old.status ≡ b.status → old.built ≡ 1 → Joins fill counts v (pieces_of b.segments) old new → IsWhole (filled_in fill p) v (count_with counts v p) new
+whole_of fill counts v p b old new builds segments libraries cacheability last status one joins = record {
   makes = record {
     attached = makes.attached;
-    made = subst (λ s. Made (filled_in (shown_below below) p) v s (pieces_of new.segments) makes.attached (needs_of new)) (sym (joins.status ∙ status))
-        (subst (λ s. Made (filled_in (shown_below below) p) v b.status s makes.attached (needs_of new)) (sym shown_is) makes.made);
+    made = subst (λ s. Made (filled_in fill p) v s (pieces_of new.segments) makes.attached (needs_of new)) (sym (joins.status ∙ status))
+        (subst (λ s. Made (filled_in fill p) v b.status s makes.attached (needs_of new)) (sym shown_is) makes.made);
     same = same_trans makes.attached (b.libraries ++ joins.attached) new.libraries.items makes.same
         (subst (λ l. SameMembers (l ++ joins.attached) new.libraries.items) libraries (record { there = joins.libraries.back; back = joins.libraries.there }));
   };
   not_over = joins.not_over (let same = last in let over = builds.not_over in omega arith);
-  counted = joins.counted 1 one ∙ ap (λ l. min (1 + sum_by (count_below below v) l) 18446744073709551615) builds.places;
+  counted = joins.counted 1 one ∙ ap (λ l. min (1 + sum_by counts l) 18446744073709551615) builds.places;
 }
   where
     kept : Keeps (needs_built b) (needs_of new)
     kept = subst (λ (n : Needs). Keeps n (needs_of new)) (λ i. record { tags = (cacheability i).tags; contexts = (cacheability i).contexts; last = last i }) joins.kept
 
-    makes : MakesWhole (filled_in (shown_below below) p) v b.status joins.shown (b.libraries ++ joins.attached) (needs_of new)
-    makes = filled (shown_below below) p v b.status (pieces_of b.segments) b.libraries (needs_of new) joins.shown joins.attached
+    makes : MakesWhole (filled_in fill p) v b.status joins.shown (b.libraries ++ joins.attached) (needs_of new)
+    makes = filled fill p v b.status (pieces_of b.segments) b.libraries (needs_of new) joins.shown joins.attached
         (Made-kept p v b.status (pieces_of b.segments) b.libraries (needs_built b) (needs_of new) kept builds.made) joins.fills
 
     shown_is : pieces_of new.segments ≡ joins.shown

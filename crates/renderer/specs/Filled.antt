@@ -7,12 +7,12 @@ use Rattle.content_state.specs.declared.element.Hole.TheVariants as hole
 use Rattle.content_state.specs.declared.element.Library.{Library}
 use Rattle.content_state.specs.Context.{Visit}
 use Rattle.content_state.specs.Plan.{Piece, Plan, Needs}
-use Rattle.content_state.specs.Places.{open_places, Fills, SameMembers, MakesWhole}
+use Rattle.content_state.specs.Places.{Filling, open_places, Fills, SameMembers, MakesWhole}
 use Rattle.render_array.specs.declared.element.Element.{Element}
 use Rattle.render_array.specs.declared.element.Element.TheVariants as element
 use Rattle.render_canvas.specs.Board.{pieces_of}
 use Rattle.render_canvas.specs.Canvas.{Keeps}
-use Rattle.render_array.specs.Whole.{level, shown_below, count_below}
+use Rattle.render_array.specs.Whole.{level}
 use Rattle.renderer.specs.declared.filled.Filled.{Filled}
 
 -- the element that stands in a place; the libraries are none
@@ -54,9 +54,9 @@ pub record Takes (child old new : Filled) : Type 0 where
   pub status : new.status ≡ old.status
   pub built : new.built ≡ min (old.built + child.built) 18446744073709551615
 
--- The outer pieces of an element of a level are appended, their places filled in: what was needed stays needed, and the
--- elements that were built for the places are counted.
-pub record Joins (below : ℕ) (v : Visit) (outer : List Piece) (old new : Filled) : Type 0 where
+-- Outer pieces are appended, their places filled in: what was needed stays needed, and the elements that were built for the
+-- places, so many for each, are counted.
+pub record Joins (fill : Filling) (count : Hole → ℕ) (v : Visit) (outer : List Piece) (old new : Filled) : Type 0 where
   pub shown : List Piece
   pub attached : List Library
   pub appended : pieces_of new.segments ≡ pieces_of old.segments ++ shown
@@ -64,8 +64,8 @@ pub record Joins (below : ℕ) (v : Visit) (outer : List Piece) (old new : Fille
   pub kept : Keeps (needs_of old) (needs_of new)
   pub not_over : v.moment ≤ old.last → v.moment ≤ new.last
   pub status : new.status ≡ old.status
-  pub fills : Fills (shown_below below) v (needs_of new) outer shown attached
-  pub counted : (count : ℕ) → old.built ≡ min count 18446744073709551615 → new.built ≡ min (count + sum_by (count_below below v) (open_places outer)) 18446744073709551615
+  pub fills : Fills fill v (needs_of new) outer shown attached
+  pub counted : (n : ℕ) → old.built ≡ min n 18446744073709551615 → new.built ≡ min (n + sum_by count (open_places outer)) 18446744073709551615
 
 -- what stands in the place of a part of a page: its bytes, or the lines of the libraries; a place in which nothing
 -- stands shows nothing

@@ -5,7 +5,7 @@ ghost use Rattle.html_out.specs.Part.{Hole as Opening};
 ghost use Rattle.html_out.specs.Segment.{part_of, parts_of};
 ghost use Rattle.content_state.specs.Plan.{bytes, Place};
 ghost use Rattle.render_canvas.specs.Board.{pieces_of};
-ghost use Rattle.render_array.specs.Whole.{whole, element_level as level_of, element_count};
+ghost use Rattle.render_array.specs.Whole.{whole, shown_below, count_below, element_level as level_of, element_count};
 ghost use Rattle.renderer.specs.Filled.{IsWhole, Joins, Appends, Takes};
 
 use crate::levels::{child_at, element_level};
@@ -30,7 +30,7 @@ pub struct Filled {
 }
 
 /// Bytes behind what is there.
-fn add_bytes(filled: &mut Filled, shared: &Arc<Bytes>) -> Result<(), AllocError>
+pub fn add_bytes(filled: &mut Filled, shared: &Arc<Bytes>) -> Result<(), AllocError>
     ensures { OnOk result (Appends (bytes (arc_value shared.now)) filled.old filled.new) }
 {
     filled.segments.push(Arc::try_clone(shared)?)?;
@@ -46,7 +46,7 @@ fn push_hole<T: Copy + Drop>(segments: &mut Segments<T>, hole: &T) -> Result<(),
 }
 
 /// A place behind what is there, which stays open.
-fn leave_open(filled: &mut Filled, hole: &Hole) -> Result<(), AllocError>
+pub fn leave_open(filled: &mut Filled, hole: &Hole) -> Result<(), AllocError>
     ensures { OnOk result (Appends (Place hole.now ∷ []) filled.old filled.new) }
 {
     push_hole(&mut filled.segments, hole)?;
@@ -54,7 +54,7 @@ fn leave_open(filled: &mut Filled, hole: &Hole) -> Result<(), AllocError>
 }
 
 /// A child behind what is there.
-fn add_child(alloc: Global, filled: &mut Filled, child: &Filled) -> Result<(), AllocError>
+pub fn add_child(alloc: Global, filled: &mut Filled, child: &Filled) -> Result<(), AllocError>
     ensures { OnOk result (Takes child.now filled.old filled.new) }
 {
     filled.segments.append(&child.segments)?;
@@ -123,7 +123,7 @@ pub fn fill(
 
 /// The parts of an element of a level behind what is there, their places filled in.
 #[cycle(filling)]
-fn add_parts(
+pub fn add_parts(
     alloc: Global,
     state: &State,
     viewer: &Viewer,
@@ -133,7 +133,7 @@ fn add_parts(
     parts: &[Segment<Hole>],
     filled: &mut Filled,
 ) -> Result<(), AllocError>
-    ensures { OnOk result (Joins below (record { rows = state.now.rows; viewer = viewer.now; ask = ask.now; moment = now }) (pieces_of (parts_of parts.now)) filled.old filled.new) }
+    ensures { OnOk result (Joins (shown_below below) (count_below below (record { rows = state.now.rows; viewer = viewer.now; ask = ask.now; moment = now })) (record { rows = state.now.rows; viewer = viewer.now; ask = ask.now; moment = now }) (pieces_of (parts_of parts.now)) filled.old filled.new) }
 {
     for part in parts {
         add_part(alloc, state, viewer, ask, now, below, part, filled)?;
@@ -153,7 +153,7 @@ fn add_part(
     part: &Segment<Hole>,
     filled: &mut Filled,
 ) -> Result<(), AllocError>
-    ensures { OnOk result (Joins below (record { rows = state.now.rows; viewer = viewer.now; ask = ask.now; moment = now }) (pieces_of (part_of part.now ∷ [])) filled.old filled.new) }
+    ensures { OnOk result (Joins (shown_below below) (count_below below (record { rows = state.now.rows; viewer = viewer.now; ask = ask.now; moment = now })) (record { rows = state.now.rows; viewer = viewer.now; ask = ask.now; moment = now }) (pieces_of (part_of part.now ∷ [])) filled.old filled.new) }
 {
     match part {
         Segment::Bytes(shared) => add_bytes(filled, shared),

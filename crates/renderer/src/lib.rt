@@ -8,5 +8,6 @@ mod levels;
 mod page;
 
 pub use assembling::assembled;
+pub use filled::{Filled, add_bytes, add_child, add_parts, fill, leave_open};
 pub use levels::element_level;
 pub use page::{Page, page_on};
