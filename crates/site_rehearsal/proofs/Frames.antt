@@ -96,8 +96,8 @@ lazy_made name v old mid lazy needs tells held =
 -- ---- what stands in the places
 
 -- what is needed stays needed, and what tells whether the place stays open is needed besides
-pub record Told (v : Visit) (f : Fragment) (open : Bool) (old mid : Filled) : Type 0 where
-  pub open_is : open ≡ stays_open v f
+pub record Told (v : Visit) (f : Fragment) (left : Bool) (old mid : Filled) : Type 0 where
+  pub open_is : left ≡ stays_open v f
   pub tags : (t : Tag) → Contains old.cacheability.tags t → Contains mid.cacheability.tags t
   pub contexts : mid.cacheability.contexts ≡ old.cacheability.contexts
   pub segments : mid.segments ≡ old.segments
@@ -106,10 +106,10 @@ pub record Told (v : Visit) (f : Fragment) (open : Bool) (old mid : Filled) : Ty
   pub status : mid.status ≡ old.status
   pub built : mid.built ≡ old.built
   pub made : (p : Plan (Option ℕ)) (status : Option ℕ) (own : List Piece) (attached : List Library) (needs : Needs) → ((t : Tag) → Contains mid.cacheability.tags t → Contains needs.tags t)
-      → Made (open_if open f p) v status own attached needs → Made (shown_in_frame f p) v status own attached needs
+      → Made (open_if left f p) v status own attached needs → Made (shown_in_frame f p) v status own attached needs
 
-told_kept : (v : Visit) (f : Fragment) (open : Bool) (old mid : Filled) → open ≡ false → stays_open v f ≡ false → shown_in_frame f ≡ (λ p. p) → mid ≡ old → Told v f open old mid
-told_kept v f open old mid closed stays same is = record {
+told_kept : (v : Visit) (f : Fragment) (left : Bool) (old mid : Filled) → left ≡ false → stays_open v f ≡ false → shown_in_frame f ≡ (λ p. p) → mid ≡ old → Told v f left old mid
+told_kept v f left old mid closed stays same is = record {
   open_is = closed ∙ sym stays;
   tags = λ t h. subst (λ (x : Filled). Contains x.cacheability.tags t) (sym is) h;
   contexts = ap (λ (x : Filled). x.cacheability.contexts) is;
@@ -126,8 +126,8 @@ told_kept v f open old mid closed stays same is = record {
 abbrev with_needs : Filled → Cacheability → Filled
 with_needs old c = record old { cacheability = c }
 
-pub told_open : (state : State) (v : Visit) (f : Fragment) (open : Bool) (old : Filled) (c : Cacheability) → v.rows ≡ state.rows → TellsOpen state f old.cacheability open c → Told v f open old (with_needs old c)
-told_open state v (fragment.Block name) open old c rows tells = record {
+pub told_open : (state : State) (v : Visit) (f : Fragment) (left : Bool) (old : Filled) (c : Cacheability) → v.rows ≡ state.rows → TellsOpen state f old.cacheability left c → Told v f left old (with_needs old c)
+told_open state v (fragment.Block name) left old c rows tells = record {
   open_is = (tells v rows).result;
   tags = λ t h. ((tells v rows).tags t).1 (inl h);
   contexts = (tells v rows).contexts;
@@ -137,16 +137,16 @@ told_open state v (fragment.Block name) open old c rows tells = record {
   status = refl;
   built = refl;
   made = λ p status own attached needs held made.
-      Made-then (is_lazy name) (λ lazy. open_if lazy (fragment.Block name) p) v open status [] own [] attached needs
-      (lazy_made name v old.cacheability c open needs (tells v rows) held) made;
+      Made-then (is_lazy name) (λ lazy. open_if lazy (fragment.Block name) p) v left status [] own [] attached needs
+      (lazy_made name v old.cacheability c left needs (tells v rows) held) made;
 }
-told_open state v (fragment.Menu name) open old c rows tells = told_kept v (fragment.Menu name) open old (with_needs old c) tells.0 refl refl (ap (with_needs old) tells.1)
-told_open state v (fragment.Listing name where_placed) open old c rows tells = told_kept v (fragment.Listing name where_placed) open old (with_needs old c) tells.0 refl refl (ap (with_needs old) tells.1)
-told_open state v (fragment.TermListing t) open old c rows tells = told_kept v (fragment.TermListing t) open old (with_needs old c) tells.0 refl refl (ap (with_needs old) tells.1)
-told_open state v (fragment.Node n mode) open old c rows tells = told_kept v (fragment.Node n mode) open old (with_needs old c) tells.0 refl refl (ap (with_needs old) tells.1)
+told_open state v (fragment.Menu name) left old c rows tells = told_kept v (fragment.Menu name) left old (with_needs old c) tells.0 refl refl (ap (with_needs old) tells.1)
+told_open state v (fragment.Listing name where_placed) left old c rows tells = told_kept v (fragment.Listing name where_placed) left old (with_needs old c) tells.0 refl refl (ap (with_needs old) tells.1)
+told_open state v (fragment.TermListing t) left old c rows tells = told_kept v (fragment.TermListing t) left old (with_needs old c) tells.0 refl refl (ap (with_needs old) tells.1)
+told_open state v (fragment.Node n mode) left old c rows tells = told_kept v (fragment.Node n mode) left old (with_needs old c) tells.0 refl refl (ap (with_needs old) tells.1)
 
-told_keeps : (v : Visit) (f : Fragment) (open : Bool) (old mid : Filled) → Told v f open old mid → Keeps (needs_of old) (needs_of mid)
-told_keeps v f open old mid told = record {
+told_keeps : (v : Visit) (f : Fragment) (left : Bool) (old mid : Filled) → Told v f left old mid → Keeps (needs_of old) (needs_of mid)
+told_keeps v f left old mid told = record {
   tags = told.tags;
   contexts = λ c h. subst (λ l. Contains l c) (sym told.contexts) h;
   last = (let last = told.last in omega arith);
@@ -186,11 +186,11 @@ fills_one v needs f p status own attached is made =
     })
 
 -- one place alone
-counts_one : (v : Visit) (f : Fragment) (open : Bool) → open ≡ stays_open v f → sum_by (count_in_frame v) (hole.Fragment f ∷ []) ≡ (if open then 0 else count_below 5 v (hole.Fragment f))
-counts_one v f open is =
+counts_one : (v : Visit) (f : Fragment) (left : Bool) → left ≡ stays_open v f → sum_by (count_in_frame v) (hole.Fragment f ∷ []) ≡ (if left then 0 else count_below 5 v (hole.Fragment f))
+counts_one v f left is =
     let one = sum_by-cons (count_in_frame v) (hole.Fragment f) [] in
     let none : sum_by (count_in_frame v) [] ≡ 0 = refl in
-    let same : count_in_frame v (hole.Fragment f) ≡ (if open then 0 else count_below 5 v (hole.Fragment f)) = ap (λ b. if b then 0 else count_below 5 v (hole.Fragment f)) (sym is) in
+    let same : count_in_frame v (hole.Fragment f) ≡ (if left then 0 else count_below 5 v (hole.Fragment f)) = ap (λ b. if b then 0 else count_below 5 v (hole.Fragment f)) (sym is) in
     omega arith
 
 left_open : (v : Visit) (f : Fragment) (p : Plan (Option ℕ)) (needs : Needs) → Made (open_if true f p) v None (Place (hole.Fragment f) ∷ []) [] needs

@@ -31,10 +31,9 @@ kept_behind draft told second contexts r k old mid between new at is some toward
   looked = bins_in mid.stock;
   found = at.found;
   looks = at.looks;
-  keeps = subst (λ (o : Option (List Context)). KeepsBehind o draft (bins_in mid.stock) (bins_in new.stock)) (sym some ∙ is ∙ ap (λ t. second_contexts t draft.entry.cacheability.contexts) at.told_is)
-      (
-        bins_in between.stock,
-        subst (λ (t : Thing). KeepsIn (bins_in mid.stock) draft.bin (key_by draft required) t (bins_in between.stock)) towards redirects.keeps,
-        subst (λ (t : Thing). KeepsIn (bins_in between.stock) draft.bin (key_by draft contexts) t (bins_in new.stock)) whole keeps.keeps,
-      );
+  keeps = subst (λ (o : Option (List Context)). KeepsBehind o draft (bins_in mid.stock) (bins_in new.stock)) (sym some ∙ is ∙ ap (λ t. second_contexts t draft.entry.cacheability.contexts) at.told_is) (
+    bins_in between.stock,
+    subst (λ (t : Thing). KeepsIn (bins_in mid.stock) draft.bin (key_by draft required) t (bins_in between.stock)) towards redirects.keeps,
+    subst (λ (t : Thing). KeepsIn (bins_in between.stock) draft.bin (key_by draft contexts) t (bins_in new.stock)) whole keeps.keeps,
+  );
 }

@@ -42,11 +42,11 @@ count_in_frame v (hole.Fragment f) = if stays_open v f then 0 else count_below (
 
 -- whether a fragment's place stays open there on a state, and what tells it
 abbrev pub TellsOpen : State → Fragment → Cacheability → Bool → Cacheability → Type 0
-TellsOpen state (fragment.Block name) old open new = TellsOn state (is_lazy name) old open new
-TellsOpen state (fragment.Menu name) old open new = (open ≡ false) × (new ≡ old)
-TellsOpen state (fragment.Listing name where_placed) old open new = (open ≡ false) × (new ≡ old)
-TellsOpen state (fragment.TermListing t) old open new = (open ≡ false) × (new ≡ old)
-TellsOpen state (fragment.Node n mode) old open new = (open ≡ false) × (new ≡ old)
+TellsOpen state (fragment.Block name) old left new = TellsOn state (is_lazy name) old left new
+TellsOpen state (fragment.Menu name) old left new = (left ≡ false) × (new ≡ old)
+TellsOpen state (fragment.Listing name where_placed) old left new = (left ≡ false) × (new ≡ old)
+TellsOpen state (fragment.TermListing t) old left new = (left ≡ false) × (new ≡ old)
+TellsOpen state (fragment.Node n mode) old left new = (left ≡ false) × (new ≡ old)
 
 -- what was put together so far, with nothing shown yet
 pub record Begins (from new : Filled) : Type 0 where

@@ -154,7 +154,8 @@ fn commit<K: Keeper>(
 {
     match hall.commit(alloc, ask, sent(csrf), command, now, requester) {
         Answer::Done(done, number) => {
-            seat.state = hall.snapshot(alloc)?;
+            let newest = hall.snapshot(alloc)?;
+            seat.state = newest;
             Ok(Reply::Commit(Answer::Done(done, number)))
         }
         Answer::Refused(refusal, number) => Ok(Reply::Commit(Answer::Refused(refusal, number))),

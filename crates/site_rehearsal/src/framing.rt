@@ -29,7 +29,7 @@ fn stays_open(
     fragment: &Fragment,
     cacheability: &mut Cacheability,
 ) -> Result<bool, AllocError>
-    ensures { IfOk result (λ open. TellsOpen state.now fragment.now cacheability.old open cacheability.new) }
+    ensures { IfOk result (λ left. TellsOpen state.now fragment.now cacheability.old left cacheability.new) }
 {
     match fragment {
         Fragment::Block(name) => is_lazy(state, *name, cacheability),
