@@ -153,7 +153,7 @@ joins_bytes fill counts v bs old new a = subst (λ p. Joins fill counts v p old 
 
 -- a place that stays open
 pub joins_open : (fill : Filling) (counts : Hole → ℕ) (v : Visit) (h : Hole) (old new : Filled) → fill h ≡ None → counts h ≡ 0 → Appends (Place h ∷ []) old new → Joins fill counts v (Place h ∷ []) old new
-joins_open fill counts v h old new open count a = record {
+joins_open fill counts v h old new stays count a = record {
   shown = Place h ∷ [];
   attached = [];
   appended = a.appended;
@@ -161,7 +161,7 @@ joins_open fill counts v h old new open count a = record {
   kept = keeps_same old new a.cacheability a.last;
   not_over = λ x. (let last = a.last in omega arith);
   status = a.status;
-  fills = subst (λ o. FillsPlace o v (needs_of new) h (Fills fill v (needs_of new) []) (Place h ∷ []) []) (sym open) (record { rest = []; shown_is = refl; follows = (refl, refl) });
+  fills = subst (λ o. FillsPlace o v (needs_of new) h (Fills fill v (needs_of new) []) (Place h ∷ []) []) (sym stays) (record { rest = []; shown_is = refl; follows = (refl, refl) });
   counted = λ total is. a.built ∙ is ∙ min_zero total
       ∙ ap (λ n. min (total + n) 18446744073709551615) (sym (one_place counts h ∙ count));
 }
