@@ -1,5 +1,5 @@
 -- What an element that was put together shows, and what is kept of it.
-use Rattle.std.proofs.Common.{ℕ, List, [], ◌∷◌, ◌++◌, ◌≡◌, refl, sym, ap, subst, Option, inl, inr}
+use Rattle.std.proofs.Common.{ℕ, List, [], ◌∷◌, ◌++◌, ◌≡◌, ◌∙◌, refl, sym, ap, subst, Option, inl, inr}
 use Rattle.html_out.specs.Part.{Part, Text, Hole as Open}
 use Rattle.content_state.specs.State.{State}
 use Rattle.content_state.specs.declared.ask.Ask.{Ask}
@@ -7,6 +7,7 @@ use Rattle.content_state.specs.declared.ask.Viewer.{Viewer}
 use Rattle.content_state.specs.declared.element.Fragment.{Fragment}
 use Rattle.content_state.specs.declared.element.Hole.{Hole}
 use Rattle.content_state.specs.declared.element.Hole.TheVariants as hole
+use Rattle.content_state.specs.Ask.{IsAsk}
 use Rattle.content_state.specs.Viewer.{viewer_of}
 use Rattle.content_state.specs.Context.{Visit}
 use Rattle.content_state.specs.Plan.{Piece, Byte, Place, bytes, Plan, Made}
@@ -14,6 +15,8 @@ use Rattle.content_state.specs.Places.{open_places, MakesWhole}
 use Rattle.cache_contexts.specs.Values.{visit_on}
 use Rattle.cache_contexts.proofs.Tests.{head_or_tail, nowhere}
 use Rattle.cache_entries.specs.declared.entry.Entry.{Entry}
+use Rattle.cache_entries.specs.declared.key.Subject.{Subject}
+use Rattle.cache_entries.specs.declared.kept.Bin.{Bin}
 use Rattle.cache_entries.specs.Entries.{HasNoParts, IsClosed, pieces_of as pieces_kept}
 use Rattle.cache_entries.specs.Sound.{IsAskedFor, IsMadeOn}
 use Rattle.page_meaning.specs.Meaning.{meaning, framed}
@@ -30,6 +33,7 @@ use Rattle.element_entries.specs.declared.reader.Reader.{Reader}
 use Rattle.element_entries.specs.Keys.{visit}
 use Rattle.element_entries.specs.Making.{IsEntryOf}
 use Rattle.element_entries.proofs.Entries.{made_on}
+use Rattle.site_rehearsal.specs.Seats.{IsMade}
 use Rattle.site_rehearsal.specs.Acts.{subject_of, IsShownAs}
 use Rattle.site_rehearsal.specs.Framing.{Makes}
 use Rattle.site_rehearsal.specs.Building.{joined_of, IsKeptOf, IsText}
@@ -97,3 +101,16 @@ pub entry_made : (r : Reader) (e : Element) (f : Filled) (entry : Entry) → IsK
 entry_made r e f entry is of = made_on (meaning (subject_of e r.ask.now)) (subject_of e r.ask.now) r (joined_of f) entry of
     (subst (λ ps. MakesWhole (meaning (subject_of e r.ask.now)) (visit r) f.status ps f.libraries.items (needs_of f)) (sym (same_pieces f.segments)) is.makes)
     (subst (λ ps. IsClosed (subject_of e r.ask.now) ps) (sym (same_pieces f.segments)) is.closed)
+
+-- so what may be kept was made for it
+pub is_made : (r : Reader) (e : Element) (f : Filled) (entry : Entry) (there state : State) (asked : Ask) (bin : Bin) (subject : Subject) → IsEntryOf r (joined_of f) entry → r.state.now ≡ there → IsKeptOf e there r.viewer.now r.ask.now r.moment f
+    → IsAsk r.ask.now → state ≡ there → subject ≡ subject_of e r.ask.now → asked ≡ r.ask.now → IsMade (record { state = state; viewer = r.viewer.now; ask = asked; bin = bin; subject = subject; entry = entry })
+is_made r e f entry there state asked bin subject of on is right state_is subject_is ask_is =
+    subst IsMade (λ i. record { state = (on ∙ sym state_is) i; viewer = r.viewer.now; ask = (sym ask_is) i; bin = bin; subject = (sym subject_is) i; entry = entry }) made
+  where
+    made : IsMade (record { state = r.state.now; viewer = r.viewer.now; ask = r.ask.now; bin = bin; subject = subject_of e r.ask.now; entry = entry })
+    made = record {
+      right = right;
+      asked = asked_as e r.ask.now r.viewer.now;
+      made_on = entry_made r e f entry (subst (λ (s : State). IsKeptOf e s r.viewer.now r.ask.now r.moment f) (sym on) is) of;
+    }

@@ -17,7 +17,7 @@ use Rattle.content_state.specs.declared.element.Mode.{Mode}
 use Rattle.content_state.specs.declared.element.Mode.TheVariants as mode
 use Rattle.content_state.specs.declared.element.Depth.{Depth}
 use Rattle.content_state.specs.declared.element.Depth.TheVariants as depth
-use Rattle.html_out.specs.Part.{Part}
+use Rattle.html_out.specs.Part.{Part as OfSegment}
 use Rattle.content_state.specs.Read.{Read, Answer, answer, cover, BlockRow, ListingRow}
 use Rattle.content_state.specs.Context.{Visit}
 use Rattle.content_state.specs.Met.{met, result_of}
@@ -123,7 +123,7 @@ told_kept v f left old mid closed stays same is = record {
       (subst (λ b. Made (open_if b f p) v status own attached needs) closed made);
 }
 
-abbrev with_needs : Filled → Cacheability → Filled
+abbrev pub with_needs : Filled → Cacheability → Filled
 with_needs old c = record old { cacheability = c }
 
 pub told_open : (state : State) (v : Visit) (f : Fragment) (left : Bool) (old : Filled) (c : Cacheability) → v.rows ≡ state.rows → TellsOpen state f old.cacheability left c → Told v f left old (with_needs old c)
@@ -202,7 +202,7 @@ pub joins_lazy : (v : Visit) (path : List ℕ) (f : Fragment) (old mid new : Fil
 joins_lazy v path f old mid new told a = record {
   shown = Place (hole.Fragment f) ∷ [];
   attached = [];
-  appended = a.appended ∙ ap (λ (s : List (Part Hole)). pieces_of s ++ Place (hole.Fragment f) ∷ []) told.segments;
+  appended = a.appended ∙ ap (λ (s : List (OfSegment Hole)). pieces_of s ++ Place (hole.Fragment f) ∷ []) told.segments;
   libraries = subst (λ (l : List Library). SameMembers l (old.libraries.items ++ [])) (sym (ap (λ l. l.items) (a.libraries ∙ told.libraries)))
       (subst (λ (l : List Library). SameMembers old.libraries.items l) (sym (append-nil old.libraries.items)) (same_refl old.libraries.items));
   kept = Keeps-trans (needs_of old) (needs_of mid) (needs_of new) (told_keeps v f true old mid told) (keeps_same mid new a.cacheability a.last);
@@ -238,7 +238,7 @@ pub joins_fragment : (v : Visit) (path : List ℕ) (f : Fragment) (child old mid
 joins_fragment v path f child old mid new told is takes = record {
   shown = j.shown;
   attached = j.attached;
-  appended = j.appended ∙ ap (λ (s : List (Part Hole)). pieces_of s ++ j.shown) told.segments;
+  appended = j.appended ∙ ap (λ (s : List (OfSegment Hole)). pieces_of s ++ j.shown) told.segments;
   libraries = subst (λ l. SameMembers new.libraries.items (l ++ j.attached)) (ap (λ l. l.items) told.libraries) j.libraries;
   kept = Keeps-trans (needs_of old) (needs_of mid) (needs_of new) (told_keeps v f false old mid told) j.kept;
   not_over = λ x. j.not_over (let last = told.last in omega arith);
@@ -260,8 +260,8 @@ joins_fragment v path f child old mid new told is takes = record {
     j = joins_child (shown_below 5) (count_below 5 v) v (hole.Fragment f) (whole path (element.Fragment f)) (element_count path v (element.Fragment f)) child mid new s.fill s.count is takes
 
 -- the libraries' place stays open
-pub joins_meta : (v : Visit) (old new : Filled) → Appends (Place hole.Meta ∷ []) old new → Joins in_frame (count_in_frame v) v (Place hole.Meta ∷ []) old new
-joins_meta v old new a = joins_open in_frame (count_in_frame v) v hole.Meta old new refl refl a
+pub joins_meta : (v : Visit) (h : Hole) (old new : Filled) → h ≡ hole.Meta → Appends (Place h ∷ []) old new → Joins in_frame (count_in_frame v) v (Place h ∷ []) old new
+joins_meta v h old new is a = joins_open in_frame (count_in_frame v) v h old new (ap in_frame is) (ap (count_in_frame v) is) a
 
 -- ---- the whole page
 
@@ -297,4 +297,4 @@ page_of_frame law path v frame old new is begins joins = record {
         (Made-kept (framed path) v frame.status (pieces_of frame.segments) is.makes.attached (needs_of frame) (needs_of new) kept is.makes.made) joins.fills
 
     shown_is : pieces_of new.segments ≡ joins.shown
-    shown_is = joins.appended ∙ ap (λ (s : List (Part Hole)). pieces_of s ++ joins.shown) begins.segments
+    shown_is = joins.appended ∙ ap (λ (s : List (OfSegment Hole)). pieces_of s ++ joins.shown) begins.segments

@@ -2,7 +2,7 @@ pub mod Drafts
 pub mod Builds
 pub mod Frames
 pub mod Moving
-pub mod Acting
-pub mod Keeping
+pub mod Leaving
+pub mod Behind
 pub mod Turns
 pub mod Counted

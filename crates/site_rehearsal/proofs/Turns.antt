@@ -11,13 +11,13 @@ use Rattle.content_state.specs.declared.commit.Commit.{Commit}
 use Rattle.cache_entries.specs.Sound.{IsOf}
 use Rattle.site_hall.specs.Hall.{HallView, IsHall}
 use Rattle.site_hall.specs.Ready.{newest_of_hall}
-use Rattle.site_rehearsal.specs.Seats.{Seat, seat_or, new_seat, IsSeat}
+use Rattle.site_rehearsal.specs.Seats.{Draft, Seat, seat_or, new_seat, IsSeat}
 use Rattle.site_rehearsal.specs.Keeping.{Goes}
 use Rattle.site_rehearsal.specs.Acts.{Acts}
 use Rattle.site_rehearsal.specs.Rehearsed.{Stage, seat_on, Takes, Rehearsed, stage_of, IsStage, IsOpened, begun_on}
 use Rattle.site_rehearsal.specs.declared.turn.Turn.{Turn}
 use Rattle.site_rehearsal.specs.declared.turn.Reply.{Reply}
-use Rattle.site_rehearsal.proofs.Acting.{newest_is, seat_goes, sure_goes}
+use Rattle.site_rehearsal.proofs.Leaving.{newest_is, seat_goes, sure_goes}
 
 -- ---- one turn
 
@@ -81,7 +81,10 @@ pub opened_stage : (hall : HallView) → IsHall hall → IsOpened hall → IsSta
 opened_stage hall h opened = record {
   seated = λ n. record {
     of_log = subst (λ (s : State). IsOf hall.base hall.log s) (newest_none hall opened.none) (newest_is hall h);
-    drafted = tt;
+    drafted = λ draft is. absurd (nothing draft is);
   };
   sure = opened.sure;
 }
+  where
+    nothing : (draft : Draft) → None ≡ Some draft → ⊥
+    nothing draft is = cc

@@ -7,7 +7,7 @@ use Rattle.content_state.specs.Replay.{Begins}
 use Rattle.cache_entries.specs.declared.kept.Kept.{Kept}
 use Rattle.cache_entries.specs.declared.kept.Kept.TheVariants as kept
 use Rattle.element_entries.specs.Keys.{required}
-use Rattle.fragment_cache.specs.Bins.{Thing, thing_of, LooksIn, KeepsIn}
+use Rattle.fragment_cache.specs.Bins.{Thing, LooksIn, KeepsIn}
 use Rattle.site_hall.specs.Stock.{bins_in}
 use Rattle.site_hall.specs.Hall.{HallView, with_stock}
 use Rattle.site_rehearsal.specs.Seats.{Draft, key_by}
@@ -19,8 +19,8 @@ IsOfDraft draft (kept.Entry e) = arc_value e ≡ draft.entry
 IsOfDraft draft (kept.Redirect contexts) = Unit {0}
 
 -- something is kept at the key with the values of these contexts, and nothing but what is kept of pages changes
-pub record KeepsThing (draft : Draft) (contexts : List Context) (thing : Kept) (old new : HallView) : Type 0 where
-  pub keeps : KeepsIn (bins_in old.stock) draft.bin (key_by draft contexts) (thing_of thing) (bins_in new.stock)
+pub record KeepsThing (draft : Draft) (contexts : List Context) (thing : Thing) (old new : HallView) : Type 0 where
+  pub keeps : KeepsIn (bins_in old.stock) draft.bin (key_by draft contexts) thing (bins_in new.stock)
   pub beside : new ≡ with_stock old new.stock
 
 -- what no act changes: what was loaded, that the keeper never fails, and that it never did; the log grows

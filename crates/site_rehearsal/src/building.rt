@@ -111,21 +111,21 @@ fn shared_entry(
 fn draft_of(
     alloc: Global,
     state: &Arc<State>,
-    viewer: Viewer,
+    viewer: &Viewer,
     ask: &Ask,
     now: u64,
     element: Element,
     filled: Filled,
 ) -> Result<Draft, AllocError>
-    requires viewer { viewer ≡ named_viewer (arc_value state.now).rows ask.now.cookie now }
+    requires viewer { viewer.now ≡ named_viewer (arc_value state.now).rows ask.now.cookie now }
     requires right { IsAsk ask.now }
-    requires kept { IsKeptOf element (arc_value state.now) viewer ask.now now filled }
+    requires kept { IsKeptOf element (arc_value state.now) viewer.now ask.now now filled }
     ensures built { IfOk result (λ draft. IsBuiltFor element (arc_value state.now) ask.now now draft) }
     ensures made { IfOk result (λ draft. IsMade draft) }
 {
     let reader = Reader {
         state,
-        viewer: &viewer,
+        viewer,
         ask,
         moment: now,
     };
@@ -134,7 +134,7 @@ fn draft_of(
     let asked = ask_again(alloc, ask)?;
     Ok(Draft {
         state: Arc::try_clone(state)?,
-        viewer,
+        viewer: *viewer,
         ask: asked,
         bin: bin_of(element),
         subject,
@@ -142,24 +142,38 @@ fn draft_of(
     })
 }
 
+/// The element that a fragment is.
+fn element_of(fragment: &Fragment) -> Element
+    ensures { result ≡ element_is.Fragment fragment.now }
+{
+    Element::Fragment(*fragment)
+}
+
 /// A fragment that is built.
 fn built_fragment(
     alloc: Global,
     state: &Arc<State>,
-    fragment: Fragment,
+    fragment: &Fragment,
     ask: &Ask,
     now: u64,
 ) -> Result<(Draft, Text), AllocError>
     requires { IsAsk ask.now }
-    ensures shown { IfOk result (λ made. IsShownAs (element_is.Fragment fragment) (arc_value state.now) ask.now now made.1) }
-    ensures built { IfOk result (λ made. IsBuiltFor (element_is.Fragment fragment) (arc_value state.now) ask.now now made.0) }
+    ensures shown { IfOk result (λ made. IsShownAs (element_is.Fragment fragment.now) (arc_value state.now) ask.now now made.1) }
+    ensures built { IfOk result (λ made. IsBuiltFor (element_is.Fragment fragment.now) (arc_value state.now) ask.now now made.0) }
     ensures made { IfOk result (λ made. IsMade made.0) }
 {
     let viewer = viewer_of(state, ask, now);
-    let element = Element::Fragment(fragment);
-    let filled = fill(alloc, state, &viewer, ask, now, element)?;
+    let filled = fill(alloc, state, &viewer, ask, now, element_of(fragment))?;
     let text = text_of(alloc, &filled)?;
-    let draft = draft_of(alloc, state, viewer, ask, now, element, filled)?;
+    let draft = draft_of(
+        alloc,
+        state,
+        &viewer,
+        ask,
+        now,
+        element_of(fragment),
+        filled,
+    )?;
     Ok((draft, text))
 }
 
@@ -184,7 +198,7 @@ fn built_page(
     };
     let frame = frame(alloc, &reader)?;
     let text = page_text(alloc, &reader, &frame)?;
-    let draft = draft_of(alloc, state, viewer, ask, now, Element::Page, frame)?;
+    let draft = draft_of(alloc, state, &viewer, ask, now, Element::Page, frame)?;
     Ok((draft, text))
 }
 
@@ -204,6 +218,6 @@ pub(crate) fn built(
 {
     match element {
         Element::Page => built_page(alloc, state, ask, now),
-        Element::Fragment(fragment) => built_fragment(alloc, state, fragment, ask, now),
+        Element::Fragment(fragment) => built_fragment(alloc, state, &fragment, ask, now),
     }
 }

@@ -2,7 +2,9 @@
 ghost use Rattle.std.specs.Prelude.{◌≡◌, OnOk, IfOk};
 ghost use Rattle.std.specs.Arc.{arc_value};
 ghost use Rattle.std.specs.Option.{option_map};
-ghost use Rattle.fragment_cache.specs.Bins.{thing_found};
+ghost use Rattle.fragment_cache.specs.Bins.{Whole, Towards, thing_of, thing_found};
+ghost use Rattle.element_entries.specs.Keys.{required};
+ghost use Rattle.element_entries.specs.Keeping.{second_contexts};
 ghost use Rattle.site_hall.specs.Stock.{bins_in};
 ghost use Rattle.site_hall.specs.Hall.{IsHall};
 ghost use Rattle.site_hall.specs.Looked.{StaysBeside};
@@ -53,7 +55,7 @@ fn keep_at<K: Keeper>(
 ) -> Result<(), AllocError>
     requires draft { IsDraft hall.old.base hall.old.log draft.now }
     requires kept { IsOfDraft draft.now kept }
-    ensures keeps { OnOk result (KeepsThing draft.now contexts.now kept hall.old hall.new) }
+    ensures keeps { OnOk result (KeepsThing draft.now contexts.now (thing_of kept) hall.old hall.new) }
     ensures is_hall { OnOk result (IsHall hall.new) }
 {
     let key = draft.key(alloc, contexts)?;
@@ -61,6 +63,51 @@ fn keep_at<K: Keeper>(
         Ok(()) => Ok(()),
         Err(_) => Err(AllocError),
     }
+}
+
+/// The contexts of the second key, where there is one.
+fn second_for(
+    alloc: Global,
+    draft: &Draft,
+    told: &Option<Arc<OrderedSet<Context>>>,
+) -> Result<Option<Arc<OrderedSet<Context>>>, AllocError>
+    ensures { IfOk result (λ second. option_map arc_value second ≡ second_contexts (option_map arc_value told.now) draft.now.entry.cacheability.contexts) }
+{
+    let contexts = &draft.entry.cacheability.contexts;
+    match told {
+        None => redirect_to(alloc, None, contexts),
+        Some(told) => redirect_to(alloc, Some(&**told), contexts),
+    }
+}
+
+/// Keeps what was built at the key with the values of these contexts.
+fn keep_entry<K: Keeper>(
+    alloc: Global,
+    hall: &mut Hall<K>,
+    draft: &Draft,
+    contexts: &[Context],
+) -> Result<(), AllocError>
+    requires draft { IsDraft hall.old.base hall.old.log draft.now }
+    ensures keeps { OnOk result (KeepsThing draft.now contexts.now (Whole draft.now.entry) hall.old hall.new) }
+    ensures is_hall { OnOk result (IsHall hall.new) }
+{
+    let entry = Kept::Entry(Arc::try_clone(&draft.entry)?);
+    keep_at(alloc, hall, draft, contexts, entry)
+}
+
+/// Keeps a redirect at the first key.
+fn keep_redirect<K: Keeper>(
+    alloc: Global,
+    hall: &mut Hall<K>,
+    draft: &Draft,
+    contexts: &Arc<OrderedSet<Context>>,
+) -> Result<(), AllocError>
+    requires draft { IsDraft hall.old.base hall.old.log draft.now }
+    ensures keeps { OnOk result (KeepsThing draft.now required (Towards (arc_value contexts.now)) hall.old hall.new) }
+    ensures is_hall { OnOk result (IsHall hall.new) }
+{
+    let redirect = Kept::Redirect(Arc::try_clone(contexts)?);
+    keep_at(alloc, hall, draft, &required_contexts(), redirect)
 }
 
 /// Keeps what was built under its first key, or, where there is a second one, a redirect and then what was built.
@@ -75,14 +122,11 @@ pub(crate) fn keep_draft<K: Keeper>(
     ensures is_hall { OnOk result (IsHall hall.new) }
 {
     let told = told_at(alloc, hall, draft)?;
-    let contexts = &draft.entry.cacheability.contexts;
-    let entry = Kept::Entry(Arc::try_clone(&draft.entry)?);
-    match redirect_to(alloc, told.as_deref(), contexts)? {
-        None => keep_at(alloc, hall, draft, &required_contexts(), entry),
+    match second_for(alloc, draft, &told)? {
+        None => keep_entry(alloc, hall, draft, &required_contexts()),
         Some(contexts) => {
-            let redirect = Kept::Redirect(Arc::try_clone(&contexts)?);
-            keep_at(alloc, hall, draft, &required_contexts(), redirect)?;
-            keep_at(alloc, hall, draft, contexts.as_slice(), entry)
+            keep_redirect(alloc, hall, draft, &contexts)?;
+            keep_entry(alloc, hall, draft, contexts.as_slice())
         }
     }
 }

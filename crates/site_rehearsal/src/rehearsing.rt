@@ -1,9 +1,11 @@
 //! Rehearsals.
-ghost use Rattle.std.specs.Prelude.{◌≡◌, ◌≢◌, ℕ, IfOk, IfErr, OnOk, All, Some};
+ghost use Rattle.std.specs.Prelude.{◌≡◌, ◌≢◌, ℕ, IfOk, IfErr, OnOk, All, Some, true};
 ghost use Rattle.std.specs.Arc.{arc_value};
 ghost use Rattle.std.specs.Ordering.{nat_cmp};
 ghost use Rattle.std.specs.BTreeMap.{get};
 ghost use Rattle.content_state.specs.SiteRules.{AreValidRows, IsRefusal};
+ghost use Rattle.site_keeper.specs.Memory.{made_of};
+ghost use Rattle.site_hall.specs.Opened.{opened_with};
 ghost use Rattle.site_rehearsal.specs.Seats.{seat_or};
 ghost use Rattle.site_rehearsal.specs.Rehearsed.{MayTake, IsStage, stage_of, Takes, RehearsedOn, IsOpened, Rehearses};
 ghost use Rattle.site_rehearsal.specs.Counted.{AreCounted};
@@ -89,6 +91,34 @@ fn take_turns<K: Keeper>(
     Ok(replies)
 }
 
+/// Why there is no hall.
+fn why_of<K: Drop>(none: NoHall<K>) -> Refusal
+    ensures { result ≡ none.why }
+{
+    let NoHall {
+        keeper: _,
+        stored: _,
+        why,
+    } = none;
+    why
+}
+
+/// The hall of a site, with a keeper in memory that never fails.
+fn opened(alloc: Global, base: Stored) -> Result<Hall<MemoryKeeper>, Refusal>
+    requires { AreValidRows base.rows }
+    ensures opened { IfOk result (λ hall. hall ≡ opened_with base (Some (made_of base)) 0 true) }
+    ensures refused { IfErr result (λ why. IsRefusal base.rows base.head why) }
+{
+    let Ok(copy) = base.duplicate(alloc) else {
+        return Err(Refusal::OutOfMemory);
+    };
+    let keeper = MemoryKeeper::new(alloc, copy, Vec::new(alloc));
+    match Hall::new(alloc, keeper, base) {
+        Ok(hall) => Ok(hall),
+        Err(none) => Err(why_of(none)),
+    }
+}
+
 /// The replies to turns of requesters over a site, one after the other: the hall of what is given is theirs alone, with a
 /// keeper in memory that never fails, and each requester is on a state of its own, the one of its last snapshot or accepted edit.
 /// What is given is refused where it is no site; and where memory is wanting, in any turn, all is.
@@ -99,15 +129,9 @@ pub fn rehearse(alloc: Global, base: Stored, turns: &[Turn]) -> Result<Vec<Reply
     ensures counted { IfOk result (λ replies. AreCounted base.head replies.items) }
     ensures refused { IfErr result (λ why. IsRefusal base.rows base.head why) }
 {
-    let Ok(copy) = base.duplicate(alloc) else {
-        return Err(Refusal::OutOfMemory);
-    };
-    let keeper = MemoryKeeper::new(alloc, copy, Vec::new(alloc));
-    match Hall::new(alloc, keeper, base) {
-        Ok(mut hall) => match take_turns(alloc, &mut hall, turns) {
-            Ok(replies) => Ok(replies),
-            Err(_) => Err(Refusal::OutOfMemory),
-        },
-        Err(NoHall { why, .. }) => Err(why),
+    let mut hall = opened(alloc, base)?;
+    match take_turns(alloc, &mut hall, turns) {
+        Ok(replies) => Ok(replies),
+        Err(_) => Err(Refusal::OutOfMemory),
     }
 }

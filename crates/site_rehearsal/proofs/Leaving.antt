@@ -91,3 +91,11 @@ answer_goes answer.OutOfMemory old new ask csrf command now pass is sure steady 
 pub never_fails : {G : Type 0} (old new : HallView) (ask : Ask) (csrf : Option (List ℕ)) (command : Command) (now pass : ℕ) → IsSure old → StaysSteadfast old new → Fails old new ask csrf command now pass → G
 never_fails old new ask csrf command now pass sure steady fails =
     let rose = fails.rose in let stays = steady.stays sure.steadfast in let none = sure.faults in absurd (omega arith)
+
+-- ---- the seat, as it lies
+
+pub seat_with : (base : State) (log : List Commit) (state : State) (old inside : Seat) → inside ≡ old → IsSeat base log (record old { state = state }) → IsSeat base log (record { state = state; built = inside.built })
+seat_with base log state old inside is seated = subst (λ (s : Seat). IsSeat base log (record { state = state; built = s.built })) (sym is) seated
+
+pub same_seat : (state newest : State) (old inside : Seat) → inside ≡ old → state ≡ newest → record { state = state; built = inside.built } ≡ record old { state = newest }
+same_seat state newest old inside is now = λ i. record { state = now i; built = (is i).built }
