@@ -1,14 +1,17 @@
 -- The numbers that are told are counted from that of the base.
-use Rattle.std.proofs.Common.{ℕ, List, [], ◌∷◌, ◌++◌, ◌≡◌, ◌+◌, ◌∙◌, refl, sym, ap, subst, arith, length, length-append, Option, Some, None}
+use Rattle.std.proofs.Common.{ℕ, List, [], ◌∷◌, ◌++◌, ◌≡◌, ◌+◌, ◌∙◌, refl, sym, ap, subst, arith, length, length-append, Option, Some, None, true}
 use Rattle.content_state.specs.declared.ask.Ask.{Ask}
 use Rattle.content_state.specs.declared.commit.Commit.{Commit}
 use Rattle.site_commands.specs.declared.answer.Answer.{Answer}
 use Rattle.site_commands.specs.declared.answer.Answer.TheVariants as answer
 use Rattle.site_commands.specs.declared.command.Command.{Command}
+use Rattle.site_keeper.specs.Memory.{made_of}
+use Rattle.site_keeper.specs.declared.stored.Stored.{Stored}
+use Rattle.site_hall.specs.Opened.{opened_with}
 use Rattle.site_hall.specs.Hall.{HallView, with_stock, number_of, Settles, settled_by, Answers}
 use Rattle.site_rehearsal.specs.Seats.{Draft, Seat}
 use Rattle.site_rehearsal.specs.Acts.{Acts, IsAnswer, KeepsBuilt}
-use Rattle.site_rehearsal.specs.Rehearsed.{Stage, seat_on, Rehearsed}
+use Rattle.site_rehearsal.specs.Rehearsed.{Stage, seat_on, Rehearsed, begun_on, RehearsedOn}
 use Rattle.site_rehearsal.specs.Counted.{number_after, TellsEdit, number_then, TellsNumber, AreCounted}
 use Rattle.site_rehearsal.specs.declared.turn.Act.{Act}
 use Rattle.site_rehearsal.specs.declared.turn.Act.TheVariants as act
@@ -106,3 +109,13 @@ all_counted (turn ∷ turns) [] old new none rehearsed = absurd rehearsed
 all_counted (turn ∷ turns) (r ∷ replies) old new none (mid, takes, rest) =
     let counts = act_counts turn.act r turn.requester old.hall (seat_on old turn.requester) mid.hall (seat_on mid turn.requester) none takes.acts in
     (counts.tells, subst (λ n. AreCounted n replies) counts.goes (all_counted turns replies mid new counts.settled rest))
+
+pub counted_of : (head : ℕ) (hall : HallView) (turns : List Turn) (replies : List Reply) → hall.pending ≡ None → number_of hall ≡ head → RehearsedOn hall turns replies → AreCounted head replies
+counted_of head hall turns replies none number (end, rehearsed) = subst (λ n. AreCounted n replies) number (all_counted turns replies (begun_on hall) end none rehearsed)
+
+pub counted_from : (base : Stored) (hall : HallView) (turns : List Turn) (replies : List Reply) → hall ≡ opened_with base (Some (made_of base)) 0 true → RehearsedOn hall turns replies → AreCounted base.head replies
+counted_from base hall turns replies opened rehearsed =
+    counted_of base.head hall turns replies (ap (λ (h : HallView). h.pending) opened) (ap number_of opened ∙ first) rehearsed
+  where
+    first : number_of (opened_with base (Some (made_of base)) 0 true) ≡ base.head
+    first = omega arith

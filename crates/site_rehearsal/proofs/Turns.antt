@@ -1,7 +1,8 @@
 -- Turns, one after the other.
 use Rattle.std.proofs.Common.{◌≡◌, ◌∙◌, ◌+◌, ◌<◌, ◌≤◌, ◌++◌, ℕ, List, [], ◌∷◌, Option, Some, None, length, take, take_all, get_or, ap, sym, subst, refl, arith, inl, inr}
 use Rattle.std.specs.Prelude.{◌≢◌}
-use Rattle.std.specs.BTreeMap.{BTreeMap, get}
+use Rattle.std.specs.BTreeMap.{BTreeMap, get, IsEmpty}
+use Rattle.std.specs.Map.{lookup, is_at}
 use Rattle.std.specs.Ordering.{nat_cmp}
 use Rattle.std.proofs.lemmas.Bool.Decides.{eqb_tells}
 use Rattle.std.proofs.lemmas.Grind.{take_at_read}
@@ -14,7 +15,7 @@ use Rattle.site_hall.specs.Ready.{newest_of_hall}
 use Rattle.site_rehearsal.specs.Seats.{Draft, Seat, seat_or, new_seat, IsSeat}
 use Rattle.site_rehearsal.specs.Keeping.{Goes}
 use Rattle.site_rehearsal.specs.Acts.{Acts}
-use Rattle.site_rehearsal.specs.Rehearsed.{Stage, seat_on, Takes, Rehearsed, stage_of, IsStage, IsOpened, begun_on}
+use Rattle.site_rehearsal.specs.Rehearsed.{Stage, seat_on, Takes, Rehearsed, stage_of, IsStage, IsOpened, begun_on, RehearsedOn}
 use Rattle.site_rehearsal.specs.declared.turn.Turn.{Turn}
 use Rattle.site_rehearsal.specs.declared.turn.Reply.{Reply}
 use Rattle.site_rehearsal.proofs.Leaving.{newest_is, seat_goes, sure_goes}
@@ -54,6 +55,11 @@ stays_stage requester hall hall' seats taken put seat seat' sits is seated = rec
   sure = sure_goes hall hall' sits.goes is.sure;
 }
 
+pub stage_after : (requester : ℕ) (hall hall' : HallView) (seats taken put : BTreeMap ℕ Seat) (seat seat' : Seat) → seat ≡ seat_or hall.base (get nat_cmp seats requester) → ((n : ℕ) → n ≢ requester → get nat_cmp taken n ≡ get nat_cmp seats n) → get nat_cmp put requester ≡ Some seat'
+    → ((n : ℕ) → n ≢ requester → get nat_cmp put n ≡ get nat_cmp taken n) → Goes hall hall' → IsStage (stage_of hall seats) → IsSeat hall'.base hall'.log seat' → IsStage (stage_of hall' put)
+stage_after requester hall hall' seats taken put seat seat' taken_is others_taken put_is others_put goes is seated =
+    stays_stage requester hall hall' seats taken put seat seat' (record { taken_is = taken_is; others_taken = others_taken; put_is = put_is; others_put = others_put; goes = goes }) is seated
+
 -- ---- all turns
 
 pub rehearsed_more : (turns : List Turn) (replies : List Reply) (turn : Turn) (reply : Reply) (old mid new : Stage) → Rehearsed turns replies old mid → Takes turn reply mid new → Rehearsed (turns ++ turn ∷ []) (replies ++ reply ∷ []) old new
@@ -88,3 +94,36 @@ opened_stage hall h opened = record {
   where
     nothing : (draft : Draft) → None ≡ Some draft → ⊥
     nothing draft is = cc
+
+-- ---- under way
+
+-- so many turns were taken
+pub record Under (turns : List Turn) (i : ℕ) (old : HallView) (replies : List Reply) (hall : HallView) (seats : BTreeMap ℕ Seat) : Type 0 where
+  pub rehearsed : Rehearsed (take i turns) replies (begun_on old) (stage_of hall seats)
+  pub stage : IsStage (stage_of hall seats)
+  pub base : hall.base ≡ old.base
+
+-- nobody has a seat in a map without entries
+nobody : (hall : HallView) (seats : BTreeMap ℕ Seat) → IsEmpty seats → stage_of hall seats ≡ begun_on hall
+nobody hall seats empty = λ i. record { hall = hall; seats = λ n. (ap (λ (m : List (ℕ × Seat)). lookup (is_at (nat_cmp n)) m) empty) i }
+
+pub none_yet : (turns : List Turn) (hall : HallView) (replies : List Reply) (seats : BTreeMap ℕ Seat) → IsHall hall → IsOpened hall → replies ≡ [] → IsEmpty seats → Under turns 0 hall replies hall seats
+none_yet turns hall replies seats h opened none empty = record {
+  rehearsed = subst (λ (l : List Reply). Rehearsed [] l (begun_on hall) (stage_of hall seats)) (sym none) (nobody hall seats empty);
+  stage = subst IsStage (sym (nobody hall seats empty)) (opened_stage hall h opened);
+  base = refl;
+}
+
+pub one_more : (turns : List Turn) (i : ℕ) (turn : Turn) (old : HallView) (replies : List Reply) (reply : Reply) (hall hall' : HallView) (seats seats' : BTreeMap ℕ Seat) → Under turns i old replies hall seats → i < length turns → turn ≡ get_or turns i turn
+    → Takes turn reply (stage_of hall seats) (stage_of hall' seats') → IsStage (stage_of hall' seats') → hall'.base ≡ hall.base → Under turns (i + 1) old (replies ++ reply ∷ []) hall' seats'
+one_more turns i turn old replies reply hall hall' seats seats' under within is takes_it stage base = record {
+  rehearsed = rehearsed_next turns i turn replies reply (begun_on old) (stage_of hall seats) (stage_of hall' seats') within is under.rehearsed takes_it;
+  stage = stage;
+  base = base ∙ under.base;
+}
+
+pub base_is : (turns : List Turn) (i : ℕ) (old : HallView) (replies : List Reply) (hall : HallView) (seats : BTreeMap ℕ Seat) (base : State) → IsOpened old → base ≡ newest_of_hall old → Under turns i old replies hall seats → base ≡ hall.base
+base_is turns i old replies hall seats base opened is under = is ∙ newest_none old opened.none ∙ sym under.base
+
+pub all_taken : (turns : List Turn) (i : ℕ) (old : HallView) (replies : List Reply) (hall : HallView) (seats : BTreeMap ℕ Seat) → Under turns i old replies hall seats → length turns ≤ i → RehearsedOn old turns replies
+all_taken turns i old replies hall seats under over = (stage_of hall seats, rehearsed_all turns i replies (begun_on old) (stage_of hall seats) over under.rehearsed)
