@@ -1,5 +1,5 @@
 -- What was built is kept: alone, or behind a redirect.
-use Rattle.std.proofs.Common.{◌≡◌, ◌∙◌, List, Option, Some, None, ap, sym, subst, refl}
+use Rattle.std.proofs.Common.{◌≡◌, ◌∙◌, List, Option, Some, None, ap, sym, subst}
 use Rattle.cacheability.specs.declared.context.Context.{Context}
 use Rattle.fragment_cache.specs.Bins.{Thing, Whole, Towards}
 use Rattle.element_entries.specs.Keys.{required}

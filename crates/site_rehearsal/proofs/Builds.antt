@@ -23,7 +23,7 @@ use Rattle.page_meaning.specs.Meaning.{meaning, framed}
 use Rattle.render_canvas.specs.Board.{pieces_of}
 use Rattle.render_array.specs.declared.element.Element.{Element}
 use Rattle.render_array.specs.declared.element.Element.TheVariants as element
-use Rattle.render_array.specs.Shown.{meta_text, OnlyMeta, IsFilled}
+use Rattle.render_array.specs.Shown.{OnlyMeta, IsFilled}
 use Rattle.render_array.specs.Whole.{whole}
 use Rattle.render_array.proofs.Leaves.{page_closed, fragment_closed}
 use Rattle.renderer.specs.declared.filled.Filled.{Filled}

@@ -12,7 +12,7 @@ use Rattle.site_hall.specs.Hall.{HallView, with_stock, number_of, Settles, settl
 use Rattle.site_rehearsal.specs.Seats.{Draft, Seat}
 use Rattle.site_rehearsal.specs.Acts.{Acts, IsAnswer, KeepsBuilt}
 use Rattle.site_rehearsal.specs.Rehearsed.{Stage, seat_on, Rehearsed, begun_on, RehearsedOn}
-use Rattle.site_rehearsal.specs.Counted.{number_after, TellsEdit, number_then, TellsNumber, AreCounted}
+use Rattle.site_rehearsal.specs.Counted.{number_then, TellsNumber, AreCounted}
 use Rattle.site_rehearsal.specs.declared.turn.Act.{Act}
 use Rattle.site_rehearsal.specs.declared.turn.Act.TheVariants as act
 use Rattle.site_rehearsal.specs.declared.turn.Turn.{Turn}

@@ -1,8 +1,6 @@
 -- What was built may be kept, whatever the log has become since.
-use Rattle.std.proofs.Common.{◌≡◌, ◌∙◌, ◌+◌, ◌≤◌, ◌++◌, ℕ, List, Option, Some, None, length, ap, sym, subst, refl, arith, length-append}
+use Rattle.std.proofs.Common.{◌∙◌, List, length, ap, sym, subst, refl, arith, length-append}
 use Rattle.std.specs.Prelude.{take}
-use Rattle.std.specs.Arc.{arc_value}
-use Rattle.std.specs.Option.{ForSome}
 use Rattle.std.proofs.lemmas.List.{take-append-le}
 use Rattle.cacheability.specs.declared.context.Context.{Context}
 use Rattle.content_state.specs.State.{State}

@@ -1,5 +1,5 @@
 -- The page of a path as it is kept for whoever views it is put together part by part, and the whole page is made of it.
-use Rattle.std.proofs.Common.{ℕ, List, [], ◌∷◌, ◌++◌, ◌≡◌, ◌≤◌, ◌<◌, ◌+◌, min, refl, sym, ◌∙◌, ap, subst, append-nil, arith, Bool, true, false, Option, Some, None, Contains, inl, inr}
+use Rattle.std.proofs.Common.{ℕ, List, [], ◌∷◌, ◌++◌, ◌≡◌, refl, sym, ◌∙◌, ap, subst, append-nil, arith, Bool, true, false, Option, Some, None, Contains, inl, inr}
 use Rattle.std.specs.Prelude.{if◌then◌else◌, option_map, sum_by}
 use Rattle.std.proofs.lemmas.List.Sums.{sum_by-cons}
 use Rattle.cacheability.specs.declared.cacheability.Cacheability.{Cacheability}
@@ -18,10 +18,10 @@ use Rattle.content_state.specs.declared.element.Mode.TheVariants as mode
 use Rattle.content_state.specs.declared.element.Depth.{Depth}
 use Rattle.content_state.specs.declared.element.Depth.TheVariants as depth
 use Rattle.html_out.specs.Part.{Part as OfSegment}
-use Rattle.content_state.specs.Read.{Read, Answer, answer, cover, BlockRow, ListingRow}
+use Rattle.content_state.specs.Read.{answer, cover, BlockRow}
 use Rattle.content_state.specs.Context.{Visit}
 use Rattle.content_state.specs.Met.{met, result_of}
-use Rattle.content_state.specs.Plan.{Piece, Place, Plan, Done, Write, Attach, Reading, Asking, Clock, Part, ◌>>=◌, Needs, Made, AllIn, part, reading}
+use Rattle.content_state.specs.Plan.{Piece, Place, Plan, Done, Write, Attach, Reading, Asking, Clock, Part, Needs, Made, AllIn, part, reading}
 use Rattle.content_state.specs.Places.{filled_in, Fills, FillsPlace, SameMembers, MakesWhole}
 use Rattle.content_state.proofs.Filled.{in_append, in_left, in_right, same_refl, same_trans, filled}
 use Rattle.content_state.proofs.Made.{Made-then}

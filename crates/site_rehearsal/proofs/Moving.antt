@@ -1,5 +1,5 @@
 -- What acts leave as it was.
-use Rattle.std.proofs.Common.{◌≡◌, ap, refl}
+use Rattle.std.proofs.Common.{refl}
 use Rattle.site_hall.specs.Hall.{HallView}
 use Rattle.site_house.proofs.Moving.{begins_same}
 use Rattle.site_rehearsal.specs.Keeping.{Goes}

@@ -1,5 +1,5 @@
 -- Turns, one after the other.
-use Rattle.std.proofs.Common.{◌≡◌, ◌∙◌, ◌+◌, ◌<◌, ◌≤◌, ◌++◌, ℕ, List, [], ◌∷◌, Option, Some, None, length, take, take_all, get_or, ap, sym, subst, refl, arith, inl, inr}
+use Rattle.std.proofs.Common.{◌≡◌, ◌∙◌, ◌+◌, ◌<◌, ◌≤◌, ◌++◌, ℕ, List, [], ◌∷◌, Some, None, length, take, take_all, get_or, ap, sym, subst, refl, inl, inr}
 use Rattle.std.specs.Prelude.{◌≢◌}
 use Rattle.std.specs.BTreeMap.{BTreeMap, get, is_at, IsEmpty}
 use Rattle.std.specs.Map.{lookup}
@@ -8,11 +8,10 @@ use Rattle.std.proofs.lemmas.Bool.Decides.{eqb_tells}
 use Rattle.std.proofs.lemmas.Grind.{take_at_read}
 use Rattle.content_state.specs.State.{State}
 use Rattle.content_state.specs.Replay.{replay}
-use Rattle.content_state.specs.declared.commit.Commit.{Commit}
 use Rattle.cache_entries.specs.Sound.{IsOf}
 use Rattle.site_hall.specs.Hall.{HallView, IsHall}
 use Rattle.site_hall.specs.Ready.{newest_of_hall}
-use Rattle.site_rehearsal.specs.Seats.{Draft, Seat, seat_or, new_seat, IsSeat}
+use Rattle.site_rehearsal.specs.Seats.{Draft, Seat, seat_or, IsSeat}
 use Rattle.site_rehearsal.specs.Keeping.{Goes}
 use Rattle.site_rehearsal.specs.Acts.{Acts}
 use Rattle.site_rehearsal.specs.Rehearsed.{Stage, seat_on, Takes, Rehearsed, stage_of, IsStage, IsOpened, begun_on, RehearsedOn}

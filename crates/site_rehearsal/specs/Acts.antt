@@ -2,7 +2,6 @@
 -- https://www.drupal.org/docs/drupal-apis/cache-api/cache-api
 use Rattle.std.specs.Prelude.{ℕ, List, ◌≡◌, ◌↔◌, Bool, true, false, Option, Some, None, Ok, IsTrue}
 use Rattle.std.specs.Arc.{arc_value}
-use Rattle.std.specs.Option.{option_map}
 use Rattle.content_state.specs.State.{State}
 use Rattle.content_state.specs.Viewer.{viewer_of}
 use Rattle.content_state.specs.declared.ask.Ask.{Ask}
@@ -11,7 +10,6 @@ use Rattle.content_state.specs.Plan.{Piece, Shows}
 use Rattle.cacheability.specs.declared.context.Context.{Context}
 use Rattle.site_commands.specs.declared.answer.Answer.{Answer}
 use Rattle.site_commands.specs.declared.answer.Answer.TheVariants as answer
-use Rattle.cache_entries.specs.declared.key.Key.{Key}
 use Rattle.cache_entries.specs.declared.key.Subject.{Subject}
 use Rattle.cache_entries.specs.declared.key.Subject.TheVariants as subject
 use Rattle.cache_entries.specs.declared.kept.Bin.{Bin}
@@ -19,7 +17,7 @@ use Rattle.cache_entries.specs.declared.kept.Bin.TheVariants as bin
 use Rattle.cache_entries.specs.declared.kept.Found.{Found}
 use Rattle.cache_entries.specs.declared.kept.Found.TheVariants as found
 use Rattle.cache_entries.specs.Entries.{IsFresh}
-use Rattle.fragment_cache.specs.Bins.{Bins, Thing, Whole, Towards, thing_found, LooksIn, KeepsIn}
+use Rattle.fragment_cache.specs.Bins.{Bins, Thing, Whole, Towards, LooksIn, KeepsIn}
 use Rattle.element_entries.specs.Keys.{required}
 use Rattle.element_entries.specs.Keeping.{second_contexts}
 use Rattle.render_array.specs.declared.element.Element.{Element}

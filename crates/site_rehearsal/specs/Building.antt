@@ -1,5 +1,5 @@
 -- Elements that were put together, on the way to what is kept of them.
-use Rattle.std.specs.Prelude.{ℕ, List, ◌≤◌}
+use Rattle.std.specs.Prelude.{ℕ, List}
 use Rattle.content_state.specs.State.{State}
 use Rattle.content_state.specs.declared.ask.Ask.{Ask}
 use Rattle.content_state.specs.declared.ask.Viewer.{Viewer}

@@ -2,7 +2,6 @@
 use Rattle.std.specs.Prelude.{List, ◌≡◌, Option, true}
 use Rattle.std.specs.Arc.{arc_value}
 use Rattle.cacheability.specs.declared.context.Context.{Context}
-use Rattle.content_state.specs.State.{State}
 use Rattle.content_state.specs.Replay.{Begins}
 use Rattle.cache_entries.specs.declared.kept.Kept.{Kept}
 use Rattle.cache_entries.specs.declared.kept.Kept.TheVariants as kept

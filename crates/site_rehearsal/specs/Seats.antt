@@ -1,5 +1,5 @@
 -- Who takes part in a rehearsal: what each requester has seen, and what it built last.
-use Rattle.std.specs.Prelude.{List, ◌≡◌, Option, Some, None, map}
+use Rattle.std.specs.Prelude.{List, Option, Some, None, map}
 use Rattle.std.specs.Option.{ForSome}
 use Rattle.content_state.specs.State.{State}
 use Rattle.content_state.specs.declared.ask.Ask.{Ask}
