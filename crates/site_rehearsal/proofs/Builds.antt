@@ -1,0 +1,116 @@
+-- What an element that was put together shows, and what is kept of it.
+use Rattle.std.proofs.Common.{ℕ, List, [], ◌∷◌, ◌++◌, ◌≡◌, ◌∙◌, refl, sym, ap, subst, Option, inl, inr}
+use Rattle.html_out.specs.Part.{Part, Text, Hole as Open}
+use Rattle.content_state.specs.State.{State}
+use Rattle.content_state.specs.declared.ask.Ask.{Ask}
+use Rattle.content_state.specs.declared.ask.Viewer.{Viewer}
+use Rattle.content_state.specs.declared.element.Fragment.{Fragment}
+use Rattle.content_state.specs.declared.element.Hole.{Hole}
+use Rattle.content_state.specs.declared.element.Hole.TheVariants as hole
+use Rattle.content_state.specs.Ask.{IsAsk}
+use Rattle.content_state.specs.Viewer.{viewer_of}
+use Rattle.content_state.specs.Context.{Visit}
+use Rattle.content_state.specs.Plan.{Piece, Byte, Place, bytes, Plan, Made}
+use Rattle.content_state.specs.Places.{open_places, MakesWhole}
+use Rattle.cache_contexts.specs.Values.{visit_on}
+use Rattle.cache_contexts.proofs.Tests.{head_or_tail, nowhere}
+use Rattle.cache_entries.specs.declared.entry.Entry.{Entry}
+use Rattle.cache_entries.specs.declared.key.Subject.{Subject}
+use Rattle.cache_entries.specs.declared.kept.Bin.{Bin}
+use Rattle.cache_entries.specs.Entries.{HasNoParts, IsClosed, pieces_of as pieces_kept}
+use Rattle.cache_entries.specs.Sound.{IsAskedFor, IsMadeOn}
+use Rattle.page_meaning.specs.Meaning.{meaning, framed}
+use Rattle.render_canvas.specs.Board.{pieces_of}
+use Rattle.render_array.specs.declared.element.Element.{Element}
+use Rattle.render_array.specs.declared.element.Element.TheVariants as element
+use Rattle.render_array.specs.Shown.{OnlyMeta, IsFilled}
+use Rattle.render_array.specs.Whole.{whole}
+use Rattle.render_array.proofs.Leaves.{page_closed, fragment_closed}
+use Rattle.renderer.specs.declared.filled.Filled.{Filled}
+use Rattle.renderer.specs.Filled.{needs_of, IsWhole}
+use Rattle.renderer.proofs.Texts.{same_meta}
+use Rattle.element_entries.specs.declared.reader.Reader.{Reader}
+use Rattle.element_entries.specs.Keys.{visit}
+use Rattle.element_entries.specs.Making.{IsEntryOf}
+use Rattle.element_entries.proofs.Entries.{made_on}
+use Rattle.site_rehearsal.specs.Seats.{IsMade}
+use Rattle.site_rehearsal.specs.Acts.{subject_of, IsShownAs}
+use Rattle.site_rehearsal.specs.Framing.{Makes}
+use Rattle.site_rehearsal.specs.Building.{joined_of, IsKeptOf, IsText}
+
+-- ---- what is open
+
+same_pieces : (ps : List (Part Hole)) → pieces_kept ps ≡ pieces_of ps
+same_pieces [] = refl
+same_pieces (Text bs ∷ ps) = ap (λ l. bytes bs ++ l) (same_pieces ps)
+same_pieces (Open h ∷ ps) = ap (λ l. Place h ∷ l) (same_pieces ps)
+
+no_parts : (ps : List Piece) → OnlyMeta ps → HasNoParts ps
+no_parts [] only f h = nowhere (hole.Fragment f) h
+no_parts (Byte b ∷ ps) only f h = no_parts ps only f h
+no_parts (Place hole.Meta ∷ ps) only f h = elim (head_or_tail hole.Meta (open_places ps) (hole.Fragment f) h) [
+  | inl e ↦ absurd (let same = e in cc)
+  | inr g ↦ no_parts ps only f g
+]
+no_parts (Place (hole.Fragment g) ∷ ps) only f h = absurd only
+
+pub asked_as : (e : Element) (ask : Ask) (viewer : Viewer) → IsAskedFor (subject_of e ask) viewer ask
+asked_as element.Page ask viewer = refl
+asked_as (element.Fragment f) ask viewer = tt
+
+-- an element that is whole leaves no place open but that of the libraries
+whole_closed : (e : Element) (ask : Ask) (state : State) (viewer : Viewer) (now : ℕ) (f : Filled) → MakesWhole (whole ask.path e) (visit_on state viewer ask now) f.status (pieces_of f.segments) f.libraries.items (needs_of f) → OnlyMeta (pieces_of f.segments)
+whole_closed element.Page ask state viewer now f makes = page_closed ask.path (visit_on state viewer ask now) f.status (pieces_of f.segments) makes.attached (needs_of f) makes.made
+whole_closed (element.Fragment g) ask state viewer now f makes = fragment_closed ask.path g (visit_on state viewer ask now) f.status (pieces_of f.segments) makes.attached (needs_of f) makes.made
+
+-- its text shows it
+pub shown_as : (e : Element) (state : State) (viewer : Viewer) (ask : Ask) (now : ℕ) (f : Filled) (text : List ℕ) → viewer ≡ viewer_of state.rows ask.cookie now
+    → Makes (whole ask.path e) (visit_on state viewer ask now) f → IsText f text → IsShownAs e state ask now text
+shown_as e state viewer ask now f text named is filled = record {
+  status = f.status;
+  shown = pieces_of f.segments;
+  libraries = is.makes.attached;
+  shows = record {
+    needs = needs_of f;
+    not_over = is.not_over;
+    made = subst (λ (w : Viewer). Made (whole ask.path e) (visit_on state w ask now) f.status (pieces_of f.segments) is.makes.attached (needs_of f)) named is.makes.made;
+  };
+  filled = subst (λ m. IsFilled m (pieces_of f.segments) text) (sym (same_meta is.makes.attached f.libraries.items is.makes.same))
+      (filled (whole_closed e ask state viewer now f is.makes));
+}
+
+-- so it does where it is whole, however many elements were built for it
+pub whole_makes : {p : Plan (Option ℕ)} {v : Visit} {count : ℕ} {f : Filled} → IsWhole p v count f → Makes p v f
+whole_makes is = record { makes = is.makes; not_over = is.not_over }
+
+-- the frame of a page is kept as it was put together
+pub kept_page : (state : State) (viewer : Viewer) (ask : Ask) (now : ℕ) (f : Filled) → Makes (framed ask.path) (visit_on state viewer ask now) f → IsKeptOf element.Page state viewer ask now f
+kept_page state viewer ask now f is = record { makes = is.makes; closed = tt }
+
+-- a fragment is kept as it was put together
+pub kept_fragment : (g : Fragment) (state : State) (viewer : Viewer) (ask : Ask) (now count : ℕ) (f : Filled)
+    → IsWhole (whole ask.path (element.Fragment g)) (visit_on state viewer ask now) count f → IsKeptOf (element.Fragment g) state viewer ask now f
+kept_fragment g state viewer ask now count f is = record {
+  makes = is.makes;
+  closed = no_parts (pieces_of f.segments) (whole_closed (element.Fragment g) ask state viewer now f is.makes);
+}
+
+-- its entry was made of what is kept of it
+pub entry_made : (r : Reader) (e : Element) (f : Filled) (entry : Entry) → IsKeptOf e r.state.now r.viewer.now r.ask.now r.moment f → IsEntryOf r (joined_of f) entry
+    → IsMadeOn (meaning (subject_of e r.ask.now)) (subject_of e r.ask.now) r.state.now r.viewer.now r.ask.now entry
+entry_made r e f entry is of = made_on (meaning (subject_of e r.ask.now)) (subject_of e r.ask.now) r (joined_of f) entry of
+    (subst (λ ps. MakesWhole (meaning (subject_of e r.ask.now)) (visit r) f.status ps f.libraries.items (needs_of f)) (sym (same_pieces f.segments)) is.makes)
+    (subst (λ ps. IsClosed (subject_of e r.ask.now) ps) (sym (same_pieces f.segments)) is.closed)
+
+-- so what may be kept was made for it
+pub is_made : (r : Reader) (e : Element) (f : Filled) (entry : Entry) (there state : State) (asked : Ask) (bin : Bin) (subject : Subject) → IsEntryOf r (joined_of f) entry → r.state.now ≡ there → IsKeptOf e there r.viewer.now r.ask.now r.moment f
+    → IsAsk r.ask.now → state ≡ there → subject ≡ subject_of e r.ask.now → asked ≡ r.ask.now → IsMade (record { state = state; viewer = r.viewer.now; ask = asked; bin = bin; subject = subject; entry = entry })
+is_made r e f entry there state asked bin subject of on is right state_is subject_is ask_is =
+    subst IsMade (λ i. record { state = (on ∙ sym state_is) i; viewer = r.viewer.now; ask = (sym ask_is) i; bin = bin; subject = (sym subject_is) i; entry = entry }) made
+  where
+    made : IsMade (record { state = r.state.now; viewer = r.viewer.now; ask = r.ask.now; bin = bin; subject = subject_of e r.ask.now; entry = entry })
+    made = record {
+      right = right;
+      asked = asked_as e r.ask.now r.viewer.now;
+      made_on = entry_made r e f entry (subst (λ (s : State). IsKeptOf e s r.viewer.now r.ask.now r.moment f) (sym on) is) of;
+    }

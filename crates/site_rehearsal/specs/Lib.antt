@@ -1,0 +1,7 @@
+pub mod Seats
+pub mod Acts
+pub mod Framing
+pub mod Building
+pub mod Keeping
+pub mod Rehearsed
+pub mod Counted

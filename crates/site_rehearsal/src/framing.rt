@@ -1,0 +1,166 @@
+//! The page of a path as it is kept for whoever views it, and the whole page that is made of it.
+ghost use Rattle.std.specs.Prelude.{◌∷◌, [], IfOk, OnOk};
+ghost use Rattle.html_out.specs.Segment.{part_of, parts_of};
+ghost use Rattle.content_state.specs.Plan.{Place};
+ghost use Rattle.content_state.specs.declared.element.Hole.TheVariants as hole_is;
+ghost use Rattle.page_meaning.specs.Meaning.{framed};
+ghost use Rattle.render_canvas.specs.Board.{pieces_of};
+ghost use Rattle.render_array.specs.declared.element.Element.TheVariants as element_is;
+ghost use Rattle.render_array.specs.Whole.{whole};
+ghost use Rattle.renderer.specs.Filled.{Joins};
+ghost use Rattle.element_entries.specs.Keys.{visit};
+ghost use Rattle.site_rehearsal.specs.Framing.{Makes, Begins, TellsOpen, in_frame, count_in_frame};
+
+use cacheability::Cacheability;
+use content_state::{Fragment, Hole, State};
+use element_entries::Reader;
+use html_out::{Segment, Segments};
+use page_meaning::is_lazy;
+use render_array::{Element, build};
+use render_canvas::Built;
+use renderer::{Filled, add_bytes, add_child, add_parts, element_level, fill, leave_open};
+use std::alloc::{AllocError, Global};
+
+/// Whether the place of a fragment stays open in a page that is kept for whoever views it, and what tells it. `Err` only where
+/// memory is wanting.
+/// <https://www.drupal.org/docs/drupal-apis/render-api/auto-placeholdering>
+fn stays_open(
+    state: &State,
+    fragment: &Fragment,
+    cacheability: &mut Cacheability,
+) -> Result<bool, AllocError>
+    ensures { IfOk result (λ left. TellsOpen state.now fragment.now cacheability.old left cacheability.new) }
+{
+    match fragment {
+        Fragment::Block(name) => is_lazy(state, *name, cacheability),
+        Fragment::Menu(_)
+        | Fragment::Listing(_, _)
+        | Fragment::TermListing(_)
+        | Fragment::Node(_, _) => Ok(false),
+    }
+}
+
+/// A fragment behind what is there, or its place.
+fn add_fragment(
+    alloc: Global,
+    reader: &Reader<'_>,
+    fragment: &Fragment,
+    frame: &mut Filled,
+) -> Result<(), AllocError>
+    ensures { OnOk result (Joins in_frame (count_in_frame (visit reader.now)) (visit reader.now) (Place (hole_is.Fragment fragment.now) ∷ []) frame.old frame.new) }
+{
+    if stays_open(reader.state, fragment, &mut frame.cacheability)? {
+        return leave_open(frame, &Hole::Fragment(*fragment));
+    }
+    let child = fill(
+        alloc,
+        reader.state,
+        reader.viewer,
+        reader.ask,
+        reader.moment,
+        Element::Fragment(*fragment),
+    )?;
+    add_child(alloc, frame, &child)
+}
+
+/// A part of a page behind what is there.
+fn add_part(
+    alloc: Global,
+    reader: &Reader<'_>,
+    part: &Segment<Hole>,
+    frame: &mut Filled,
+) -> Result<(), AllocError>
+    ensures { OnOk result (Joins in_frame (count_in_frame (visit reader.now)) (visit reader.now) (pieces_of (part_of part.now ∷ [])) frame.old frame.new) }
+{
+    match part {
+        Segment::Bytes(shared) => add_bytes(frame, shared),
+        Segment::Hole(hole) => match hole {
+            Hole::Meta => leave_open(frame, hole),
+            Hole::Fragment(fragment) => add_fragment(alloc, reader, fragment, frame),
+        },
+    }
+}
+
+/// The parts of a page behind what is there.
+fn add_all(
+    alloc: Global,
+    reader: &Reader<'_>,
+    parts: &[Segment<Hole>],
+    frame: &mut Filled,
+) -> Result<(), AllocError>
+    ensures { OnOk result (Joins in_frame (count_in_frame (visit reader.now)) (visit reader.now) (pieces_of (parts_of parts.now)) frame.old frame.new) }
+{
+    for part in parts {
+        add_part(alloc, reader, part, frame)?;
+    }
+    Ok(())
+}
+
+/// The page of a path as it is kept for whoever views it: the places of lazy blocks stay open.
+pub(crate) fn frame(alloc: Global, reader: &Reader<'_>) -> Result<Filled, AllocError>
+    ensures { IfOk result (λ f. Makes (framed reader.now.ask.now.path) (visit reader.now) f) }
+{
+    let Built {
+        segments,
+        cacheability,
+        libraries,
+        last,
+        status,
+    } = build(
+        alloc,
+        reader.state,
+        reader.viewer,
+        reader.ask,
+        reader.moment,
+        &Element::Page,
+    )?;
+    let mut frame = Filled {
+        segments: Segments::new(alloc),
+        cacheability,
+        libraries: libraries.into_vec(),
+        last,
+        status,
+        built: 1,
+    };
+    add_all(alloc, reader, segments.parts(), &mut frame)?;
+    Ok(frame)
+}
+
+/// What a page depends on, attaches and is, with nothing shown yet.
+fn begun(alloc: Global, frame: &Filled) -> Result<Filled, AllocError>
+    ensures { IfOk result (λ f. Begins frame.now f) }
+{
+    let mut libraries = Vec::new(alloc);
+    libraries.extend_from_slice(&frame.libraries)?;
+    Ok(Filled {
+        segments: Segments::new(alloc),
+        cacheability: frame.cacheability.duplicate(alloc)?,
+        libraries,
+        last: frame.last,
+        status: frame.status,
+        built: frame.built,
+    })
+}
+
+/// The whole page: what was left open is filled in.
+pub(crate) fn whole_page(
+    alloc: Global,
+    reader: &Reader<'_>,
+    frame: &Filled,
+) -> Result<Filled, AllocError>
+    requires { Makes (framed reader.now.ask.now.path) (visit reader.now) frame.now }
+    ensures { IfOk result (λ f. Makes (whole reader.now.ask.now.path element_is.Page) (visit reader.now) f) }
+{
+    let mut page = begun(alloc, frame)?;
+    add_parts(
+        alloc,
+        reader.state,
+        reader.viewer,
+        reader.ask,
+        reader.moment,
+        element_level(Element::Page),
+        frame.segments.parts(),
+        &mut page,
+    )?;
+    Ok(page)
+}

@@ -1,0 +1,13 @@
+//! Rehearsals: turns of several requesters over one hall, one after the other, each by its own state.
+#![tactic(auto)]
+
+mod acting;
+mod building;
+mod framing;
+mod keeping;
+mod rehearsing;
+mod seats;
+mod turn;
+
+pub use rehearsing::rehearse;
+pub use turn::{Act, Reply, Turn};

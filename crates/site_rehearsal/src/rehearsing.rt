@@ -1,0 +1,137 @@
+//! Rehearsals.
+ghost use Rattle.std.specs.Prelude.{◌≡◌, ◌≢◌, ℕ, IfOk, IfErr, OnOk, All, Some, true};
+ghost use Rattle.std.specs.Arc.{arc_value};
+ghost use Rattle.std.specs.Ordering.{nat_cmp};
+ghost use Rattle.std.specs.BTreeMap.{get};
+ghost use Rattle.content_state.specs.SiteRules.{AreValidRows, IsRefusal};
+ghost use Rattle.site_keeper.specs.Memory.{made_of};
+ghost use Rattle.site_hall.specs.Opened.{opened_with};
+ghost use Rattle.site_rehearsal.specs.Seats.{seat_or};
+ghost use Rattle.site_rehearsal.specs.Rehearsed.{MayTake, IsStage, stage_of, Takes, RehearsedOn, IsOpened, Rehearses};
+ghost use Rattle.site_rehearsal.specs.Counted.{AreCounted};
+
+use crate::acting::act;
+use crate::seats::Seat;
+use crate::turn::{Reply, Turn};
+use content_state::{Refusal, State};
+use site_hall::{Hall, NoHall};
+use site_keeper::{Keeper, MemoryKeeper, Stored};
+use std::alloc::{AllocError, Global};
+use std::collections::BTreeMap;
+use std::sync::Arc;
+
+/// The seat of a requester, taken out.
+fn take_seat(
+    base: &Arc<State>,
+    seats: &mut BTreeMap<u32, Seat>,
+    requester: u32,
+) -> Result<Seat, AllocError>
+    ensures seat { IfOk result (λ seat. seat ≡ seat_or (arc_value base.now) (get nat_cmp seats.old requester)) }
+    ensures others { (n : ℕ) → n ≢ requester → get nat_cmp seats.new n ≡ get nat_cmp seats.old n }
+{
+    match seats.remove(&requester) {
+        Some(seat) => Ok(seat),
+        None => Ok(Seat {
+            state: Arc::try_clone(base)?,
+            built: None,
+        }),
+    }
+}
+
+/// A seat put back.
+fn put_seat(seats: &mut BTreeMap<u32, Seat>, requester: u32, seat: Seat) -> Result<(), AllocError>
+    ensures here { OnOk result (get nat_cmp seats.new requester ≡ Some seat) }
+    ensures others { (n : ℕ) → n ≢ requester → get nat_cmp seats.new n ≡ get nat_cmp seats.old n }
+{
+    match seats.insert(requester, seat) {
+        Ok(_) => Ok(()),
+        Err(_) => Err(AllocError),
+    }
+}
+
+/// A turn.
+fn take_turn<K: Keeper>(
+    alloc: Global,
+    hall: &mut Hall<K>,
+    base: &Arc<State>,
+    seats: &mut BTreeMap<u32, Seat>,
+    turn: &Turn,
+) -> Result<Reply, AllocError>
+    requires base { arc_value base.now ≡ hall.old.base }
+    requires stage { IsStage (stage_of hall.old seats.old) }
+    requires may { MayTake turn.now }
+    ensures takes { IfOk result (λ reply. Takes turn.now reply (stage_of hall.old seats.old) (stage_of hall.new seats.new)) }
+    ensures stage { OnOk result (IsStage (stage_of hall.new seats.new)) }
+    ensures base { OnOk result (hall.new.base ≡ hall.old.base) }
+{
+    let mut seat = take_seat(base, seats, turn.requester)?;
+    let reply = act(alloc, hall, &mut seat, turn.requester, &turn.act)?;
+    put_seat(seats, turn.requester, seat)?;
+    Ok(reply)
+}
+
+/// Turns, one after the other.
+fn take_turns<K: Keeper>(
+    alloc: Global,
+    hall: &mut Hall<K>,
+    turns: &[Turn],
+) -> Result<Vec<Reply>, AllocError>
+    requires opened { IsOpened hall.old }
+    requires may { All MayTake turns.now }
+    ensures { IfOk result (λ replies. RehearsedOn hall.old turns.now replies.items) }
+{
+    let _published = hall.len();
+    let base = hall.snapshot(alloc)?;
+    let mut seats = BTreeMap::new(alloc);
+    let mut replies = Vec::new(alloc);
+    for turn in turns {
+        let reply = take_turn(alloc, hall, &base, &mut seats, turn)?;
+        replies.push(reply)?;
+    }
+    Ok(replies)
+}
+
+/// Why there is no hall.
+fn why_of<K: Drop>(none: NoHall<K>) -> Refusal
+    ensures { result ≡ none.why }
+{
+    let NoHall {
+        keeper: _,
+        stored: _,
+        why,
+    } = none;
+    why
+}
+
+/// The hall of a site, with a keeper in memory that never fails.
+fn opened(alloc: Global, base: Stored) -> Result<Hall<MemoryKeeper>, Refusal>
+    requires { AreValidRows base.rows }
+    ensures opened { IfOk result (λ hall. hall ≡ opened_with base (Some (made_of base)) 0 true) }
+    ensures refused { IfErr result (λ why. IsRefusal base.rows base.head why) }
+{
+    let Ok(copy) = base.duplicate(alloc) else {
+        return Err(Refusal::OutOfMemory);
+    };
+    let keeper = MemoryKeeper::new(alloc, copy, Vec::new(alloc));
+    match Hall::new(alloc, keeper, base) {
+        Ok(hall) => Ok(hall),
+        Err(none) => Err(why_of(none)),
+    }
+}
+
+/// The replies to turns of requesters over a site, one after the other: the hall of what is given is theirs alone, with a
+/// keeper in memory that never fails, and each requester is on a state of its own, the one of its last snapshot or accepted edit.
+/// What is given is refused where it is no site; and where memory is wanting, in any turn, all is.
+pub fn rehearse(alloc: Global, base: Stored, turns: &[Turn]) -> Result<Vec<Reply>, Refusal>
+    requires rows { AreValidRows base.rows }
+    requires may { All MayTake turns.now }
+    ensures rehearsed { IfOk result (λ replies. Rehearses base turns.now replies.items) }
+    ensures counted { IfOk result (λ replies. AreCounted base.head replies.items) }
+    ensures refused { IfErr result (λ why. IsRefusal base.rows base.head why) }
+{
+    let mut hall = opened(alloc, base)?;
+    match take_turns(alloc, &mut hall, turns) {
+        Ok(replies) => Ok(replies),
+        Err(_) => Err(Refusal::OutOfMemory),
+    }
+}

@@ -1,0 +1,62 @@
+//! Who takes part in a rehearsal.
+ghost use Rattle.std.specs.Prelude.{◌≡◌, IfOk};
+ghost use Rattle.site_rehearsal.specs.Seats.{key_by};
+
+use cache_entries::{Bin, Entry, Key, Subject};
+use cacheability::Context;
+use content_state::{Ask, State, Viewer};
+use element_entries::{Reader, key_of};
+use std::alloc::{AllocError, Global};
+use std::marker::Model;
+use std::sync::Arc;
+
+/// What a requester built last: on which state, for whom, who asked for what, and what is kept of it in which bin.
+#[derive(Drop)]
+pub(crate) struct Draft {
+    pub(crate) state: Arc<State>,
+    pub(crate) viewer: Viewer,
+    pub(crate) ask: Ask,
+    pub(crate) bin: Bin,
+    pub(crate) subject: Subject,
+    pub(crate) entry: Arc<Entry>,
+}
+
+impl Model for Draft {
+    ghost use Rattle.std.specs.Arc.{arc_value};
+    ghost use Rattle.site_rehearsal.specs.Seats.{Draft as DraftValue};
+
+    ghost Value = { DraftValue };
+
+    ghost view = { λ d. record { state = arc_value d.state; viewer = d.viewer; ask = d.ask; bin = d.bin; subject = d.subject; entry = arc_value d.entry } };
+}
+
+impl Draft {
+    /// The key of what is kept, with the values that these contexts had when it was built. `Err` only where memory is wanting.
+    pub(crate) fn key(&self, alloc: Global, contexts: &[Context]) -> Result<Key, AllocError>
+        ensures { IfOk result (λ key. key ≡ key_by self.now contexts.now) }
+    {
+        let reader = Reader {
+            state: &self.state,
+            viewer: &self.viewer,
+            ask: &self.ask,
+            moment: self.entry.made_moment,
+        };
+        key_of(alloc, &reader, &self.subject, contexts)
+    }
+}
+
+/// A requester's state, and what it built last.
+#[derive(Drop)]
+pub(crate) struct Seat {
+    pub(crate) state: Arc<State>,
+    pub(crate) built: Option<Draft>,
+}
+
+impl Model for Seat {
+    ghost use Rattle.std.specs.Arc.{arc_value};
+    ghost use Rattle.site_rehearsal.specs.Seats.{Seat as SeatValue};
+
+    ghost Value = { SeatValue };
+
+    ghost view = { λ s. record { state = arc_value s.state; built = s.built } };
+}
