@@ -1,5 +1,5 @@
 -- The tokens of the sessions that are drawn are names.
-use Rattle.std.proofs.Common.{◌≡◌, ◌++◌, ◌<◌, ◌+◌, ℕ, zero, suc, true, decimal, codes, refl, sym, subst, arith, List, [], ◌∷◌}
+use Rattle.std.proofs.Common.{◌++◌, ◌<◌, ◌+◌, ℕ, zero, suc, decimal, codes, refl, sym, subst, arith, List, [], ◌∷◌}
 use Rattle.std.proofs.lemmas.Fmt.{decimal_digit}
 use Rattle.std.specs.Prelude.{IsTrue}
 use Rattle.content_rows.specs.LiteralName.{is_name}

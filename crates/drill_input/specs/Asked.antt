@@ -1,9 +1,9 @@
 -- The requests that are drawn: to see a node or the front page's listing, by one of the eight users or by nobody, to give a
 -- node a new title, and to rebuild the caches, by the site's first user.
-use Rattle.std.specs.Prelude.{ℕ, zero, suc, List, [], ◌∷◌, ◌++◌, ◌+◌, ◌==◌, nat_lt, Bool, codes, length, if◌then◌else◌}
+use Rattle.std.specs.Prelude.{ℕ, zero, suc, List, [], ◌∷◌, ◌++◌, ◌+◌, ◌==◌, nat_lt, codes, length, if◌then◌else◌}
 use Rattle.std.specs.List.{count_by}
 use Rattle.std.specs.Fmt.{decimal}
-use Rattle.drill_input.specs.Draws.{next, drawn, after}
+use Rattle.drill_input.specs.Draws.{drawn, after}
 use Rattle.drill_input.specs.SiteDrawn.{numbered}
 
 -- the requests so far, one after the other; the nodes that they give a new title, in order; and the member that the last draw

@@ -1,6 +1,6 @@
 -- The rows of the site that is drawn: those of a new site, a session of its first user, eight users with a grant each, and
 -- 199 nodes.
-use Rattle.std.specs.Prelude.{ℕ, zero, suc, List, [], ◌∷◌, ◌++◌, ◌+◌, ◌==◌, Bool, true, false, not, Some, None, codes, if◌then◌else◌}
+use Rattle.std.specs.Prelude.{ℕ, zero, suc, List, [], ◌∷◌, ◌++◌, ◌+◌, ◌==◌, true, false, not, None, codes, if◌then◌else◌}
 use Rattle.std.specs.Fmt.{decimal}
 use Rattle.content_rows.specs.StarterRows.{starter_rows}
 use Rattle.content_rows.specs.declared.cell.Cell.{Cell}
@@ -9,7 +9,7 @@ use Rattle.content_rows.specs.declared.row.GrantRow.{GrantRow}
 use Rattle.content_rows.specs.declared.row.Row.{Row}
 use Rattle.content_rows.specs.declared.row.Row.TheVariants as row
 use Rattle.drill_input.specs.declared.site.Choices.{Choices}
-use Rattle.drill_input.specs.Draws.{next, drawn, after}
+use Rattle.drill_input.specs.Draws.{drawn, after}
 
 -- a word, and then a number in decimal
 abbrev pub numbered : List ℕ → ℕ → List ℕ

@@ -3,9 +3,11 @@
 
 mod asked;
 mod draws;
+mod number;
 mod site;
 mod words;
 
 pub use asked::{Requests, requests_after};
 pub use draws::Draws;
+pub use number::number_of;
 pub use site::{SiteRows, site_rows};

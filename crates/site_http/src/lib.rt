@@ -13,8 +13,11 @@ mod turn;
 mod worker;
 
 pub use connection::{connection_grows, requests_are_asks, serve_connection};
+pub use desk::Desk;
 pub use http_heads::{
     CookieOut, Media, Octets, Parsed, ReplyHead, Request, Version, is_reply_status, parse,
     reply_head,
 };
+pub use next::Inbox;
+pub use turn::turn;
 pub use worker::{Worked, work};

@@ -1,5 +1,5 @@
 use Rattle.std.proofs.Common.{◌∙◌, sym, ap}
-use Rattle.drill_input.specs.Asked.{Asked, and_request}
+use Rattle.drill_input.specs.Asked.{and_request}
 use Rattle.drill_input.proofs.Folds.{next_asked}
 use Rattle.drill_input.proofs.asked.requests_after.Goals as goal
 

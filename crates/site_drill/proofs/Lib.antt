@@ -1,0 +1,5 @@
+pub mod Counting
+pub mod Digest
+pub mod Exchanges
+pub mod Underway
+pub mod Drilling

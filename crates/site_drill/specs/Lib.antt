@@ -1,0 +1,5 @@
+pub mod Replies
+pub mod Steps
+pub mod Tally
+pub mod Drill
+pub mod Fresh
