@@ -1,7 +1,8 @@
 -- A drill on its way: so many requests are answered.
-use Rattle.std.proofs.Common.{◌≡◌, ◌∙◌, ◌++◌, ◌+◌, ◌-◌, ◌<◌, ◌≤◌, List, [], ◌∷◌, ℕ, suc, Bool, true, false, cond, Some, length, ap, sym, refl, subst, arith, length-append, append_assoc}
+use Rattle.std.proofs.Common.{◌≡◌, ◌∙◌, ◌++◌, ◌+◌, ◌-◌, ◌<◌, ◌≤◌, List, [], ◌∷◌, ℕ, suc, Bool, true, false, cond, Some, length, drop, Option, ap, sym, refl, subst, arith, rules, length-append, append_assoc}
 use Rattle.std.specs.Prelude.{All}
 use Rattle.std.specs.List.{count_by}
+use Rattle.std.proofs.Math.Seq.{drop-append_seam}
 use Rattle.std.proofs.lemmas.List.{append-nil}
 use Rattle.std.proofs.lemmas.List.Sums.{count_by-append}
 use Rattle.std.proofs.lemmas.List.Elements.{All-append}
@@ -20,7 +21,9 @@ use Rattle.site_http.specs.Turn.{Ends, TookOne, Turned}
 use Rattle.site_http.proofs.Grow.{text_lower}
 use Rattle.site_http.proofs.Stories.{gave_nothing, joined_nothing, went_on}
 use Rattle.site_http.proofs.Told.{before_nothing}
-use Rattle.site_drill.specs.Replies.{AllAnswered, AreReplies, Exchange, NoneWanting, is_page, is_wanting, requests_of, whole}
+use Rattle.site_io.specs.Told.{after as told}
+use Rattle.site_drill.specs.Fronts.{is_wanting, shows_page}
+use Rattle.site_drill.specs.Replies.{AllAnswered, AreReplies, Exchange, NoneWanting, is_page, requests_of, whole}
 use Rattle.site_drill.specs.Steps.{TookReply}
 use Rattle.site_drill.proofs.Exchanges.{replies_grow, replies_more, requests_more, whole_more}
 
@@ -115,7 +118,7 @@ goes_on {old} {now} {new} {history} {low} {count} {pages} {seen} {page} {buffer}
       not_above = subst (λ (s : Story). s.high ≤ newest history) (sym (whole_more low u.exchanges one)) r.not_above;
       within = omega arith;
       pages_is = pages_more pages u.exchanges one page u.pages_is t.page_is;
-      none_wanting = All-append u.none_wanting (t.not_wanting, tt);
+      none_wanting = All-append (λ (e : Exchange). is_wanting e.story.text ≡ false) u.exchanges (one ∷ []) u.none_wanting (t.not_wanting, tt);
     }
 
 pub goes_in : {old now new : Around} {house house' : HouseView} {low count pages : ℕ} {page : Bool} {buffer : List ℕ} (buffer' : List ℕ) → count < 1000 → Moves house house' → Underway old now (history_of house) low count pages (newest (history_of house)) buffer → TookReply page now new (history_of house') count (newest (history_of house)) buffer buffer' → Underway old new (history_of house') low (count + 1) (pages_with pages page) (newest (history_of house')) buffer'
@@ -141,4 +144,19 @@ ends_in {old} {now} {new} {house} {house'} {low} {count} {pages} {buffer} few m 
       replies = u.replies;
       pages_is = u.pages_is;
       none_wanting = u.none_wanting;
+    }
+
+-- what was written since is the text of the reply
+pub took_reply : (page wanting : Bool) (old new : Around) (history : History) (index low : ℕ) (buffer buffer' before after text : List ℕ)
+    → old.out.written ≡ Some before → new.out.written ≡ Some after → text ≡ drop (length before) after
+    → page ≡ shows_page text → wanting ≡ is_wanting text → wanting ≡ false
+    → TookOne old new history 1000 index low buffer buffer' false → TookReply page old new history index low buffer buffer'
+took_reply page wanting old new history index low buffer buffer' before after text old_is new_is text_is page_is wanting_is none took =
+    let sink : Some after ≡ Some (before ++ took.replied.story.text) = sym new_is ∙ took.replied.gave.sink ∙ ap (λ (o : Option (List ℕ)). told o took.replied.story.text) old_is in
+    let all : after ≡ before ++ took.replied.story.text = cc in
+    let same : text ≡ took.replied.story.text = text_is ∙ ap (λ (l : List ℕ). drop (length before) l) all ∙ drop-append_seam before took.replied.story.text in
+    record {
+      took = took;
+      page_is = page_is ∙ ap shows_page same;
+      not_wanting = sym (ap is_wanting same) ∙ sym wanting_is ∙ none;
     }

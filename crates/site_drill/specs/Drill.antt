@@ -1,7 +1,6 @@
 -- A drill: a site and requests to it that are made from a number, answered on one connection, and what is printed of that.
 use Rattle.std.specs.Prelude.{ℕ, zero, suc, List, [], ◌∷◌, ◌++◌, ◌≡◌, ◌+◌, Option, Some, codes, length}
 use Rattle.std.specs.List.{count_by}
-use Rattle.std.specs.Fmt.{decimal}
 use Rattle.sha2.specs.Sha256.{sha256}
 use Rattle.hex.specs.Hex.{encode_lower}
 use Rattle.content_state.specs.State.{State}
@@ -13,6 +12,7 @@ use Rattle.site_io.specs.Told.{after, AddsFront, Rose}
 use Rattle.site_alone.specs.Sites.{state_over}
 use Rattle.drill_input.specs.SiteDrawn.{SiteDrawn, site_drawn}
 use Rattle.drill_input.specs.Asked.{asked}
+use Rattle.site_drill.specs.Lines.{drill_text}
 use Rattle.site_drill.specs.Replies.{Exchange, AreReplies, NoneWanting, is_page, requests_of, whole}
 use Rattle.site_drill.specs.Tally.{built_in}
 use Rattle.site_drill.specs.declared.drill.DrillEnd.{DrillEnd}
@@ -34,21 +34,6 @@ drill_requests number = (asked 900 (site_drawn number).seed).text
 unfoldable pub moments_to : ℕ → List ℕ
 moments_to zero = []
 moments_to (suc count) = moments_to count ++ (1000 + count) ∷ []
-
--- a line that names a number
-abbrev pub line : List ℕ → ℕ → List ℕ
-line word number = word ++ decimal number ++ codes "\n"
-
--- what is printed of a drill
-unfoldable pub drill_text : ℕ → Figures → List ℕ
-drill_text number figures =
-    line (codes "drill ") number
-    ++ line (codes "requests ") 900
-    ++ line (codes "pages ") figures.pages
-    ++ line (codes "edits ") figures.edits
-    ++ line (codes "built ") figures.built
-    ++ line (codes "bytes ") figures.bytes
-    ++ codes "sha256 " ++ figures.sha256 ++ codes "\n"
 
 -- The requests that these bytes are were answered on one connection over a site, one reply each, at the moments 1,000, 1,001 and so
 -- on, by a caller that is alone with it: its log is the edits that it handed in, in order. None of the replies says that memory was

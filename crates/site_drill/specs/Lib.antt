@@ -1,3 +1,5 @@
+pub mod Fronts
+pub mod Lines
 pub mod Replies
 pub mod Steps
 pub mod Tally

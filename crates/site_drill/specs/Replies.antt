@@ -1,11 +1,12 @@
 -- The replies to the requests of a drill, one by one.
-use Rattle.std.specs.Prelude.{ℕ, List, [], ◌∷◌, ◌≡◌, ◌≤◌, ◌+◌, Bool, true, false, nat_eq, codes, length, map, All}
-use Rattle.std.specs.List.{starts_with, count_by}
+use Rattle.std.specs.Prelude.{ℕ, List, [], ◌∷◌, ◌≡◌, ◌≤◌, ◌+◌, Bool, false, length, map, All}
+use Rattle.std.specs.List.{count_by}
 use Rattle.http_heads.specs.declared.request.Request.{Request}
 use Rattle.http_heads.specs.Requests.{Empty, Reads}
 use Rattle.site_io.specs.Told.{IsNothingLeft}
 use Rattle.site_house.specs.History.{History, newest}
 use Rattle.site_http.specs.Reply.{Story, IsText}
+use Rattle.site_drill.specs.Fronts.{is_wanting, shows_page}
 use Rattle.site_http.specs.Connection.{Around, Went, closes_after, joined, nothing}
 
 -- a request, and the story of its reply
@@ -29,20 +30,7 @@ abbrev pub whole : ℕ → List Exchange → Story
 whole low [] = nothing low
 whole low (first ∷ others) = joined first.story (whole first.story.high others)
 
--- how a reply begins that shows a page, and how one begins that says that memory was wanting
-unfoldable pub page_front : List ℕ
-page_front = codes "HTTP/1.1 200 OK\r\nContent-Type: text/html"
-
-unfoldable pub wanting_front : List ℕ
-wanting_front = codes "HTTP/1.1 507 "
-
--- whether a reply shows a page, and whether it says that memory was wanting
-abbrev pub shows_page : List ℕ → Bool
-shows_page text = starts_with nat_eq text page_front
-
-abbrev pub is_wanting : List ℕ → Bool
-is_wanting text = starts_with nat_eq text wanting_front
-
+-- whether a reply shows a page
 abbrev pub is_page : Exchange → Bool
 is_page exchange = shows_page exchange.story.text
 

@@ -3,7 +3,7 @@ use Rattle.std.specs.Prelude.{ℕ, List, Bool, false, ◌≡◌}
 use Rattle.site_house.specs.History.{History}
 use Rattle.site_http.specs.Connection.{Around}
 use Rattle.site_http.specs.Turn.{TookOne}
-use Rattle.site_drill.specs.Replies.{is_wanting, shows_page}
+use Rattle.site_drill.specs.Fronts.{is_wanting, shows_page}
 
 -- One request was taken and answered, and the connection goes on; the reply doesn't say that memory was wanting, and this is whether
 -- it shows a page.

@@ -2,7 +2,7 @@
 ghost use Rattle.std.specs.Prelude.{◌≡◌, ◌++◌, OnOk, IfOk};
 ghost use Rattle.sha2.specs.Sha256.{sha256};
 ghost use Rattle.hex.specs.Hex.{encode_lower};
-ghost use Rattle.site_drill.specs.Drill.{drill_text, line};
+ghost use Rattle.site_drill.specs.Lines.{drill_text, line};
 
 use sha2::{Digest, Sha256};
 use std::alloc::{AllocError, Global};
@@ -47,7 +47,7 @@ fn add_line(text: &mut Vec<u8>, alloc: Global, word: &[u8], number: u64) -> Resu
 }
 
 /// The lines of a drill.
-#[tactic(auto, unfolding(crate::specs::Drill::drill_text))]
+#[tactic(auto, unfolding(crate::specs::Lines::drill_text))]
 pub(crate) fn drill_text(
     alloc: Global,
     number: u64,

@@ -1,7 +1,4 @@
 //! A gate that counts.
-ghost use Rattle.std.specs.Prelude.{◌≡◌, [], Some};
-ghost use Rattle.site_io.specs.Reached.{and_point};
-
 use http_server::Log;
 use site_io::{Gate, Point};
 use std::marker::Model;
@@ -15,7 +12,7 @@ pub(crate) struct CountingGate {
 }
 
 impl Model for CountingGate {
-    ghost use Rattle.std.specs.Prelude.{map};
+    ghost use Rattle.std.specs.Prelude.{◌≡◌, map};
     ghost use Rattle.site_drill.specs.Tally.{Counted, built_in};
 
     ghost Value = { Counted };
@@ -26,6 +23,7 @@ impl Model for CountingGate {
 }
 
 impl CountingGate {
+    ghost use Rattle.std.specs.Prelude.{◌≡◌, []};
     ghost use Rattle.site_drill.specs.Tally.{built_in};
 
     /// Nothing was told yet.
@@ -47,6 +45,8 @@ impl CountingGate {
 }
 
 impl Gate for CountingGate {
+    ghost use Rattle.std.specs.Prelude.{Some};
+
     ghost reached = { λ g. Some g.points };
 
     #[tactic(auto, using(crate::proofs::Counting::one_more))]

@@ -1,9 +1,9 @@
 //! What a reply is, by how it begins.
 ghost use Rattle.std.specs.Prelude.{◌≡◌, drop};
-ghost use Rattle.site_drill.specs.Replies.{shows_page, is_wanting};
+ghost use Rattle.site_drill.specs.Fronts.{shows_page, is_wanting};
 
 /// Whether a reply shows a page: its status is 200 and its body is HTML.
-#[tactic(auto, unfolding(crate::specs::Replies::page_front))]
+#[tactic(auto, unfolding(crate::specs::Fronts::page_front))]
 pub(crate) fn shows_page(text: &[u8]) -> bool
     ensures { result ≡ shows_page text.now }
 {
@@ -11,7 +11,7 @@ pub(crate) fn shows_page(text: &[u8]) -> bool
 }
 
 /// Whether a reply says that memory was wanting: its status is 507.
-#[tactic(auto, unfolding(crate::specs::Replies::wanting_front))]
+#[tactic(auto, unfolding(crate::specs::Fronts::wanting_front))]
 pub(crate) fn is_wanting(text: &[u8]) -> bool
     ensures { result ≡ is_wanting text.now }
 {
