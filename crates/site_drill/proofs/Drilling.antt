@@ -123,3 +123,40 @@ next_moment count = ap moments_to (add-one count)
 pub no_moment : moments_to 0 ≡ []
 unfolding moments_to
 no_moment = refl
+
+-- the same over devices that are fresh
+pub record ServedFresh (site : State) (requests left-before left given-before given : List ℕ) (words-before : List ℕ) (words : Option (List ℕ)) (points-before points : List Point) (written-before written : List ℕ) (moments moments-after : List ℕ) (house house-after : HouseView) (pages : ℕ) : Type 0 where
+  pub left_is : left-before ≡ requests
+  pub given_is : given-before ≡ []
+  pub words_is : words-before ≡ []
+  pub points_is : points-before ≡ []
+  pub written_is : written-before ≡ []
+  pub house_is : house ≡ opened_on site
+  pub moves : Moves house house-after
+  pub own : house-after.faults ≡ 0 → house-after.handed ≡ drop house-after.opened house-after.seen
+  pub listed : moments ≡ moments_to 900
+  pub turn : GivesInTurn last_moment (Some moments) (Some moments-after) (Some given-before) (Some given)
+  pub answered :
+      AllAnswered 900 pages
+      (around (Some left-before) (Some given-before) (Some words-before) (Some points-before) (Some written-before) house.handed house.keepers)
+      (around (Some left) (Some given) words (Some points) (Some written) house-after.handed house-after.keepers)
+      (history_of house-after) (newest (history_of house))
+
+pub served_fresh : {site : State} {requests left-before left given-before given words-before : List ℕ} {words : Option (List ℕ)} {points-before points : List Point} {written-before written moments moments-after : List ℕ} {house house-after : HouseView} {pages : ℕ}
+    → ServedFresh site requests left-before left given-before given words-before words points-before points written-before written moments moments-after house house-after pages
+    → Served site requests left given words points written moments moments-after house house-after pages
+served_fresh {site} {requests} {left-before} {left} {given-before} {given} {words-before} {words} {points-before} {points} {written-before} {written} {moments} {moments-after} {house} {house-after} {pages} s =
+    let after_all : Around = around (Some left) (Some given) words (Some points) (Some written) house-after.handed house-after.keepers in
+    let first = subst (λ (l : List ℕ). AllAnswered 900 pages (around (Some l) (Some given-before) (Some words-before) (Some points-before) (Some written-before) house.handed house.keepers) after_all (history_of house-after) (newest (history_of house))) s.left_is s.answered in
+    let second = subst (λ (l : List ℕ). AllAnswered 900 pages (around (Some requests) (Some l) (Some words-before) (Some points-before) (Some written-before) house.handed house.keepers) after_all (history_of house-after) (newest (history_of house))) s.given_is first in
+    let third = subst (λ (l : List ℕ). AllAnswered 900 pages (around (Some requests) (Some []) (Some l) (Some points-before) (Some written-before) house.handed house.keepers) after_all (history_of house-after) (newest (history_of house))) s.words_is second in
+    let fourth = subst (λ (l : List Point). AllAnswered 900 pages (around (Some requests) (Some []) (Some []) (Some l) (Some written-before) house.handed house.keepers) after_all (history_of house-after) (newest (history_of house))) s.points_is third in
+    let fifth = subst (λ (l : List ℕ). AllAnswered 900 pages (around (Some requests) (Some []) (Some []) (Some []) (Some l) house.handed house.keepers) after_all (history_of house-after) (newest (history_of house))) s.written_is fourth in
+    record {
+      house_is = s.house_is;
+      moves = s.moves;
+      own = s.own;
+      listed = s.listed;
+      turn = subst (λ (l : List ℕ). GivesInTurn last_moment (Some moments) (Some moments-after) (Some l) (Some given)) s.given_is s.turn;
+      answered = fifth;
+    }

@@ -24,7 +24,7 @@ use Rattle.site_http.proofs.Told.{before_nothing}
 use Rattle.site_io.specs.Told.{after as told}
 use Rattle.site_drill.specs.Fronts.{is_wanting, shows_page}
 use Rattle.site_drill.specs.Replies.{AllAnswered, AreReplies, Exchange, NoneWanting, is_page, requests_of, whole}
-use Rattle.site_drill.specs.Steps.{TookReply}
+use Rattle.site_drill.specs.Steps.{TookReply, pages_with}
 use Rattle.site_drill.proofs.Exchanges.{replies_grow, replies_more, requests_more, whole_more}
 
 -- so many requests are answered, of whose replies so many show a page, and these bytes stand in the buffer
@@ -86,9 +86,9 @@ reads_end limit count taken buffer more done few reads others end r =
     let left : suc (limit - (count + 1)) ≡ limit - count = omega arith in
     reads more others end (subst (λ (k : ℕ). Reads k (buffer ++ more) others end) left r)
 
-pub pages_with : ℕ → Bool → ℕ
-pages_with pages true = pages + 1
-pages_with pages false = pages
+pub pages_few : (pages count : ℕ) (page : Bool) → pages ≤ count → pages_with pages page ≤ count + 1
+pages_few pages count true few = omega arith
+pages_few pages count false few = omega arith
 
 pages_more : (pages : ℕ) (exchanges : List Exchange) (one : Exchange) (page : Bool) → pages ≡ count_by is_page exchanges → page ≡ is_page one → pages_with pages page ≡ count_by is_page (exchanges ++ one ∷ [])
 pages_more pages exchanges one true is page = rw count_by-append (omega (arith))

@@ -1,5 +1,5 @@
 -- One request of a drill, and its reply.
-use Rattle.std.specs.Prelude.{ℕ, List, Bool, false, ◌≡◌}
+use Rattle.std.specs.Prelude.{ℕ, List, Bool, true, false, ◌≡◌, ◌+◌}
 use Rattle.site_house.specs.History.{History}
 use Rattle.site_http.specs.Connection.{Around}
 use Rattle.site_http.specs.Turn.{TookOne}
@@ -11,3 +11,8 @@ pub record TookReply (page : Bool) (old new : Around) (history : History) (index
   pub took : TookOne old new history 1000 index low buffer buffer-after false
   pub page_is : page ≡ shows_page took.replied.story.text
   pub not_wanting : is_wanting took.replied.story.text ≡ false
+
+-- how many replies show a page, once one more is counted that does or doesn't
+abbrev pub pages_with : ℕ → Bool → ℕ
+pages_with pages true = pages + 1
+pages_with pages false = pages

@@ -4,7 +4,7 @@ ghost use Rattle.site_house.specs.House.{Moves, history_of};
 ghost use Rattle.site_house.specs.History.{newest};
 ghost use Rattle.site_io.specs.Series.{GivesInTurn, last_moment, last_word};
 ghost use Rattle.site_drill.specs.Replies.{AllAnswered};
-ghost use Rattle.site_drill.specs.Steps.{TookReply};
+ghost use Rattle.site_drill.specs.Steps.{TookReply, pages_with};
 
 use crate::replies::{bytes_from, is_wanting, shows_page};
 use edit_paths::EditPaths;
@@ -73,6 +73,14 @@ fn answer_next<H: House, S: Source, C: Clock, E: Entropy, G: Gate>(
     Ok(shows_page(text))
 }
 
+/// How many replies show a page, once this one is counted.
+fn pages_with(pages: u64, page: bool) -> u64
+    requires { pages < 1000 }
+    ensures { result ≡ pages_with pages page }
+{
+    if page { pages + 1 } else { pages }
+}
+
 /// Answers 900 requests, which are all that the source has, and says how many of the replies show a page.
 pub(crate) fn answer_all<H: House, S: Source, C: Clock, E: Entropy, G: Gate>(
     alloc: Global,
@@ -98,9 +106,7 @@ pub(crate) fn answer_all<H: House, S: Source, C: Clock, E: Entropy, G: Gate>(
         let page = answer_next(
             alloc, paths, inbox, house, source, sink, clock, entropy, gate, index,
         )?;
-        if page {
-            pages += 1;
-        }
+        pages = pages_with(pages, page);
     }
     match turn(
         alloc, paths, house, source, sink, clock, entropy, gate, inbox, REQUESTS,

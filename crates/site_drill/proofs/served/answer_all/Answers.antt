@@ -19,4 +19,9 @@ requests-init g c =
     }
 
 pub requests-preserved : goal.requests-preserved
-requests-preserved g c = ?
+requests-preserved g c = record {
+  moves = moves_on c.requests.invariant.moves c.answer_next.ensures.moves;
+  underway = subst (λ (n : ℕ). ?) (sym c.pages_with.ensures) (goes_in {house = g.H.House.sees c.requests.house} {house' = g.H.House.sees c.answer_next.new.house} c.answer_next.new.inbox (omega arith) c.answer_next.ensures.moves c.requests.invariant.underway c.in_ok-page.ensures.took);
+  moments = turn_more c.requests.invariant.moments c.answer_next.ensures.moments;
+  few = ?;
+}
