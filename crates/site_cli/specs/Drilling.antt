@@ -1,8 +1,8 @@
 -- The drill, as a job.
 use Rattle.std.specs.Prelude.{ℕ, ◌≡◌, ◌⊎◌}
 use Rattle.site_drill.specs.Drill.{Drills}
-use Rattle.site_drill.specs.declared.drill.DrillEnd.{DrillEnd}
-use Rattle.site_drill.specs.declared.drill.DrillEnd.TheVariants as end
+use Rattle.site_drill.specs.declared.job.DrillEnd.{DrillEnd}
+use Rattle.site_drill.specs.declared.job.DrillEnd.TheVariants as end
 use Rattle.site_cli.specs.Outside.{Outside, Starves}
 
 -- the status of a drill's end

@@ -134,6 +134,13 @@ fn drill_command<'a>(alloc: Global) -> Result<Command<'a>, AllocError>
     Command::new(alloc, "drill").arg(Arg::new(alloc, "N").required(true))
 }
 
+/// A command with the drill.
+fn with_drill_command<'a>(alloc: Global, command: Command<'a>) -> Result<Command<'a>, AllocError>
+    ensures { IfOk result (λ c. app_of c ≡ with_subcommand (app_of command.entry) drill_app.top) }
+{
+    command.subcommand(drill_command(alloc)?)
+}
+
 /// The program's commands.
 fn site_command<'a>(alloc: Global) -> Result<Command<'a>, AllocError>
     ensures { IfOk result (λ c. app_of c ≡ synopsis) }
@@ -142,7 +149,8 @@ fn site_command<'a>(alloc: Global) -> Result<Command<'a>, AllocError>
     let importing = with_store_command(alloc, serving, "import")?;
     let exporting = with_store_command(alloc, importing, "export")?;
     let checking = with_store_command(alloc, exporting, "check")?;
-    checking.subcommand(drill_command(alloc)?)
+    let drilling = with_drill_command(alloc, checking)?;
+    Ok(drilling)
 }
 
 /// Why clap refused the words.

@@ -15,10 +15,10 @@ use Rattle.drill_input.specs.Asked.{asked}
 use Rattle.site_drill.specs.Lines.{drill_text}
 use Rattle.site_drill.specs.Replies.{Exchange, AreReplies, NoneWanting, is_page, requests_of, whole}
 use Rattle.site_drill.specs.Tally.{built_in}
-use Rattle.site_drill.specs.declared.drill.DrillEnd.{DrillEnd}
-use Rattle.site_drill.specs.declared.drill.DrillEnd.TheVariants as end
-use Rattle.site_drill.specs.declared.drill.NoDrill.{NoDrill}
-use Rattle.site_drill.specs.declared.drill.NoDrill.TheVariants as none
+use Rattle.site_drill.specs.declared.job.DrillEnd.{DrillEnd}
+use Rattle.site_drill.specs.declared.job.DrillEnd.TheVariants as end
+use Rattle.site_drill.specs.declared.job.NoDrill.{NoDrill}
+use Rattle.site_drill.specs.declared.job.NoDrill.TheVariants as none
 use Rattle.site_drill.specs.declared.figures.Figures.{Figures}
 use Rattle.site_house.specs.History.{newest_of}
 

@@ -1,6 +1,6 @@
 -- The devices of a drill, before it.
 use Rattle.std.specs.Prelude.{ℕ, List, [], ◌≡◌}
-use Rattle.site_drill.specs.declared.drill.Devices.{Devices}
+use Rattle.site_drill.specs.declared.job.Devices.{Devices}
 use Rattle.site_drill.specs.Drill.{moments_to}
 
 -- the source has these bytes, the clock is to give the moments of a drill, and nothing was written, given, drawn or told yet

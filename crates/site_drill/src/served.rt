@@ -9,7 +9,7 @@ ghost use Rattle.site_drill.specs.Steps.{TookReply, pages_with};
 use crate::replies::{bytes_from, is_wanting, shows_page};
 use edit_paths::EditPaths;
 use site_house::House;
-use site_http::{Inbox, turn};
+use site_http::{Inbox, serve_turn};
 use site_io::{Clock, Ended, Entropy, Gate, MemorySink, Source};
 use std::alloc::Global;
 
@@ -61,7 +61,7 @@ fn answer_next<H: House, S: Source, C: Clock, E: Entropy, G: Gate>(
     ensures words { GivesInTurn last_word (E.words entropy.old) (E.words entropy.new) (E.given entropy.old) (E.given entropy.new) }
 {
     let from = sink.bytes().len();
-    if let Some(ended) = turn(
+    if let Some(ended) = serve_turn(
         alloc, paths, house, source, sink, clock, entropy, gate, inbox, index,
     ) {
         return Err(stop_of(ended));
@@ -108,7 +108,7 @@ pub(crate) fn answer_all<H: House, S: Source, C: Clock, E: Entropy, G: Gate>(
         )?;
         pages = pages_with(pages, page);
     }
-    match turn(
+    match serve_turn(
         alloc, paths, house, source, sink, clock, entropy, gate, inbox, REQUESTS,
     ) {
         Some(Ended::Closed) => Ok(pages),

@@ -19,5 +19,5 @@ pub use http_heads::{
     reply_head,
 };
 pub use next::Inbox;
-pub use turn::turn;
+pub use turn::turn as serve_turn;
 pub use worker::{Worked, work};

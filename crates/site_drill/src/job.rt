@@ -41,7 +41,7 @@ pub(crate) enum NoDrill {
 }
 
 impl From<AllocError> for NoDrill {
-    ghost use Rattle.site_drill.specs.declared.drill.NoDrill.TheVariants.{OutOfMemory};
+    ghost use Rattle.site_drill.specs.declared.job.NoDrill.TheVariants.{OutOfMemory};
 
     ghost from_gives = { λ _ none. none ≡ OutOfMemory };
 

@@ -1,7 +1,7 @@
 use Rattle.std.proofs.Common.{◌≡◌, ◌∙◌, ap, refl, sym, length, Some}
 use Rattle.site_hall.specs.Alone.{house_of}
 use Rattle.site_drill.proofs.Drilling.{drilled, served_fresh}
-use Rattle.site_drill.proofs.drill.answer_over.Goals as goal
+use Rattle.site_drill.proofs.job.answer_over.Goals as goal
 
 pub returns-in-Ok-clause-answered : goal.returns-in-Ok-clause-answered
 returns-in-Ok-clause-answered c =
