@@ -272,7 +272,10 @@ fn number_given(alloc: Global, matches: &ArgMatches<'_>) -> Result<Option<u64>, 
     ensures { IfOk result (λ number. number ≡ number_given (first_of (codes "N") (rows_of (found_of matches.now)))) }
 {
     match matches.get_str("N") {
-        Some(text) => number_of(alloc, text),
+        Some(text) => {
+            let number = number_of(alloc, text)?;
+            Ok(number)
+        }
         None => Ok(None),
     }
 }

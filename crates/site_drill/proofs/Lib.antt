@@ -1,4 +1,5 @@
 pub mod Counting
+pub mod Counts
 pub mod Digest
 pub mod Exchanges
 pub mod Underway

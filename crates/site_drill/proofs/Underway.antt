@@ -4,7 +4,6 @@ use Rattle.std.specs.Prelude.{All}
 use Rattle.std.specs.List.{count_by}
 use Rattle.std.proofs.Math.Seq.{drop-append_seam}
 use Rattle.std.proofs.lemmas.List.{append-nil}
-use Rattle.std.proofs.lemmas.List.Sums.{count_by-append}
 use Rattle.std.proofs.lemmas.List.Elements.{All-append}
 use Rattle.site_io.specs.declared.ended.Ended.TheVariants as ended
 use Rattle.http_heads.specs.declared.request.Request.{Request}
@@ -25,6 +24,7 @@ use Rattle.site_io.specs.Told.{after as told}
 use Rattle.site_drill.specs.Fronts.{is_wanting, shows_page}
 use Rattle.site_drill.specs.Replies.{AllAnswered, AreReplies, Exchange, NoneWanting, is_page, requests_of, whole}
 use Rattle.site_drill.specs.Steps.{TookReply, pages_with}
+use Rattle.site_drill.proofs.Counts.{count_no, count_yes}
 use Rattle.site_drill.proofs.Exchanges.{replies_grow, replies_more, requests_more, whole_more}
 
 -- so many requests are answered, of whose replies so many show a page, and these bytes stand in the buffer
@@ -91,8 +91,8 @@ pages_few pages count true few = omega arith
 pages_few pages count false few = omega arith
 
 pages_more : (pages : ℕ) (exchanges : List Exchange) (one : Exchange) (page : Bool) → pages ≡ count_by is_page exchanges → page ≡ is_page one → pages_with pages page ≡ count_by is_page (exchanges ++ one ∷ [])
-pages_more pages exchanges one true is page = rw count_by-append (omega (arith))
-pages_more pages exchanges one false is page = rw count_by-append (omega (arith))
+pages_more pages exchanges one true is page = ap (λ (n : ℕ). n + 1) is ∙ sym (count_yes is_page exchanges one (sym page))
+pages_more pages exchanges one false is page = is ∙ sym (count_no is_page exchanges one (sym page))
 
 goes_on : {old now new : Around} {history : History} {low count pages seen : ℕ} {page : Bool} {buffer buffer' : List ℕ} → count < 1000 → Underway old now history low count pages seen buffer → TookReply page now new history count seen buffer buffer' → Underway old new history low (count + 1) (pages_with pages page) (newest history) buffer'
 goes_on {old} {now} {new} {history} {low} {count} {pages} {seen} {page} {buffer} {buffer'} few u t =

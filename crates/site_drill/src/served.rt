@@ -1,5 +1,5 @@
 //! A connection of a drill, one request after the other.
-ghost use Rattle.std.specs.Prelude.{◌≡◌, ◌<◌, ◌≤◌, IfOk, Some};
+ghost use Rattle.std.specs.Prelude.{◌≡◌, ◌<◌, ◌+◌, ◌≤◌, [], IfOk, Some};
 ghost use Rattle.site_house.specs.House.{Moves, history_of};
 ghost use Rattle.site_house.specs.History.{newest};
 ghost use Rattle.site_io.specs.Series.{GivesInTurn, last_moment, last_word};

@@ -1,9 +1,9 @@
 pub mod Asks
 pub mod Fixed
-mod Told
-mod Stories
+pub mod Told
+pub mod Stories
 mod Made
-mod Grow
+pub mod Grow
 mod Progress
 mod Ends
 mod Longer
