@@ -1,5 +1,5 @@
 -- A drill on its way: so many requests are answered.
-use Rattle.std.proofs.Common.{◌≡◌, ◌∙◌, ◌++◌, ◌+◌, ◌-◌, ◌<◌, ◌≤◌, List, [], ◌∷◌, ℕ, suc, Bool, true, false, cond, Some, length, drop, Option, ap, sym, refl, subst, arith, rules, length-append, append_assoc}
+use Rattle.std.proofs.Common.{◌≡◌, ◌∙◌, ◌++◌, ◌+◌, ◌-◌, ◌<◌, ◌≤◌, List, [], ◌∷◌, ℕ, zero, suc, Bool, true, false, cond, Some, length, drop, Option, ap, sym, refl, subst, arith, rules, length-append, append_assoc}
 use Rattle.std.specs.Prelude.{All}
 use Rattle.std.specs.List.{count_by}
 use Rattle.std.proofs.Math.Seq.{drop-append_seam}
@@ -94,6 +94,11 @@ pages_more : (pages : ℕ) (exchanges : List Exchange) (one : Exchange) (page : 
 pages_more pages exchanges one true is page = ap (λ (n : ℕ). n + 1) is ∙ sym (count_yes is_page exchanges one (sym page))
 pages_more pages exchanges one false is page = is ∙ sym (count_no is_page exchanges one (sym page))
 
+-- what holds of one member holds of all of a list of it alone
+all_one : (P : Exchange → Type 0) (one : Exchange) → P one → All P (one ∷ [])
+all_one P one here zero d few = here
+all_one P one here (suc k) d few = absurd (omega arith)
+
 goes_on : {old now new : Around} {history : History} {low count pages seen : ℕ} {page : Bool} {buffer buffer' : List ℕ} → count < 1000 → Underway old now history low count pages seen buffer → TookReply page now new history count seen buffer buffer' → Underway old new history low (count + 1) (pages_with pages page) (newest history) buffer'
 goes_on {old} {now} {new} {history} {low} {count} {pages} {seen} {page} {buffer} {buffer'} few u t =
     let a = t.took in
@@ -118,7 +123,7 @@ goes_on {old} {now} {new} {history} {low} {count} {pages} {seen} {page} {buffer}
       not_above = subst (λ (s : Story). s.high ≤ newest history) (sym (whole_more low u.exchanges one)) r.not_above;
       within = omega arith;
       pages_is = pages_more pages u.exchanges one page u.pages_is t.page_is;
-      none_wanting = All-append (λ (e : Exchange). is_wanting e.story.text ≡ false) u.exchanges (one ∷ []) u.none_wanting (t.not_wanting, tt);
+      none_wanting = All-append (λ (e : Exchange). is_wanting e.story.text ≡ false) u.exchanges (one ∷ []) u.none_wanting (all_one (λ (e : Exchange). is_wanting e.story.text ≡ false) one t.not_wanting);
     }
 
 pub goes_in : {old now new : Around} {house house' : HouseView} {low count pages : ℕ} {page : Bool} {buffer : List ℕ} (buffer' : List ℕ) → count < 1000 → Moves house house' → Underway old now (history_of house) low count pages (newest (history_of house)) buffer → TookReply page now new (history_of house') count (newest (history_of house)) buffer buffer' → Underway old new (history_of house') low (count + 1) (pages_with pages page) (newest (history_of house')) buffer'

@@ -8,7 +8,7 @@ pub returns-clause-took : goal.returns-clause-took
 returns-clause-took g c =
     took_reply c.shows_page.result c.is_wanting.result
     (record { left = g.S.Source.left c.args.source.now; out = record { given = g.C.Clock.given c.args.clock.now; words = g.E.Entropy.given c.args.entropy.now; points = g.G.Gate.reached c.args.gate.now; written = Some c.args.sink.now.written; handed = (g.H.House.sees c.args.house.now).handed; keepers = (g.H.House.sees c.args.house.now).keepers } })
-    (record { left = g.S.Source.left c.serve_turn.new.source; out = record { given = g.C.Clock.given c.serve_turn.new.clock; words = g.E.Entropy.given c.serve_turn.new.entropy; points = g.G.Gate.reached c.serve_turn.new.gate; written = Some c.serve_turn.new.sink.written; handed = (g.H.House.sees c.serve_turn.new.house).handed; keepers = (g.H.House.sees c.serve_turn.new.house).keepers } })
-    (history_of (g.H.House.sees c.serve_turn.new.house)) c.args.index (newest (history_of (g.H.House.sees c.args.house.now))) c.args.inbox.now c.serve_turn.new.inbox
-    c.args.sink.now.written c.serve_turn.new.sink.written c.bytes_from-text.result.now
-    refl refl ? c.shows_page.ensures c.is_wanting.ensures c.if-is_wanting.false c.in_default.ensures.turned
+    (record { left = g.S.Source.left c.turn.new.source; out = record { given = g.C.Clock.given c.turn.new.clock; words = g.E.Entropy.given c.turn.new.entropy; points = g.G.Gate.reached c.turn.new.gate; written = Some c.turn.new.sink.written; handed = (g.H.House.sees c.turn.new.house).handed; keepers = (g.H.House.sees c.turn.new.house).keepers } })
+    (history_of (g.H.House.sees c.turn.new.house)) c.args.index (newest (history_of (g.H.House.sees c.args.house.now))) c.args.inbox.now c.turn.new.inbox
+    c.args.sink.now.written c.turn.new.sink.written c.bytes_from-text.result.now
+    refl refl (cc) c.shows_page.ensures c.is_wanting.ensures c.if-is_wanting.false c.in_default.ensures.turned
