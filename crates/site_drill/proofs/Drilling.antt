@@ -115,15 +115,6 @@ drilled site requests left given words points written moments moments-after hous
       digest = digest_is ∙ ap (λ (l : List ℕ). encode_lower (sha256 l)) written_is;
     }
 
--- one moment more
-pub next_moment : (count : ℕ) → moments_to (count + 1) ≡ moments_to count ++ (1000 + count) ∷ []
-unfolding moments_to
-next_moment count = ap moments_to (add-one count)
-
-pub no_moment : moments_to 0 ≡ []
-unfolding moments_to
-no_moment = refl
-
 -- the same over devices that are fresh
 pub record ServedFresh (site : State) (requests left-before left given-before given : List ℕ) (words-before : List ℕ) (words : Option (List ℕ)) (points-before points : List Point) (written-before written : List ℕ) (moments moments-after : List ℕ) (house house-after : HouseView) (pages : ℕ) : Type 0 where
   pub left_is : left-before ≡ requests

@@ -4,3 +4,4 @@ pub mod Digest
 pub mod Exchanges
 pub mod Underway
 pub mod Drilling
+pub mod Moments

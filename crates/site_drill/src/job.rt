@@ -52,7 +52,7 @@ impl From<AllocError> for NoDrill {
 
 /// Why requests that were not all answered make no drill.
 fn not_answered(stop: Stop) -> NoDrill
-    ensures { IsNoDrill 0 result }
+    ensures { (number : ℕ) → IsNoDrill number result }
 {
     match stop {
         Stop::Unanswered => NoDrill::Unanswered,
@@ -71,6 +71,7 @@ struct Devices {
 }
 
 /// The moments of the requests.
+#[tactic(auto, using(crate::proofs::Moments::no_moment, crate::proofs::Moments::next_moment))]
 fn moments(alloc: Global) -> Result<Vec<u64>, AllocError>
     ensures { IfOk result (λ moments. moments.items ≡ moments_to 900) }
 {
@@ -97,10 +98,9 @@ fn devices_for(alloc: Global, text: Vec<u8>) -> Result<Devices, AllocError>
 }
 
 /// Answers the requests over a site, and counts.
-fn answer_over(alloc: Global, state: &State, text: Vec<u8>) -> Result<Figures, NoDrill>
+fn answer_over(alloc: Global, state: &State, text: Vec<u8>) -> Result<Figures, Stop>
     requires { IsValidState state.now }
-    ensures answered { IfOk result (λ figures. IsAnswered state.now text.items figures) }
-    ensures none { IfErr result (λ none. IsNoDrill 0 none) }
+    ensures { IfOk result (λ figures. IsAnswered state.now text.items figures) }
 {
     let mut devices = devices_for(alloc, text)?;
     let mut desk = Desk::new(alloc)?;
@@ -124,7 +124,7 @@ fn answer_over(alloc: Global, state: &State, text: Vec<u8>) -> Result<Figures, N
             bytes: devices.sink.bytes().len() as u64,
             sha256: digest_of(devices.sink.bytes()),
         }),
-        Err(stop) => Err(not_answered(stop)),
+        Err(stop) => Err(stop),
     }
 }
 
@@ -139,7 +139,10 @@ fn figures_of(alloc: Global, number: u64) -> Result<Figures, NoDrill>
     if !state.is_valid(alloc)? {
         return Err(NoDrill::NoSite);
     }
-    answer_over(alloc, &state, requests.into_text())
+    match answer_over(alloc, &state, requests.into_text()) {
+        Ok(figures) => Ok(figures),
+        Err(stop) => Err(not_answered(stop)),
+    }
 }
 
 /// The lines of the drill that is made from a number.

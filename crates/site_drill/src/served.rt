@@ -11,7 +11,7 @@ use edit_paths::EditPaths;
 use site_house::House;
 use site_http::{Inbox, serve_turn};
 use site_io::{Clock, Ended, Entropy, Gate, MemorySink, Source};
-use std::alloc::Global;
+use std::alloc::{AllocError, Global};
 
 /// How many requests a drill makes.
 pub(crate) const REQUESTS: u64 = 900;
@@ -23,6 +23,17 @@ pub(crate) enum Stop {
     Unanswered,
     /// Memory was wanting, or room for the replies.
     OutOfMemory,
+}
+
+impl From<AllocError> for Stop {
+    ghost use Rattle.std.specs.Prelude.{◌≡◌};
+    ghost use Rattle.site_drill.specs.declared.served.Stop.TheVariants.{OutOfMemory};
+
+    ghost from_gives = { λ _ stop. stop ≡ OutOfMemory };
+
+    fn from(_wanting: AllocError) -> Stop {
+        Stop::OutOfMemory
+    }
 }
 
 /// Why a connection ended where it was to go on.

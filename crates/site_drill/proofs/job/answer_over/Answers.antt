@@ -1,10 +1,12 @@
-use Rattle.std.proofs.Common.{◌≡◌, ◌∙◌, ap, refl, sym, length, Some}
+use Rattle.std.proofs.Common.{◌≡◌, ◌∙◌, ap, refl, sym, length, Some, List, ℕ}
+use Rattle.hex.specs.Hex.{encode_lower}
+use Rattle.sha2.specs.Sha256.{sha256}
 use Rattle.site_hall.specs.Alone.{house_of}
 use Rattle.site_drill.proofs.Drilling.{drilled, served_fresh}
 use Rattle.site_drill.proofs.job.answer_over.Goals as goal
 
-pub returns-in-Ok-clause-answered : goal.returns-in-Ok-clause-answered
-returns-in-Ok-clause-answered c =
+pub returns-in-Ok : goal.returns-in-Ok
+returns-in-Ok c =
     let devices = c.in_ok-devices.devices in
     let fresh = c.in_ok-devices.ensures in
     let ends = c.answer_all.new in
@@ -22,4 +24,4 @@ returns-in-Ok-clause-answered c =
       turn = c.answer_all.ensures.moments;
       answered = c.in-Ok.ensures.answered;
     }))
-    refl c.handed.ensures.count c.built.ensures ? ?
+    refl c.handed.ensures.count c.built.ensures (ap length c.bytes.ensures) (c.digest_of.ensures ∙ ap (λ (l : List ℕ). encode_lower (sha256 l)) c.bytes-in-Ok.ensures)
