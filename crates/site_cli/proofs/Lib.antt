@@ -1,5 +1,4 @@
 mod Replaying
-pub mod Starter
 mod Causes
 mod Loading
 mod Parsing

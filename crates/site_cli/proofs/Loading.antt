@@ -9,7 +9,7 @@ use Rattle.site_files.specs.declared.fault.ReadFault.TheVariants as why
 use Rattle.site_places.specs.Place.{PlaceView, HasTold, OpeningFails, RowsFail}
 use Rattle.site_cli.specs.Run.{IsSiteOf, ReplaysOrStarves, ReplaysFileOrStarves, Runs}
 use Rattle.site_cli.specs.Outside.{Outside, Starves}
-use Rattle.site_cli.specs.Words.{Asked, replay, serves, imports, exports, checks}
+use Rattle.site_cli.specs.Words.{Asked, replay, serves, imports, exports, checks, drills}
 
 -- rows that a device told are those that the place told of it beforehand
 pub told_before : (bytes left : Option (List ℕ)) (P : List ℕ → Type 0) → HasTold bytes left → IsToldBy left P → IsToldBy bytes P
@@ -59,3 +59,4 @@ starved (Some (serves what)) here = inr (starves here)
 starved (Some (imports path)) here = inr (inr (starves here))
 starved (Some (exports path)) here = inr (inr (starves here))
 starved (Some (checks path)) here = inr (inr (starves here))
+starved (Some (drills number)) here = inr (starves here)

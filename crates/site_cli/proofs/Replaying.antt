@@ -8,7 +8,7 @@ use Rattle.site_io.specs.Series.{AreFirstOf, GivesInTurn, last_moment, last_word
 use Rattle.site_house.specs.History.{History, newest, newest_of}
 use Rattle.site_house.specs.House.{HouseView, Moves, CountRose, history_of}
 use Rattle.site_http.specs.Connection.{Around, Connection}
-use Rattle.site_cli.specs.House.{opened_on}
+use Rattle.site_alone.specs.House.{opened_on}
 use Rattle.site_places.specs.Place.{next_list, none_given, clock_given, entropy_given, IsNoneReached}
 use Rattle.site_cli.specs.Run.{status_of, Replays}
 use Rattle.site_cli.specs.Outside.{Outside}

@@ -1,12 +1,9 @@
 -- What the program does, by its words, and the status that it ends with.
-use Rattle.std.specs.Prelude.{ℕ, List, [], ◌≡◌, ◌⊎◌, Option, Some, None, Ok, fold}
+use Rattle.std.specs.Prelude.{ℕ, List, [], ◌≡◌, ◌⊎◌, Option, Some, None, Ok}
 use Rattle.site_io.specs.declared.ended.Ended.{Ended}
 use Rattle.site_io.specs.declared.ended.Ended.TheVariants as ended
 use Rattle.site_io.specs.Told.{after, AddsFront, Rose}
-use Rattle.content_rows.specs.declared.cell.Cell.{Cell}
-use Rattle.content_rows.specs.declared.row.Row.{Row}
-use Rattle.content_rows.specs.StarterRows.{starter_rows}
-use Rattle.content_state.specs.Rows.{with_row}
+use Rattle.site_alone.specs.Sites.{starter_site}
 use Rattle.content_state.specs.State.{State}
 use Rattle.site_io.specs.Series.{AreFirstOf, last_moment, last_word}
 use Rattle.site_io.specs.declared.device.Point.{Point}
@@ -18,19 +15,12 @@ use Rattle.site_files.specs.Rows.{rows_of as rows_of_file, IsToldBy, IsSiteFault
 use Rattle.site_files.specs.declared.fault.ReadFault.{ReadFault}
 use Rattle.site_places.specs.Place.{next_list, clock_given, entropy_given, none_given, IsNoneReached, OpeningFails, RowsFail}
 use Rattle.site_cli.specs.Outside.{Outside, Starves, HasCause}
+use Rattle.site_cli.specs.Drilling.{DrillsOrStarves}
 use Rattle.site_cli.specs.Jobs.{ImportsOrNot, TellsOrNot}
 use Rattle.site_cli.specs.Serving.{HasServingCause, Serves}
-use Rattle.site_cli.specs.Words.{usage, Asked, replay, serves, imports, exports, checks}
+use Rattle.site_cli.specs.Words.{usage, Asked, replay, serves, imports, exports, checks, drills}
 use Rattle.site_jobs.specs.Jobs.{checked, exported}
 use Rattle.site_jobs.specs.Texts.{fault_text}
-
--- the map of these rows: each is set in turn
-abbrev pub rows_of : List (Cell × Row) → List (Cell × Row)
-rows_of entries = fold (λ rows entry. with_row rows entry.0 entry.1) [] entries
-
--- the starter site, whose number is 0 and whose tags were never invalidated
-abbrev pub starter_site : State
-starter_site = record { rows = rows_of starter_rows; counts = []; number = 0 }
 
 -- the status of a connection's end: 0 where it was answered to its end, 8 where it was refused or cut short
 abbrev pub status_of : Ended → ℕ
@@ -134,6 +124,7 @@ Runs (Some (serves what)) old new status = Serves what old new status ⊎ Starve
 Runs (Some (imports path)) old new status = ImportsOrNot path old new status
 Runs (Some (exports path)) old new status = TellsOrNot exported path old new status
 Runs (Some (checks path)) old new status = TellsOrNot checked path old new status
+Runs (Some (drills number)) old new status = DrillsOrStarves number old new status
 
 -- by which counts the status is told, by the same job
 abbrev pub RunsWithCause : Option Asked → Outside → Outside → ℕ → Type 0
@@ -143,3 +134,4 @@ RunsWithCause (Some (serves what)) old new status = HasServingCause old new stat
 RunsWithCause (Some (imports path)) old new status = HasCause old new status
 RunsWithCause (Some (exports path)) old new status = HasCause old new status
 RunsWithCause (Some (checks path)) old new status = HasCause old new status
+RunsWithCause (Some (drills number)) old new status = HasCause old new status

@@ -4,19 +4,21 @@ use Rattle.std.specs.String.{string_bytes}
 use Rattle.std.specs.Str.{bytes_eq}
 use Rattle.clap.specs.Words.{App, Row, Rule, Text, new_app, new_rule, with_rule, with_subcommand, subcommand_of, fault_of, first_of, Kinds}
 use Rattle.content_rows.specs.IdText.{id_of}
+use Rattle.drill_input.specs.Number.{number_of}
 use Rattle.serve_store.specs.Job.{ToServe, to_serve}
 use Rattle.site_cli.specs.declared.words.Job.{Job}
 use Rattle.site_cli.specs.declared.words.Job.TheVariants as job
 
 -- what the words after the program's name ask for: one connection, over the site of the file of rows of that path, or
 -- over the starter site; or to serve the site of a store; or to fill the store of that path with rows, to write its rows out,
--- or to check it
+-- or to check it; or the drill that is made from a number
 pub data Asked : Type 0 where
   replay : Option (List ℕ) → Asked
   serves : ToServe → Asked
   imports : List ℕ → Asked
   exports : List ℕ → Asked
   checks : List ℕ → Asked
+  drills : ℕ → Asked
 
 abbrev pub asked_of : Job → Asked
 asked_of (job.Replay path) = replay (option_map string_bytes path)
@@ -24,6 +26,7 @@ asked_of (job.Serve serving) = serves (to_serve serving)
 asked_of (job.Import path) = imports (string_bytes path)
 asked_of (job.Export path) = exports (string_bytes path)
 asked_of (job.Check path) = checks (string_bytes path)
+asked_of (job.Drill number) = drills number
 
 -- `replay [ROWS]`
 abbrev pub replay_app : App
@@ -46,14 +49,18 @@ serve_app =
 abbrev pub store_app : List ℕ → App
 store_app name = with_rule (new_app name) (required_rule (codes "store"))
 
+-- `drill N`
+abbrev pub drill_app : App
+drill_app = with_rule (new_app (codes "drill")) (record (new_rule (codes "N")) { required = true })
+
 -- `site`, of whose subcommands one is to be named; the program's name isn't among the words
 abbrev pub site_app : App
 site_app = record (new_app (codes "site")) { top = record (new_app (codes "site")).top { no_binary_name = true; subcommand_required = true } }
 
 abbrev pub synopsis : App
 synopsis =
-    with_subcommand (with_subcommand (with_subcommand (with_subcommand (with_subcommand site_app replay_app.top) serve_app.top)
-    (store_app (codes "import")).top) (store_app (codes "export")).top) (store_app (codes "check")).top
+    with_subcommand (with_subcommand (with_subcommand (with_subcommand (with_subcommand (with_subcommand site_app replay_app.top) serve_app.top)
+    (store_app (codes "import")).top) (store_app (codes "export")).top) (store_app (codes "check")).top) drill_app.top
 
 -- the job of that name on the store of a path
 abbrev pub store_job : List ℕ → Option (List ℕ) → Option Asked
@@ -85,11 +92,16 @@ abbrev pub serve_job : Option (List ℕ) → Option (List ℕ) → Option ℕ �
 serve_job (Some store) (Some address) (Some workers) (Some limit) = Some (serves (record { store = store; address = address; workers = workers; limit = limit }))
 serve_job _ _ _ _ = None
 
+-- the number of a drill, where it is given as one
+abbrev pub number_given : Option (List ℕ) → Option ℕ
+number_given text = option_and_then number_of text
+
 -- the job of a subcommand, by its name and what was found of its arguments
 abbrev pub named_job : List ℕ → List Row → Option Asked
 named_job name found =
     if bytes_eq name (codes "replay") then Some (replay (first_of (codes "ROWS") found)) else
     if bytes_eq name (codes "serve") then serve_job (first_of (codes "store") found) (first_of (codes "listen") found) (workers_in found) (limit_in found) else
+    if bytes_eq name (codes "drill") then option_map drills (number_given (first_of (codes "N") found)) else
     store_job name (first_of (codes "store") found)
 
 abbrev pub job_of : Option (Text × List Row) → Option Asked

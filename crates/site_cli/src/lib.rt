@@ -1,7 +1,7 @@
 //! What the program `site` does: what it is asked by its words, and the places that it works at.
 #![tactic(auto)]
 
-mod alone;
+mod drilling;
 mod jobs;
 mod load;
 mod run;
@@ -9,9 +9,9 @@ mod serving;
 mod system;
 mod words;
 
-pub use alone::alone_with;
-pub use run::{refuse_words, rows_of, run_site, starter_is_valid};
+pub use run::{refuse_words, run_site};
 pub use serve_store::Serving;
+pub use site_alone::{alone_with, rows_of, starter_is_valid};
 pub use site_places::{
     MemoryFile, MemoryPlace, MemoryPort, MemoryStore, NoDevice, Place, SystemPlace,
 };

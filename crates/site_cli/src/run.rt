@@ -1,26 +1,26 @@
 //! What the program does.
-ghost use Rattle.std.specs.Prelude.{◌≡◌, ◌≤◌, ◌⊎◌, IfOk, map};
+ghost use Rattle.std.specs.Prelude.{◌≡◌, ◌≤◌, ◌⊎◌, map};
 ghost use Rattle.std.specs.String.{string_bytes};
 ghost use Rattle.site_io.specs.Told.{after, AddsFront, Rose};
 ghost use Rattle.content_state.specs.SiteRules.{IsValidState};
 ghost use Rattle.site_cli.specs.Words.{asked, usage};
 ghost use Rattle.site_cli.specs.Outside.{HasCause};
-ghost use Rattle.site_cli.specs.Run.{rows_of, starter_site, status_of, ReplaysFileOrStarves, ReplaysOrStarves, Runs, RunsWithCause};
+ghost use Rattle.site_alone.specs.Sites.{starter_site};
+ghost use Rattle.site_cli.specs.Run.{status_of, ReplaysFileOrStarves, ReplaysOrStarves, Runs, RunsWithCause};
 
-use crate::alone::alone_with;
+use crate::drilling::drill_job;
 use crate::jobs::{check_job, export_job, import_job};
 use crate::load::{NoSite, load};
 use crate::serving::serve_job;
 use crate::words::{Job, WordFault, read_words};
-use content_rows::{Cell, Row, starter};
-use content_state::{Rows, State};
+use content_state::State;
+use site_alone::{alone_with, starter_state};
 use site_http::serve_connection;
 use site_io::{Door, Ended, Sink, Source, write_whole};
 use site_places::Place;
-use std::alloc::{AllocError, Global};
-use std::sync::{Arc, Wait};
+use std::alloc::Global;
+use std::sync::Wait;
 use std::thread::Threads;
-use tag_counts::Counts;
 
 /// Prints how the program is called.
 #[tactic(auto, unfolding(crate::specs::Words::usage))]
@@ -47,32 +47,6 @@ fn status_of(ended: Ended) -> u8
         Ended::WriteFault => 6,
         Ended::OutOfMemory => 9,
     }
-}
-
-/// The map of these rows.
-pub fn rows_of(alloc: Global, entries: Vec<(Cell, Row)>) -> Result<Rows, AllocError>
-    ensures { IfOk result (λ rows. rows ≡ rows_of entries.items) }
-{
-    let mut rows = Rows::new(alloc);
-    'entries: for (cell, row) in entries {
-        rows.set(cell, Arc::new(alloc, row)?)?;
-    }
-    Ok(rows)
-}
-
-/// The law that the new site is valid: each of its rows is right, and no cell breaks a rule of sites.
-#[tactic(auto, using(crate::proofs::Starter::valid))]
-pub fn starter_is_valid()
-    ensures { IsValidState starter_site }
-{}
-
-/// The starter site, which is valid.
-fn starter_state(alloc: Global) -> Result<State, AllocError>
-    ensures same { IfOk result (λ s. s ≡ starter_site) }
-    ensures valid { IfOk result IsValidState }
-{
-    let rows = rows_of(alloc, starter(alloc)?)?;
-    State::new(alloc, rows, Counts::new(alloc), 0)
 }
 
 /// Prints why the rows of a file are refused.
@@ -177,13 +151,13 @@ fn replay_file<P: Place, R>(
 
 /// Does what the words ask for, and answers the status of the program.
 ///
-/// 0: the connection was answered to its end, the job over the store was done, or as many connections were served as there
-/// was leave for. 2: the words are no command line, and how the program is called was printed. 3: the rows of the file, of
+/// 0: the connection was answered to its end, the job over the store or the drill was done, or as many connections were served
+/// as there was leave for. 2: the words are no command line, and how the program is called was printed. 3: the rows of the file, of
 /// the input or of the store are refused, and the first fault was printed. 4: the store's keeper failed to load or at an
 /// import, and the place's count of those rose; nothing was printed. 5, 6: the input or the output failed, and its count of
 /// faults rose. 7: the file of rows, the store or a door wasn't opened, reading the file failed, or a worker stopped for its
 /// door, and one of the place's counts rose. 8: the connection was refused, or its input ended within a request. 9: memory
-/// was wanting. What the place gave to read the rows, the keeper of the store and the doors are given back.
+/// was wanting, or a reply of the drill says so. What the place gave to read the rows, the keeper of the store and the doors are given back.
 pub fn run_site<P: Place, R: Threads + Wait + Sync>(
     rt: &R,
     alloc: Global,
@@ -213,6 +187,7 @@ where
         Ok(Job::Import(path)) => import_job(alloc, path.as_str(), place, input, output),
         Ok(Job::Export(path)) => export_job(alloc, path.as_str(), place, input, output),
         Ok(Job::Check(path)) => check_job(alloc, path.as_str(), place, input, output),
+        Ok(Job::Drill(number)) => drill_job(alloc, number, place, input, output),
         Err(WordFault::BadWords) => refuse_words(output),
         Err(WordFault::OutOfMemory) => 9,
     }

@@ -6,11 +6,12 @@ ghost use Rattle.std.specs.IoError.{error_kind};
 ghost use Rattle.clap.specs.Words.{app_of, fault_of, first_of, found_of, kind_of, rows_of, rule_of, subcommand_of, subcommand_rows_of, with_subcommand};
 ghost use Rattle.clap.specs.declared.builder.command.Command.TheViews.{out-Command as fields_of};
 ghost use Rattle.clap.specs.declared.error.kind.ErrorKind.TheVariants as kind;
-ghost use Rattle.site_cli.specs.Words.{asked, asked_of, limit_in, named_job, number_or, number_to, option_rule, replay_app, required_rule, serve_app, serve_job, site_app, store_app, store_job, synopsis, workers_in};
+ghost use Rattle.site_cli.specs.Words.{asked, asked_of, drill_app, drills, limit_in, named_job, number_given, number_or, number_to, option_rule, replay_app, required_rule, serve_app, serve_job, site_app, store_app, store_job, synopsis, workers_in};
 
 use clap::error::ErrorKind as ClapKind;
 use clap::{Arg, ArgMatches, Command, Error as ClapError};
 use content_rows::id_of;
+use drill_input::number_of;
 use serve_store::Serving;
 use std::alloc::{AllocError, Global};
 use std::env::Args;
@@ -31,6 +32,8 @@ pub enum Job {
     Export(String),
     /// `check --store PATH`: check that the store of that path holds a site.
     Check(String),
+    /// `drill N`: answer the requests that are made from that number, in memory, and tell what came of it.
+    Drill(u64),
 }
 
 /// Why the words name no job.
@@ -123,6 +126,21 @@ fn serving_site<'a>(alloc: Global) -> Result<Command<'a>, AllocError>
     replay_site(alloc)?.subcommand(serve_command(alloc)?)
 }
 
+/// `drill N`.
+fn drill_command<'a>(alloc: Global) -> Result<Command<'a>, AllocError>
+    ensures app { IfOk result (λ c. app_of c ≡ drill_app) }
+    ensures local { IfOk result (λ c. (fields_of c).has_globals ≡ false) }
+{
+    Command::new(alloc, "drill").arg(Arg::new(alloc, "N").required(true))
+}
+
+/// A command with the drill.
+fn with_drill_command<'a>(alloc: Global, command: Command<'a>) -> Result<Command<'a>, AllocError>
+    ensures { IfOk result (λ c. app_of c ≡ with_subcommand (app_of command.entry) drill_app.top) }
+{
+    command.subcommand(drill_command(alloc)?)
+}
+
 /// The program's commands.
 fn site_command<'a>(alloc: Global) -> Result<Command<'a>, AllocError>
     ensures { IfOk result (λ c. app_of c ≡ synopsis) }
@@ -131,7 +149,8 @@ fn site_command<'a>(alloc: Global) -> Result<Command<'a>, AllocError>
     let importing = with_store_command(alloc, serving, "import")?;
     let exporting = with_store_command(alloc, importing, "export")?;
     let checking = with_store_command(alloc, exporting, "check")?;
-    Ok(checking)
+    let drilling = with_drill_command(alloc, checking)?;
+    Ok(drilling)
 }
 
 /// Why clap refused the words.
@@ -248,6 +267,29 @@ fn store_job(name: &str, path: String) -> Option<Job>
     }
 }
 
+/// The number that a drill is made from.
+fn number_given(alloc: Global, matches: &ArgMatches<'_>) -> Result<Option<u64>, AllocError>
+    ensures { IfOk result (λ number. number ≡ number_given (first_of (codes "N") (rows_of (found_of matches.now)))) }
+{
+    match matches.get_str("N") {
+        Some(text) => {
+            let number = number_of(alloc, text)?;
+            Ok(number)
+        }
+        None => Ok(None),
+    }
+}
+
+/// The drill, where its number is said.
+fn drill_job(alloc: Global, matches: &ArgMatches<'_>) -> Result<Option<Job>, AllocError>
+    ensures { IfOk result (λ job. option_map asked_of job ≡ option_map drills (number_given (first_of (codes "N") (rows_of (found_of matches.now))))) }
+{
+    match number_given(alloc, matches)? {
+        Some(number) => Ok(Some(Job::Drill(number))),
+        None => Ok(None),
+    }
+}
+
 /// The job of a subcommand, if it is one.
 fn named_job(alloc: Global, name: &str, matches: &ArgMatches<'_>) -> Result<Option<Job>, AllocError>
     ensures { IfOk result (λ job. option_map asked_of job ≡ named_job name.now (rows_of (found_of matches.now))) }
@@ -257,6 +299,9 @@ fn named_job(alloc: Global, name: &str, matches: &ArgMatches<'_>) -> Result<Opti
     }
     if name == "serve" {
         return serve_job(alloc, matches);
+    }
+    if name == "drill" {
+        return drill_job(alloc, matches);
     }
     match text_given(alloc, matches, "store")? {
         Some(path) => Ok(store_job(name, path)),

@@ -1,7 +1,7 @@
 use Rattle.std.proofs.Common.{rules}
 use Rattle.std.proofs.lemmas.Result.{IfOk-weaker}
-use Rattle.site_cli.proofs.Starter.{valid_as}
-use Rattle.site_cli.proofs.run.starter_state.Goals as goal
+use Rattle.site_alone.proofs.Starter.{valid_as}
+use Rattle.site_alone.proofs.rows.starter_state.Goals as goal
 
 pub returns-clause-same : goal.returns-clause-same
 returns-clause-same c = search rules

@@ -11,7 +11,7 @@ use Rattle.content_rows.proofs.StarterLemmas.{in_cell_order, starter_valid}
 use Rattle.content_state.specs.State.{State}
 use Rattle.content_state.specs.SiteRules.{InOrder, MeetsSiteRules, IsValidState}
 use Rattle.content_state.proofs.Faults.{found_present}
-use Rattle.site_cli.specs.Run.{rows_of, starter_site}
+use Rattle.site_alone.specs.Sites.{rows_of, starter_site}
 
 -- the rows stand in the order of their cells, so setting them in turn gives them as they are
 pub in_turn : rows_of starter_rows ≡ starter_rows

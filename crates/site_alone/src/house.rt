@@ -3,7 +3,7 @@ ghost use Rattle.std.specs.Prelude.{◌≡◌, IfOk};
 ghost use Rattle.content_state.specs.SiteRules.{AreValidRows, IsValidState};
 ghost use Rattle.site_keeper.specs.Steps.{stored_of};
 ghost use Rattle.site_hall.specs.Alone.{house_of};
-ghost use Rattle.site_cli.specs.House.{opened_on};
+ghost use Rattle.site_alone.specs.House.{opened_on};
 
 use content_state::State;
 use site_hall::{Alone, Hall};

@@ -1,6 +1,6 @@
 use Rattle.std.proofs.Common.{◌≡◌}
-use Rattle.site_cli.specs.Run.{rows_of}
-use Rattle.site_cli.proofs.run.rows_of.Given as goal
+use Rattle.site_alone.specs.Sites.{rows_of}
+use Rattle.site_alone.proofs.rows.rows_of.Given as goal
 
 abbrev pub invariant-entries : goal.invariant-entries
 invariant-entries l = l.rows ≡ rows_of l.yielded

@@ -1,0 +1,4 @@
+pub mod Draws
+pub mod Number
+pub mod SiteDrawn
+pub mod Asked

@@ -1,0 +1,7 @@
+pub mod Fronts
+pub mod Lines
+pub mod Replies
+pub mod Steps
+pub mod Tally
+pub mod Drill
+pub mod Fresh
