@@ -1,6 +1,5 @@
 -- What one point more adds to what a gate counts.
-use Rattle.std.proofs.Common.{◌≡◌, ◌++◌, ◌+◌, List, [], ◌∷◌, ℕ, min, arith}
-use Rattle.std.specs.List.{sum_by}
+use Rattle.std.proofs.Common.{◌≡◌, ◌++◌, ◌+◌, List, [], ◌∷◌, min, arith}
 use Rattle.std.proofs.lemmas.List.Sums.{sum_by-append}
 use Rattle.site_io.specs.declared.device.Point.{Point}
 use Rattle.site_drill.specs.Tally.{built_at, built_in}

@@ -1,7 +1,6 @@
 -- From what the requests of a drill were answered with to what is told of it.
-use Rattle.std.proofs.Common.{◌≡◌, ◌∙◌, ◌++◌, ◌+◌, ◌≤◌, ◌⊎◌, List, [], ◌∷◌, ℕ, zero, suc, Option, Some, None, drop, length, min, ap, refl, sym, subst, arith, inl, inr, add-one}
+use Rattle.std.proofs.Common.{◌≡◌, ◌∙◌, ◌++◌, ◌≤◌, ◌⊎◌, List, [], ℕ, zero, suc, Option, Some, drop, length, ap, refl, sym, subst, arith, inl, inr}
 use Rattle.std.proofs.lemmas.List.{append-nil}
-use Rattle.std.specs.List.{count_by}
 use Rattle.hex.specs.Hex.{encode_lower}
 use Rattle.sha2.specs.Sha256.{sha256}
 use Rattle.content_state.specs.State.{State}
@@ -10,14 +9,12 @@ use Rattle.http_heads.specs.Requests.{Empty, Reads}
 use Rattle.site_io.specs.declared.device.Point.{Point}
 use Rattle.site_io.specs.Memory.{up}
 use Rattle.site_io.specs.Series.{AreFirstOf, GivesInTurn, last_moment}
-use Rattle.site_io.specs.Told.{after, before, IsNothingLeft}
 use Rattle.site_house.specs.History.{History, newest, newest_of}
 use Rattle.site_house.specs.House.{HouseView, Moves, CountRose, history_of}
-use Rattle.site_http.specs.Reply.{Story}
-use Rattle.site_http.specs.Connection.{Around, Went, and_points, raised}
+use Rattle.site_http.specs.Connection.{Around, Went, raised}
 use Rattle.site_alone.specs.House.{opened_on}
 use Rattle.site_drill.specs.Drill.{IsAnswered, moments_to}
-use Rattle.site_drill.specs.Replies.{AllAnswered, AreReplies, Exchange, is_page, requests_of, whole}
+use Rattle.site_drill.specs.Replies.{AllAnswered, AreReplies, requests_of, whole}
 use Rattle.site_drill.specs.Tally.{built_in}
 use Rattle.site_drill.specs.declared.figures.Figures.{Figures}
 

@@ -1,9 +1,9 @@
 -- One exchange more, at the end of those before.
-use Rattle.std.proofs.Common.{◌≡◌, ◌∙◌, ◌++◌, ◌+◌, ◌≤◌, List, [], ◌∷◌, ℕ, length, map, ap, sym, refl, subst, arith}
+use Rattle.std.proofs.Common.{◌≡◌, ◌∙◌, ◌++◌, ◌+◌, List, [], ◌∷◌, ℕ, length, ap, sym, refl, subst, arith}
 use Rattle.content_state.specs.declared.commit.Commit.{Commit}
 use Rattle.site_house.specs.History.{History, longer}
 use Rattle.site_http.specs.Reply.{Story, IsText}
-use Rattle.site_http.specs.Connection.{closes_after, joined, nothing}
+use Rattle.site_http.specs.Connection.{closes_after, joined}
 use Rattle.site_http.proofs.Grow.{text_grows}
 use Rattle.site_http.proofs.Stories.{joined_assoc, joined_nothing, nothing_joined}
 use Rattle.site_drill.specs.Replies.{AreReplies, Exchange, requests_of, whole}

@@ -1,5 +1,5 @@
 -- The moments of a drill, one by one.
-use Rattle.std.proofs.Common.{◌≡◌, ◌++◌, ◌+◌, List, [], ◌∷◌, ℕ, ap, refl, add-one}
+use Rattle.std.proofs.Common.{◌≡◌, ◌++◌, ◌+◌, [], ◌∷◌, ℕ, ap, refl, add-one}
 use Rattle.site_drill.specs.Drill.{moments_to}
 
 pub no_moment : moments_to 0 ≡ []

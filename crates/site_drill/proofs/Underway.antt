@@ -1,22 +1,19 @@
 -- A drill on its way: so many requests are answered.
-use Rattle.std.proofs.Common.{◌≡◌, ◌∙◌, ◌++◌, ◌+◌, ◌-◌, ◌<◌, ◌≤◌, List, [], ◌∷◌, ℕ, zero, suc, Bool, true, false, cond, Some, length, drop, Option, ap, sym, refl, subst, arith, rules, length-append, append_assoc}
+use Rattle.std.proofs.Common.{◌≡◌, ◌∙◌, ◌++◌, ◌+◌, ◌-◌, ◌<◌, ◌≤◌, List, [], ◌∷◌, ℕ, zero, suc, Bool, true, false, Some, length, drop, Option, ap, sym, refl, subst, arith, rules, length-append, append_assoc}
 use Rattle.std.specs.Prelude.{All}
 use Rattle.std.specs.List.{count_by}
 use Rattle.std.proofs.Math.Seq.{drop-append_seam}
 use Rattle.std.proofs.lemmas.List.{append-nil}
 use Rattle.std.proofs.lemmas.List.Elements.{All-append}
-use Rattle.site_io.specs.declared.ended.Ended.TheVariants as ended
 use Rattle.http_heads.specs.declared.request.Request.{Request}
-use Rattle.http_heads.specs.declared.parsed.Parsed.TheVariants.{More}
-use Rattle.http_heads.specs.Parses.{Parses}
 use Rattle.http_heads.specs.Requests.{End, Empty, ending, Reads}
 use Rattle.http_heads.proofs.Laws.{reads_next, reads_part}
 use Rattle.site_house.specs.House.{HouseView, Moves, history_of}
 use Rattle.site_house.specs.History.{History, newest}
 use Rattle.site_house.proofs.Histories.{history_moves, newest_grows}
 use Rattle.site_http.specs.Reply.{Story, IsText}
-use Rattle.site_http.specs.Connection.{Around, Gave, Out, Went, closes_after, joined, nothing}
-use Rattle.site_http.specs.Turn.{Ends, TookOne, Turned}
+use Rattle.site_http.specs.Connection.{Around, Gave, Out, Went, closes_after, nothing}
+use Rattle.site_http.specs.Turn.{Ends, TookOne}
 use Rattle.site_http.proofs.Grow.{text_lower}
 use Rattle.site_http.proofs.Stories.{gave_nothing, joined_nothing, went_on}
 use Rattle.site_http.proofs.Told.{before_nothing}

@@ -1,5 +1,5 @@
 -- A drill: a site and requests to it that are made from a number, answered on one connection, and what is printed of that.
-use Rattle.std.specs.Prelude.{ℕ, zero, suc, List, [], ◌∷◌, ◌++◌, ◌≡◌, ◌+◌, Option, Some, codes, length}
+use Rattle.std.specs.Prelude.{ℕ, zero, suc, List, [], ◌∷◌, ◌++◌, ◌≡◌, ◌+◌, Option, Some, length}
 use Rattle.std.specs.List.{count_by}
 use Rattle.sha2.specs.Sha256.{sha256}
 use Rattle.hex.specs.Hex.{encode_lower}
@@ -10,7 +10,7 @@ use Rattle.http_heads.specs.Requests.{Empty, Reads}
 use Rattle.site_io.specs.Series.{AreFirstOf, last_moment}
 use Rattle.site_io.specs.Told.{after, AddsFront, Rose}
 use Rattle.site_alone.specs.Sites.{state_over}
-use Rattle.drill_input.specs.SiteDrawn.{SiteDrawn, site_drawn}
+use Rattle.drill_input.specs.SiteDrawn.{site_drawn}
 use Rattle.drill_input.specs.Asked.{asked}
 use Rattle.site_drill.specs.Lines.{drill_text}
 use Rattle.site_drill.specs.Replies.{Exchange, AreReplies, NoneWanting, is_page, requests_of, whole}

@@ -1,10 +1,10 @@
 -- The replies to the requests of a drill, one by one.
-use Rattle.std.specs.Prelude.{ℕ, List, [], ◌∷◌, ◌≡◌, ◌≤◌, ◌+◌, Bool, false, length, map, All}
+use Rattle.std.specs.Prelude.{ℕ, List, [], ◌∷◌, ◌≡◌, ◌+◌, Bool, false, length, map, All}
 use Rattle.std.specs.List.{count_by}
 use Rattle.http_heads.specs.declared.request.Request.{Request}
 use Rattle.http_heads.specs.Requests.{Empty, Reads}
 use Rattle.site_io.specs.Told.{IsNothingLeft}
-use Rattle.site_house.specs.History.{History, newest}
+use Rattle.site_house.specs.History.{History}
 use Rattle.site_http.specs.Reply.{Story, IsText}
 use Rattle.site_drill.specs.Fronts.{is_wanting, shows_page}
 use Rattle.site_http.specs.Connection.{Around, Went, closes_after, joined, nothing}

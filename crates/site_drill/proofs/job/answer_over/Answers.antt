@@ -1,4 +1,4 @@
-use Rattle.std.proofs.Common.{◌≡◌, ◌∙◌, ap, refl, sym, length, Some, List, ℕ}
+use Rattle.std.proofs.Common.{◌∙◌, ap, refl, length, Some, List, ℕ}
 use Rattle.hex.specs.Hex.{encode_lower}
 use Rattle.sha2.specs.Sha256.{sha256}
 use Rattle.site_hall.specs.Alone.{house_of}

@@ -1,4 +1,4 @@
-use Rattle.std.proofs.Common.{◌≡◌, ◌∙◌, ◌+◌, ◌≤◌, List, ℕ, Some, sym, refl, subst, arith}
+use Rattle.std.proofs.Common.{◌≡◌, ◌+◌, ◌≤◌, List, ℕ, Some, sym, subst, arith}
 use Rattle.site_house.proofs.Moving.{moves_same, moves_on}
 use Rattle.site_house.specs.History.{newest}
 use Rattle.site_house.specs.House.{history_of}

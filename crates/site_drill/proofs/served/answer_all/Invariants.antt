@@ -1,4 +1,4 @@
-use Rattle.std.proofs.Common.{◌≡◌, ◌≤◌, Some}
+use Rattle.std.proofs.Common.{◌≤◌, Some}
 use Rattle.site_house.specs.House.{Moves, history_of}
 use Rattle.site_house.specs.History.{newest}
 use Rattle.site_io.specs.Series.{GivesInTurn, last_moment}

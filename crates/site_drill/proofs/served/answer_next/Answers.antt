@@ -1,4 +1,4 @@
-use Rattle.std.proofs.Common.{Some, length, refl, sym, ap, ◌∙◌, List, ℕ, drop, arith}
+use Rattle.std.proofs.Common.{Some, refl}
 use Rattle.site_house.specs.History.{newest}
 use Rattle.site_house.specs.House.{history_of}
 use Rattle.site_drill.proofs.Underway.{took_reply}
