@@ -1,5 +1,4 @@
-//! Pages put together from what is kept: a whole page, a page but for what is lazy in it, and each part are looked for, and what isn't found is
-//! built and kept.
+//! Pages put together from what is kept: each part of a page is looked for, and where it isn't found it is built and kept.
 #![tactic(auto)]
 
 mod filling;
