@@ -18,6 +18,7 @@ use site_rehearsal::{Act, Reply, Turn, rehearse};
 use std::alloc::{AllocError, Global};
 
 /// A request for nothing in particular, with a session.
+#[tactic(auto, unfolding(percent_encoding::specs::Percent::percent_decode))]
 fn ask(alloc: Global, session: &[u8]) -> Result<Ask, AllocError>
     ensures { IfOk result IsAsk }
 {
