@@ -10,7 +10,7 @@ returns-in-Ok c =
     let devices = c.in_ok-devices.devices in
     let fresh = c.in_ok-devices.ensures in
     let ends = c.answer_all.new in
-    drilled c.args.state.now c.args.text.items ends.source.left ends.clock.given (Some ends.entropy.given) ends.gate.points ends.sink.written devices.clock.values ends.clock.values (house_of c.in_ok-house.house) (house_of ends.house) c.in-Ok.pages _
+    drilled c.args.state.now c.args.text.items ends.source ends.clock.given (Some ends.entropy.given) ends.gate.points ends.sink.written devices.clock.values ends.clock.values (house_of c.in_ok-house.house) (house_of ends.house) c.in-Ok.pages _
     (served_fresh (record {
       left_is = fresh.source;
       given_is = fresh.given;
