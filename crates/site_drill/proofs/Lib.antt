@@ -5,3 +5,5 @@ pub mod Exchanges
 pub mod Underway
 pub mod Drilling
 pub mod Moments
+pub mod Listed
+pub mod Stopping

@@ -14,6 +14,7 @@ use Rattle.drill_input.specs.SiteDrawn.{site_drawn}
 use Rattle.drill_input.specs.Asked.{asked}
 use Rattle.site_drill.specs.Lines.{drill_text}
 use Rattle.site_drill.specs.Replies.{Exchange, AreReplies, NoneWanting, is_page, requests_of, whole}
+use Rattle.site_drill.specs.Stops.{AreNoRequests}
 use Rattle.site_drill.specs.Tally.{built_in}
 use Rattle.site_drill.specs.declared.job.DrillEnd.{DrillEnd}
 use Rattle.site_drill.specs.declared.job.DrillEnd.TheVariants as end
@@ -60,10 +61,10 @@ pub record IsDrilled (number : ℕ) (figures : Figures) : Type 0 where
   pub valid : IsValidState (drill_site number)
   pub answered : IsAnswered (drill_site number) (drill_requests number) figures
 
--- why there is no drill: the rows that are made are no site, or requests were not all answered, or memory was wanting
+-- why there is no drill: the rows that are made are no site, or their bytes are no 900 requests, or memory was wanting
 abbrev pub IsNoDrill : ℕ → NoDrill → Type 0
 IsNoDrill number none.NoSite = IsValidState (drill_site number) → ⊥
-IsNoDrill number none.Unanswered = Unit {0}
+IsNoDrill number none.Unanswered = AreNoRequests (drill_requests number)
 IsNoDrill number none.OutOfMemory = Unit {0}
 
 -- what a drill wrote, by how it ended: the lines of its figures, or a front of them, or nothing
@@ -76,7 +77,7 @@ abbrev pub Drills : ℕ → DrillEnd → Option (List ℕ) → Option (List ℕ)
 Drills number end.Printed old new = Prints number (λ text. new ≡ after old text)
 Drills number end.OutputFailed old new = Prints number (λ text. AddsFront old new text)
 Drills number end.NoSite old new = (new ≡ old) × (IsValidState (drill_site number) → ⊥)
-Drills number end.Unanswered old new = new ≡ old
+Drills number end.Unanswered old new = (new ≡ old) × AreNoRequests (drill_requests number)
 Drills number end.OutOfMemory old new = new ≡ old
 
 -- a fault of the output is told exactly where its count rose

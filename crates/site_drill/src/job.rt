@@ -1,17 +1,19 @@
 //! The drill.
 ghost use Rattle.std.specs.Prelude.{◌≡◌, ℕ, IfOk, IfErr};
 ghost use Rattle.content_state.specs.SiteRules.{IsValidState};
-ghost use Rattle.site_drill.specs.Drill.{moments_to, CountsOutput, Drills, IsAnswered, IsDrilled, IsNoDrill, Prints};
+ghost use Rattle.site_drill.specs.Drill.{drill_requests, moments_to, CountsOutput, Drills, IsAnswered, IsDrilled, IsNoDrill, Prints};
 ghost use Rattle.site_drill.specs.Fresh.{AreFresh};
+ghost use Rattle.site_drill.specs.Stops.{NotAnswered};
 
 use crate::figures::{Figures, digest_of, drill_text};
 use crate::gate::CountingGate;
 use crate::served::{REQUESTS, Stop, answer_all};
+use crate::steady::SteadySource;
 use content_state::State;
 use drill_input::{Draws, SiteRows, requests_after, site_rows};
 use site_alone::{alone_with, state_over};
 use site_http::Desk;
-use site_io::{ListClock, ListEntropy, MemorySink, MemorySource, Sink, write_whole};
+use site_io::{ListClock, ListEntropy, MemorySink, Sink, write_whole};
 use std::alloc::{AllocError, Global};
 
 /// Room for the replies of a drill, in bytes.
@@ -24,7 +26,7 @@ pub enum DrillEnd {
     Printed,
     /// The rows that were made are no site. Nothing was printed.
     NoSite,
-    /// A request that was made was not read as one, or asked to close. Nothing was printed.
+    /// The bytes that were made are no 900 requests that a connection goes on after. Nothing was printed.
     Unanswered,
     /// The output failed, and its count of faults rose. A front of the lines was printed.
     OutputFailed,
@@ -52,7 +54,7 @@ impl From<AllocError> for NoDrill {
 
 /// Why requests that were not all answered make no drill.
 fn not_answered(stop: Stop) -> NoDrill
-    ensures { (number : ℕ) → IsNoDrill number result }
+    ensures { (number : ℕ) → NotAnswered stop (drill_requests number) → IsNoDrill number result }
 {
     match stop {
         Stop::Unanswered => NoDrill::Unanswered,
@@ -63,7 +65,7 @@ fn not_answered(stop: Stop) -> NoDrill
 /// What the requests of a drill come from, and what their replies go to.
 #[derive(Drop)]
 struct Devices {
-    source: MemorySource,
+    source: SteadySource,
     sink: MemorySink,
     clock: ListClock,
     entropy: ListEntropy,
@@ -89,7 +91,7 @@ fn devices_for(alloc: Global, text: Vec<u8>) -> Result<Devices, AllocError>
     let moments = moments(alloc)?;
     let sink = MemorySink::new(alloc, ROOM)?;
     Ok(Devices {
-        source: MemorySource::new(text, 4096),
+        source: SteadySource::new(text, 4096),
         sink,
         clock: ListClock::new(moments),
         entropy: ListEntropy::new(Vec::new(alloc)),
@@ -100,7 +102,8 @@ fn devices_for(alloc: Global, text: Vec<u8>) -> Result<Devices, AllocError>
 /// Answers the requests over a site, and counts.
 fn answer_over(alloc: Global, state: &State, text: Vec<u8>) -> Result<Figures, Stop>
     requires { IsValidState state.now }
-    ensures { IfOk result (λ figures. IsAnswered state.now text.items figures) }
+    ensures answered { IfOk result (λ figures. IsAnswered state.now text.items figures) }
+    ensures stopped { IfErr result (λ stop. NotAnswered stop text.items) }
 {
     let mut devices = devices_for(alloc, text)?;
     let mut desk = Desk::new(alloc)?;

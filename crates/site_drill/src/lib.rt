@@ -6,6 +6,7 @@ mod gate;
 mod job;
 mod replies;
 mod served;
+mod steady;
 
 pub use figures::Figures;
 pub use job::{DrillEnd, drill};

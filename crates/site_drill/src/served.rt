@@ -1,16 +1,18 @@
 //! A connection of a drill, one request after the other.
-ghost use Rattle.std.specs.Prelude.{◌≡◌, ◌<◌, ◌+◌, ◌≤◌, [], IfOk, Some};
+ghost use Rattle.std.specs.Prelude.{◌≡◌, ◌<◌, ◌+◌, ◌-◌, ◌≤◌, ◌++◌, [], IfErr, IfOk, Some};
 ghost use Rattle.site_house.specs.House.{Moves, history_of};
 ghost use Rattle.site_house.specs.History.{newest};
 ghost use Rattle.site_io.specs.Series.{GivesInTurn, last_moment, last_word};
 ghost use Rattle.site_drill.specs.Replies.{AllAnswered};
 ghost use Rattle.site_drill.specs.Steps.{TookReply, pages_with};
+ghost use Rattle.site_drill.specs.Stops.{NotAnswered, StopsAt, stop_of};
 
 use crate::replies::{bytes_from, is_wanting, shows_page};
+use crate::steady::SteadySource;
 use edit_paths::EditPaths;
 use site_house::House;
 use site_http::{Inbox, serve_turn};
-use site_io::{Clock, Ended, Entropy, Gate, MemorySink, Source};
+use site_io::{Clock, Ended, Entropy, Gate, MemorySink};
 use std::alloc::{AllocError, Global};
 
 /// How many requests a drill makes.
@@ -19,7 +21,7 @@ pub(crate) const REQUESTS: u64 = 900;
 /// Why not all requests were answered.
 #[derive(Clone, Copy, Debug, PartialEq, Eq)]
 pub(crate) enum Stop {
-    /// The connection ended too early or too late, or a request was refused.
+    /// The bytes are no 900 requests that a connection goes on after.
     Unanswered,
     /// Memory was wanting, or room for the replies.
     OutOfMemory,
@@ -36,38 +38,41 @@ impl From<AllocError> for Stop {
     }
 }
 
-/// Why a connection ended where it was to go on.
-fn stop_of(ended: Ended) -> Stop {
+/// Why the connection ended before all requests were answered. None is that the input ended.
+fn stop_of(ended: Ended) -> Option<Stop>
+    ensures { result ≡ stop_of ended }
+{
     match ended {
-        Ended::OutOfMemory | Ended::WriteFault => Stop::OutOfMemory,
-        Ended::Closed
-        | Ended::Truncated(_)
+        Ended::Closed => None,
+        Ended::OutOfMemory | Ended::WriteFault => Some(Stop::OutOfMemory),
+        Ended::Truncated(_)
         | Ended::Asked
         | Ended::Spent
         | Ended::Refused(_)
-        | Ended::ReadFault => Stop::Unanswered,
+        | Ended::ReadFault => Some(Stop::Unanswered),
     }
 }
 
 /// Answers the next request, and says whether the reply shows a page.
-fn answer_next<H: House, S: Source, C: Clock, E: Entropy, G: Gate>(
+fn answer_next<H: House, C: Clock, E: Entropy, G: Gate>(
     alloc: Global,
     paths: &EditPaths,
     inbox: &mut Inbox,
     house: &mut H,
-    source: &mut S,
+    source: &mut SteadySource,
     sink: &mut MemorySink,
     clock: &mut C,
     entropy: &mut E,
     gate: &mut G,
     index: u64,
 ) -> Result<bool, Stop>
-    requires { index < 1000 }
+    requires { index < REQUESTS }
     ensures moves { Moves (H.sees house.old) (H.sees house.new) }
     ensures took { IfOk result (λ page. TookReply page
-        (record { left = S.left source.old; out = record { given = C.given clock.old; words = E.given entropy.old; points = G.reached gate.old; written = Some sink.old.written; handed = (H.sees house.old).handed; keepers = (H.sees house.old).keepers } })
-        (record { left = S.left source.new; out = record { given = C.given clock.new; words = E.given entropy.new; points = G.reached gate.new; written = Some sink.new.written; handed = (H.sees house.new).handed; keepers = (H.sees house.new).keepers } })
+        (record { left = Some source.old; out = record { given = C.given clock.old; words = E.given entropy.old; points = G.reached gate.old; written = Some sink.old.written; handed = (H.sees house.old).handed; keepers = (H.sees house.old).keepers } })
+        (record { left = Some source.new; out = record { given = C.given clock.new; words = E.given entropy.new; points = G.reached gate.new; written = Some sink.new.written; handed = (H.sees house.new).handed; keepers = (H.sees house.new).keepers } })
         (history_of (H.sees house.new)) index (newest (history_of (H.sees house.old))) inbox.old inbox.new) }
+    ensures stopped { IfErr result (λ stop. StopsAt stop (1000 - index) (900 - index) (inbox.old ++ source.old)) }
     ensures moments { GivesInTurn last_moment (C.moments clock.old) (C.moments clock.new) (C.given clock.old) (C.given clock.new) }
     ensures words { GivesInTurn last_word (E.words entropy.old) (E.words entropy.new) (E.given entropy.old) (E.given entropy.new) }
 {
@@ -75,7 +80,7 @@ fn answer_next<H: House, S: Source, C: Clock, E: Entropy, G: Gate>(
     if let Some(ended) = serve_turn(
         alloc, paths, house, source, sink, clock, entropy, gate, inbox, index,
     ) {
-        return Err(stop_of(ended));
+        return Err(stop_of(ended).unwrap_or(Stop::Unanswered));
     }
     let text = bytes_from(sink.bytes(), from);
     if is_wanting(text) {
@@ -93,12 +98,12 @@ fn pages_with(pages: u64, page: bool) -> u64
 }
 
 /// Answers 900 requests, which are all that the source has, and says how many of the replies show a page.
-pub(crate) fn answer_all<H: House, S: Source, C: Clock, E: Entropy, G: Gate>(
+pub(crate) fn answer_all<H: House, C: Clock, E: Entropy, G: Gate>(
     alloc: Global,
     paths: &EditPaths,
     inbox: &mut Inbox,
     house: &mut H,
-    source: &mut S,
+    source: &mut SteadySource,
     sink: &mut MemorySink,
     clock: &mut C,
     entropy: &mut E,
@@ -107,9 +112,10 @@ pub(crate) fn answer_all<H: House, S: Source, C: Clock, E: Entropy, G: Gate>(
     requires { inbox.old ≡ [] }
     ensures moves { Moves (H.sees house.old) (H.sees house.new) }
     ensures answered { IfOk result (λ pages. AllAnswered 900 pages
-        (record { left = S.left source.old; out = record { given = C.given clock.old; words = E.given entropy.old; points = G.reached gate.old; written = Some sink.old.written; handed = (H.sees house.old).handed; keepers = (H.sees house.old).keepers } })
-        (record { left = S.left source.new; out = record { given = C.given clock.new; words = E.given entropy.new; points = G.reached gate.new; written = Some sink.new.written; handed = (H.sees house.new).handed; keepers = (H.sees house.new).keepers } })
+        (record { left = Some source.old; out = record { given = C.given clock.old; words = E.given entropy.old; points = G.reached gate.old; written = Some sink.old.written; handed = (H.sees house.old).handed; keepers = (H.sees house.old).keepers } })
+        (record { left = Some source.new; out = record { given = C.given clock.new; words = E.given entropy.new; points = G.reached gate.new; written = Some sink.new.written; handed = (H.sees house.new).handed; keepers = (H.sees house.new).keepers } })
         (history_of (H.sees house.new)) (newest (history_of (H.sees house.old)))) }
+    ensures stopped { IfErr result (λ stop. NotAnswered stop source.old) }
     ensures moments { GivesInTurn last_moment (C.moments clock.old) (C.moments clock.new) (C.given clock.old) (C.given clock.new) }
 {
     let mut pages = 0;
@@ -119,11 +125,13 @@ pub(crate) fn answer_all<H: House, S: Source, C: Clock, E: Entropy, G: Gate>(
         )?;
         pages = pages_with(pages, page);
     }
-    match serve_turn(
+    let Some(ended) = serve_turn(
         alloc, paths, house, source, sink, clock, entropy, gate, inbox, REQUESTS,
-    ) {
-        Some(Ended::Closed) => Ok(pages),
-        Some(ended) => Err(stop_of(ended)),
-        None => Err(Stop::Unanswered),
+    ) else {
+        return Err(Stop::Unanswered);
+    };
+    match stop_of(ended) {
+        Some(stop) => Err(stop),
+        None => Ok(pages),
     }
 }
