@@ -3,6 +3,10 @@ use Rattle.std.proofs.Common.{◌≡◌, ◌≢◌, ℕ, arith}
 use Rattle.site_io.specs.declared.ended.Ended.{Ended}
 use Rattle.site_io.specs.declared.ended.Ended.TheVariants as ended
 use Rattle.site_http.specs.Connection.{CountsReads, CountsWrites}
+use Rattle.site_drill.specs.declared.job.DrillEnd.{DrillEnd}
+use Rattle.site_drill.specs.declared.job.DrillEnd.TheVariants as drilled
+use Rattle.site_drill.specs.Drill.{CountsOutput}
+use Rattle.site_cli.specs.Drilling.{status_of_drill}
 use Rattle.site_cli.specs.Run.{status_of}
 use Rattle.site_places.specs.Place.{KeepsCounts}
 use Rattle.site_cli.specs.Outside.{Outside, HasCause}
@@ -48,3 +52,20 @@ ended_cause ended.Spent old new status is reads writes kept keepers = neither ol
 ended_cause (ended.Refused code) old new status is reads writes kept keepers = neither old new status (λ five. omega arith) (λ six. omega arith) reads writes (λ seven. omega arith) (λ four. omega arith) kept keepers
 ended_cause (ended.Truncated n) old new status is reads writes kept keepers = neither old new status (λ five. omega arith) (λ six. omega arith) reads writes (λ seven. omega arith) (λ four. omega arith) kept keepers
 ended_cause ended.OutOfMemory old new status is reads writes kept keepers = neither old new status (λ five. omega arith) (λ six. omega arith) reads writes (λ seven. omega arith) (λ four. omega arith) kept keepers
+
+-- by the end of a drill
+pub drill_cause : (end : DrillEnd) (old new : Outside) (status : ℕ) → status ≡ status_of_drill end → CountsOutput end old.writing new.writing → new.reading ≡ old.reading → KeepsCounts old.place new.place → new.place.keeper_faults ≡ old.place.keeper_faults → HasCause old new status
+drill_cause drilled.OutputFailed old new status is writes reads kept keepers = record {
+  input = λ five. absurd (omega arith);
+  input_steady = λ _. reads;
+  output = λ _. writes;
+  output_steady = λ other _ _. absurd (other is);
+  place = λ seven. absurd (omega arith);
+  place_steady = λ _. kept;
+  keeper = λ four. absurd (omega arith);
+  keeper_steady = λ _. keepers;
+}
+drill_cause drilled.Printed old new status is writes reads kept keepers = neither old new status (λ five. omega arith) (λ six. omega arith) reads writes (λ seven. omega arith) (λ four. omega arith) kept keepers
+drill_cause drilled.NoSite old new status is writes reads kept keepers = neither old new status (λ five. omega arith) (λ six. omega arith) reads writes (λ seven. omega arith) (λ four. omega arith) kept keepers
+drill_cause drilled.Unanswered old new status is writes reads kept keepers = neither old new status (λ five. omega arith) (λ six. omega arith) reads writes (λ seven. omega arith) (λ four. omega arith) kept keepers
+drill_cause drilled.OutOfMemory old new status is writes reads kept keepers = neither old new status (λ five. omega arith) (λ six. omega arith) reads writes (λ seven. omega arith) (λ four. omega arith) kept keepers
