@@ -45,11 +45,8 @@ fn stop_of(ended: Ended) -> Option<Stop>
     match ended {
         Ended::Closed => None,
         Ended::OutOfMemory | Ended::WriteFault => Some(Stop::OutOfMemory),
-        Ended::Truncated(_)
-        | Ended::Asked
-        | Ended::Spent
-        | Ended::Refused(_)
-        | Ended::ReadFault => Some(Stop::Unanswered),
+        Ended::Truncated(_) | Ended::Asked | Ended::Spent | Ended::Refused(_) | Ended::ReadFault =>
+            Some(Stop::Unanswered),
     }
 }
 
