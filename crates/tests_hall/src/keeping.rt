@@ -1,4 +1,5 @@
 //! What halls keep of pages, where each bin has room for one thing.
+ghost use Rattle.std.specs.Prelude.{◌≡◌, IfOk, None};
 
 use crate::site::{name, stored};
 use cache_entries::{Bin, Found, Kept, Key, Subject};
@@ -13,7 +14,9 @@ use std::num::NonZeroUsize;
 use std::sync::Arc;
 
 // The hall of a new site, where each bin has room for one thing.
-fn hall(alloc: Global) -> Result<Hall<MemoryKeeper>, AllocError> {
+fn hall(alloc: Global) -> Result<Hall<MemoryKeeper>, AllocError>
+    ensures { IfOk result (λ hall. hall.pending ≡ None) }
+{
     let Some(one) = NonZeroUsize::new(1) else {
         return Err(AllocError);
     };
