@@ -58,16 +58,26 @@ fn finds<H: House>(
     }
 }
 
+// What is found of two blocks, of which a bin has room for one: before, once the first is kept, in another bin, and both once the second
+// is kept.
+fn found<H: House>(alloc: Global, house: &mut H) -> Result<[bool; 5], AllocError> {
+    let before = finds(alloc, house, Bin::Fragments, b"a")?;
+    keep(alloc, house, Bin::Fragments, b"a")?;
+    let first = finds(alloc, house, Bin::Fragments, b"a")?;
+    let elsewhere = finds(alloc, house, Bin::Dynamic, b"a")?;
+    keep(alloc, house, Bin::Fragments, b"b")?;
+    let dropped = finds(alloc, house, Bin::Fragments, b"a")?;
+    let last = finds(alloc, house, Bin::Fragments, b"b")?;
+    Ok([before, first, elsewhere, dropped, last])
+}
+
 // Whether a hall finds what was kept last in a bin, and nothing in the others, and counts looks, finds and keeps.
 fn keeps_the_last(alloc: Global) -> Result<bool, AllocError> {
     let mut alone = Alone::new(alloc, hall(alloc)?);
-    let before = finds(alloc, &mut alone, Bin::Fragments, b"a")?;
-    keep(alloc, &mut alone, Bin::Fragments, b"a")?;
-    let first = finds(alloc, &mut alone, Bin::Fragments, b"a")?;
-    let elsewhere = finds(alloc, &mut alone, Bin::Dynamic, b"a")?;
-    keep(alloc, &mut alone, Bin::Fragments, b"b")?;
-    let dropped = finds(alloc, &mut alone, Bin::Fragments, b"a")?;
-    let last = finds(alloc, &mut alone, Bin::Fragments, b"b")?;
+    let Ok(found) = found(alloc, &mut alone) else {
+        drop(alone);
+        return Err(AllocError);
+    };
     let unkept = alone.unkept();
     let tally = alone.into_hall().tally();
     let counted = Tally {
@@ -75,7 +85,7 @@ fn keeps_the_last(alloc: Global) -> Result<bool, AllocError> {
         found: 2,
         kept: 2,
     };
-    Ok(!before && first && !elsewhere && !dropped && last && unkept == 0 && tally == counted)
+    Ok(found == [false, true, false, false, true] && unkept == 0 && tally == counted)
 }
 
 #[test]
