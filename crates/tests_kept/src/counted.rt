@@ -1,14 +1,18 @@
 //! How many elements are built for the pages of a connection.
+ghost use Rattle.std.specs.Prelude.{IfOk, None};
+ghost use Rattle.content_state.specs.SiteRules.{IsValidState};
 
-use crate::replayed::in_order;
 use cacheability::Name;
 use content_rows::{
     Block, BlockKind, Cell, FieldValue, Items, Node, Region, Row, Seq, Session, Text, starter,
 };
 use content_state::{Rows, State};
-use site_cli::{alone_with, rows_of};
+use site_alone::{alone_with, rows_of};
+use site_hall::Alone;
+use site_house::House;
 use site_http::serve_connection;
 use site_io::{Ended, Gate, ListClock, ListEntropy, MemorySink, MemorySource, Point};
+use site_keeper::MemoryKeeper;
 use std::alloc::{AllocError, Global};
 use std::sync::Arc;
 use tag_counts::Counts;
@@ -142,16 +146,15 @@ fn input(alloc: Global, requests: &[&str]) -> Result<Vec<u8>, AllocError> {
     Ok(bytes)
 }
 
-// What a connection writes over such a site, and how many elements are built for each reply.
-fn served(rt: &HostRuntime, case: &Case) -> Result<(Vec<u8>, [u64; 8]), AllocError> {
-    let alloc = rt.alloc();
-    let state = State::new(alloc, rows(alloc, case.placed)?, Counts::new(alloc), 0)?;
-    if !state.is_valid(alloc)? {
-        return Err(AllocError);
-    }
-    let mut house = alone_with(alloc, &state)?;
+// How many elements are built for each reply of a connection over a house, and what it writes into the sink.
+fn answered<H: House>(
+    rt: &HostRuntime,
+    alloc: Global,
+    house: &mut H,
+    case: &Case,
+    sink: &mut MemorySink,
+) -> Result<[u64; 8], AllocError> {
     let mut source = MemorySource::new(input(alloc, case.requests)?, 64);
-    let mut sink = MemorySink::new(alloc, 400_000)?;
     let mut clock = ListClock::new(Vec::from_slice(alloc, case.moments)?);
     let mut entropy = ListEntropy::new(Vec::new(alloc));
     let mut gate = Noting {
@@ -161,17 +164,65 @@ fn served(rt: &HostRuntime, case: &Case) -> Result<(Vec<u8>, [u64; 8]), AllocErr
     let ended = serve_connection(
         rt,
         alloc,
-        &mut house,
+        house,
         &mut source,
-        &mut sink,
+        sink,
         &mut clock,
         &mut entropy,
         &mut gate,
     );
-    if ended != Ended::Closed {
-        return Err(AllocError);
+    if ended == Ended::Closed {
+        Ok(gate.built)
+    } else {
+        Err(AllocError)
     }
-    Ok((Vec::from_slice(alloc, sink.bytes())?, gate.built))
+}
+
+// The state of such a site.
+fn state(alloc: Global, placed: Placed) -> Result<State, AllocError>
+    ensures { IfOk result (λ state. IsValidState state) }
+{
+    let state = State::new(alloc, rows(alloc, placed)?, Counts::new(alloc), 0)?;
+    if let Ok(true) = state.is_valid(alloc) {
+        Ok(state)
+    } else {
+        drop(state);
+        Err(AllocError)
+    }
+}
+
+// A house over such a site, for a caller that is alone.
+fn house(alloc: Global, placed: Placed) -> Result<Alone<MemoryKeeper>, AllocError> {
+    let state = state(alloc, placed)?;
+    let house = alone_with(alloc, &state);
+    drop(state);
+    house
+}
+
+// What a connection writes over such a site, and how many elements are built for each reply.
+fn served(rt: &HostRuntime, case: &Case) -> Result<(Vec<u8>, [u64; 8]), AllocError> {
+    let alloc = rt.alloc();
+    let mut sink = MemorySink::new(alloc, 400_000)?;
+    let mut house = house(alloc, case.placed)?;
+    let built = answered(rt, alloc, &mut house, case, &mut sink);
+    drop(house);
+    Ok((Vec::from_slice(alloc, sink.bytes())?, built?))
+}
+
+// Whether these pieces stand in a text, one after the other.
+fn in_order(text: &[u8], pieces: &[&str]) -> bool {
+    let mut from = 0;
+    for piece in pieces {
+        let rest = text.get(from..).unwrap_or(&[]);
+        let found = rest
+            .windows(piece.len().max(1))
+            .position(|window| window == piece.as_bytes());
+        match found {
+            Some(at) => from += at + piece.len(),
+            None => return false,
+        }
+    }
+    true
 }
 
 const PAGE: &str = "GET /node/1 HTTP/1.1\r\nHost: a\r\n\r\n";

@@ -1,9 +1,5 @@
-//! Tests of pages of which parts are kept, by public calls alone.
+//! Tests of pages that are kept.
 #![tactic(auto)]
 
 #[cfg(test)]
 mod counted;
-#[cfg(test)]
-mod kept;
-#[cfg(test)]
-mod replayed;
