@@ -75,9 +75,9 @@ impl Written {
         requires { length self.old + length bytes.now ≤ 96 }
         ensures { self.new ≡ self.old ++ bytes.now }
     {
-        'bytes: for &byte in bytes {
-            self.put(byte);
-        }
+        let end = self.len + bytes.len();
+        self.buf[self.len..end].copy_from_slice(bytes);
+        self.len = end;
     }
 
     fn put_number(&mut self, number: u32)
