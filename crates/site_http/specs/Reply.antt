@@ -4,6 +4,10 @@ use Rattle.std.specs.Prelude.{ℕ, List, [], ◌∷◌, ◌++◌, ◌≡◌, ◌
 use Rattle.content_state.specs.declared.ask.Ask.{Ask}
 use Rattle.content_state.specs.State.{State}
 use Rattle.content_state.specs.declared.commit.Commit.{Commit}
+use Rattle.content_state.specs.Viewer.{viewer_of}
+use Rattle.cache_contexts.specs.Values.{visit_on}
+use Rattle.kept_pages.specs.Needed.{OfRequest}
+use Rattle.kept_pages.specs.Went.{Went, number_built}
 use Rattle.render_array.specs.Shown.{IsPage, page_count}
 use Rattle.http_heads.specs.declared.request.Request.{Request}
 use Rattle.http_heads.specs.declared.reply.ReplyHead.{ReplyHead}
@@ -114,12 +118,20 @@ told moment points built text number = record {
   high = number;
 }
 
--- the page of what was asked on a state, at a moment, under its head, and how many elements were built for it, up to the
--- greatest u64: at most itself, and each that stands in one of its places, since what was kept is not built again
+-- So many elements were built for the page of what was asked: of all that is needed for it, in order, each was found, or
+-- built of what stands in its places. The number is that of those that were built, up to the greatest u64.
+pub record IsBuiltFor (state : State) (ask : Ask) (moment built : ℕ) : Type 0 where
+  pub went : Went
+  pub needed : OfRequest (visit_on state (viewer_of state.rows ask.cookie moment) ask moment) went
+  pub counted : built ≡ min (number_built went) 18446744073709551615
+
+-- the page of what was asked on a state, at a moment, under its head, and how many elements were built for it: at most itself,
+-- and each that stands in one of its places, since what was kept is not built again
 pub record IsPageReply (state : State) (ask : Ask) (moment : ℕ) (closing : Bool) (text : List ℕ) (built : ℕ) : Type 0 where
   pub status : ℕ
   pub body : List ℕ
   pub page : IsPage state.rows ask moment status body
+  pub built_for : IsBuiltFor state ask moment built
   pub built_at_most : built ≤ min (page_count state.rows ask moment) 18446744073709551615
   pub text_is : text ≡ reply_text (page_head status (length body) state.number closing) body
 

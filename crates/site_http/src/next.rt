@@ -28,20 +28,28 @@ pub enum Next {
     Trouble(Trouble),
 }
 
-/// What a connection reads into: the bytes that came and were not taken yet, which is all that contracts see of it, and
-/// room for the places of a head's fields.
+/// How many bytes are read at once, at most.
+const PIECE: usize = 16_384;
+
+/// What a connection reads into: the bytes that came and were not taken yet, which is all that contracts see of it; room for
+/// what comes next; and room for the places of a head's fields.
 #[derive(Drop)]
 pub struct Inbox {
     bytes: Vec<u8>,
+    /// How many of the bytes were taken. They are let go where more is read, so that requests in one piece move nothing.
+    start: usize,
+    piece: Vec<u8>,
     room: HeadRoom,
 }
 
 impl Model for Inbox {
-    ghost use Rattle.std.specs.Prelude.{List, ℕ};
+    ghost use Rattle.std.specs.Prelude.{List, ℕ, length, drop, ◌≤◌, ◌<◌, ◌×◌};
 
     ghost Value = { List ℕ };
 
-    ghost view = { λ i. i.bytes.items };
+    ghost view = { λ i. drop i.start i.bytes.items };
+
+    ghost invariant = { λ i. (i.start ≤ length i.bytes.items) × (0 < length i.piece.items) };
 }
 
 impl Inbox {
@@ -51,6 +59,8 @@ impl Inbox {
     {
         Ok(Inbox {
             bytes: Vec::new(alloc),
+            start: 0,
+            piece: vec![in alloc; 0; PIECE]?,
             room: HeadRoom::new(alloc)?,
         })
     }
@@ -60,6 +70,15 @@ impl Inbox {
         ensures { self.new ≡ [] }
     {
         self.bytes.clear();
+        self.start = 0;
+    }
+
+    /// Lets go of what was taken.
+    fn forget_taken(&mut self)
+        ensures { self.new ≡ self.old }
+    {
+        drop(self.bytes.drain(..self.start));
+        self.start = 0;
     }
 
     /// Adds the next piece of the source, and answers whether there was one.
@@ -70,38 +89,45 @@ impl Inbox {
         ensures cause { IfErr result (λ e. Faulted e (S.faults source.old) (S.faults source.new)) }
         ensures steady { OnOk result (S.faults source.new ≡ S.faults source.old) }
     {
-        let mut piece = [0u8; 512];
-        let Ok(n) = source.read(&mut piece) else {
+        self.forget_taken();
+        let Ok(n) = source.read(&mut self.piece) else {
             return Err(Trouble::ReadFault);
         };
-        let (came, _) = piece.split_at(n);
+        let (came, _) = self.piece.split_at(n);
         let Ok(()) = self.bytes.extend_from_slice(came) else {
             return Err(Trouble::OutOfMemory);
         };
         Ok(n > 0)
     }
 
-    /// Drops the bytes of a request.
-    fn drop_front(&mut self, n: usize)
+    /// Takes the bytes of a request.
+    fn take_front(&mut self, n: usize)
         requires { n ≤ length self.old }
         ensures { self.new ≡ drop n self.old }
     {
-        drop(self.bytes.drain(..n));
+        self.start += n;
     }
 
     /// What the bytes begin with, and without it where it is a request; or that more must be read.
     fn take_next(&mut self, alloc: Global) -> Option<Next>
         ensures { Decided result self.old self.new }
     {
-        match parse_in(alloc, &self.bytes, &mut self.room) {
+        match parse_in(alloc, &self.bytes[self.start..], &mut self.room) {
             Err(_) => Some(Next::Trouble(Trouble::OutOfMemory)),
             Ok(Parsed::More) => None,
             Ok(Parsed::Refused(code)) => Some(Next::Refused(code)),
             Ok(Parsed::Whole(request, n)) => {
-                self.drop_front(n);
+                self.take_front(n);
                 Some(Next::Request(request))
             }
         }
+    }
+
+    /// How many bytes came and were not taken yet.
+    fn waiting(&self) -> usize
+        ensures { result ≡ length self.now }
+    {
+        self.bytes.len() - self.start
     }
 
     /// The next request of what came and of what the source has left. More is read only where the bytes so far are a part
@@ -116,7 +142,7 @@ impl Inbox {
             }
             match self.read_more(source) {
                 Ok(true) => {}
-                Ok(false) => return Next::End(self.bytes.len()),
+                Ok(false) => return Next::End(self.waiting()),
                 Err(trouble) => return Next::Trouble(trouble),
             }
         }

@@ -14,12 +14,15 @@ use http_heads::{CookieOut, Media, ReplyHead, reply_head};
 use site_house::House;
 use std::alloc::{AllocError, Global};
 
+/// More bytes than most heads have.
+const HEAD_ROOM: usize = 320;
+
 /// A head and a body.
 fn text_of(alloc: Global, head: &ReplyHead, body: &[u8]) -> Result<Vec<u8>, AllocError>
     requires { IsTrue (is_reply_status head.now.status) }
     ensures { IfOk result (λ v. v.items ≡ reply_text head.now body.now) }
 {
-    let mut text = Vec::new(alloc);
+    let mut text = Vec::with_capacity(alloc, body.len().saturating_add(HEAD_ROOM))?;
     reply_head(alloc, &mut text, head)?;
     text.extend_from_slice(body)?;
     Ok(text)

@@ -5,6 +5,7 @@ ghost use Rattle.http_heads.specs.Reply.{is_reply_status};
 ghost use Rattle.render_array.specs.Shown.{IsPage, page_count};
 ghost use Rattle.site_house.specs.House.{Moves, Stays};
 ghost use Rattle.site_house.specs.Bins.{IsSeenIn};
+ghost use Rattle.site_http.specs.Reply.{IsBuiltFor};
 
 use content_state::{Ask, State};
 use kept_pages::render_page;
@@ -28,6 +29,7 @@ pub fn shown_page<H: House>(
     ensures stays { Stays (H.sees house.old) (H.sees house.new) }
     ensures page { IfOk result (λ p. IsPage state.now.rows ask.now now p.status p.body.items) }
     ensures status { IfOk result (λ p. IsTrue (is_reply_status p.status)) }
+    ensures built_for { IfOk result (λ p. IsBuiltFor state.now ask.now now p.built) }
     ensures at_most { IfOk result (λ p. p.built ≤ min (page_count state.now.rows ask.now now) 18446744073709551615) }
 {
     let viewer = viewer_of(state, ask, now);

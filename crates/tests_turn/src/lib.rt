@@ -5,6 +5,8 @@
 #[cfg(test)]
 mod closing;
 #[cfg(test)]
+mod counting;
+#[cfg(test)]
 mod keeping;
 #[cfg(test)]
 mod site;
