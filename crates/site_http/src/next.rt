@@ -43,7 +43,7 @@ pub struct Inbox {
 }
 
 impl Model for Inbox {
-    ghost use Rattle.std.specs.Prelude.{List, ℕ, length, drop, ◌≤◌, ◌<◌, ◌×◌};
+    ghost use Rattle.std.specs.Prelude.{List, ℕ, length, drop, ◌≤◌, ◌<◌};
 
     ghost Value = { List ℕ };
 
