@@ -4,6 +4,7 @@ ghost use Rattle.http_heads.specs.Reply.{is_reply_status, phrase_of, line_end, v
 
 use cacheability::Name;
 use http::StatusCode;
+use itoa::Buffer;
 use std::alloc::{AllocError, Global};
 
 /// What the body of a reply is.
@@ -79,11 +80,11 @@ fn put_line_end(out: &mut Vec<u8>) -> Result<(), AllocError>
 }
 
 /// Appends a number.
-fn put_decimal(alloc: Global, out: &mut Vec<u8>, number: u128) -> Result<(), AllocError>
+fn put_decimal(out: &mut Vec<u8>, number: u128) -> Result<(), AllocError>
     ensures { OnOk result (out.new.items ≡ out.old.items ++ decimal number) }
 {
-    let digits = number.to_string(alloc)?;
-    out.extend_from_slice(digits.as_bytes())
+    let mut room = Buffer::new();
+    out.extend_from_slice(room.format(number).as_bytes())
 }
 
 /// Appends the version and the space after it.
@@ -103,12 +104,12 @@ fn put_space(out: &mut Vec<u8>) -> Result<(), AllocError>
 }
 
 /// Appends the status line.
-fn put_status(alloc: Global, out: &mut Vec<u8>, status: u16) -> Result<(), AllocError>
+fn put_status(out: &mut Vec<u8>, status: u16) -> Result<(), AllocError>
     requires { IsTrue (is_reply_status status) }
     ensures { OnOk result (out.new.items ≡ out.old.items ++ status_text status) }
 {
     put_version(out)?;
-    put_decimal(alloc, out, u128::from(status))?;
+    put_decimal(out, u128::from(status))?;
     put_space(out)?;
     out.extend_from_slice(phrase(status).as_bytes())?;
     put_line_end(out)?;
@@ -116,11 +117,11 @@ fn put_status(alloc: Global, out: &mut Vec<u8>, status: u16) -> Result<(), Alloc
 }
 
 /// Appends a line of a field whose value ends in a number.
-fn put_number(alloc: Global, out: &mut Vec<u8>, mark: &[u8], number: u128) -> Result<(), AllocError>
+fn put_number(out: &mut Vec<u8>, mark: &[u8], number: u128) -> Result<(), AllocError>
     ensures { OnOk result (out.new.items ≡ out.old.items ++ number_text mark.now number) }
 {
     out.extend_from_slice(mark)?;
-    put_decimal(alloc, out, number)?;
+    put_decimal(out, number)?;
     put_line_end(out)?;
     Ok(())
 }
@@ -138,22 +139,22 @@ fn put_media(out: &mut Vec<u8>, media: Media) -> Result<(), AllocError>
 
 /// Appends Content-Length.
 #[tactic(auto, unfolding(crate::specs::Reply::length_mark))]
-fn put_length(alloc: Global, out: &mut Vec<u8>, length: Option<u128>) -> Result<(), AllocError>
+fn put_length(out: &mut Vec<u8>, length: Option<u128>) -> Result<(), AllocError>
     ensures { OnOk result (out.new.items ≡ out.old.items ++ length_text length) }
 {
     match length {
-        Some(number) => put_number(alloc, out, b"Content-Length: ", number),
+        Some(number) => put_number(out, b"Content-Length: ", number),
         None => Ok(()),
     }
 }
 
 /// Appends Location.
 #[tactic(auto, unfolding(crate::specs::Reply::location_mark))]
-fn put_location(alloc: Global, out: &mut Vec<u8>, location: Option<u32>) -> Result<(), AllocError>
+fn put_location(out: &mut Vec<u8>, location: Option<u32>) -> Result<(), AllocError>
     ensures { OnOk result (out.new.items ≡ out.old.items ++ location_text location) }
 {
     match location {
-        Some(user) => put_number(alloc, out, b"Location: /user/", u128::from(user)),
+        Some(user) => put_number(out, b"Location: /user/", u128::from(user)),
         None => Ok(()),
     }
 }
@@ -210,11 +211,11 @@ fn put_allow(out: &mut Vec<u8>, allow: bool) -> Result<(), AllocError>
 
 /// Appends X-Site-State.
 #[tactic(auto, unfolding(crate::specs::Reply::state_mark))]
-fn put_state(alloc: Global, out: &mut Vec<u8>, state: Option<u64>) -> Result<(), AllocError>
+fn put_state(out: &mut Vec<u8>, state: Option<u64>) -> Result<(), AllocError>
     ensures { OnOk result (out.new.items ≡ out.old.items ++ state_text state) }
 {
     match state {
-        Some(number) => put_number(alloc, out, b"X-Site-State: ", u128::from(number)),
+        Some(number) => put_number(out, b"X-Site-State: ", u128::from(number)),
         None => Ok(()),
     }
 }
@@ -231,21 +232,24 @@ fn put_close(out: &mut Vec<u8>, close: bool) -> Result<(), AllocError>
     }
 }
 
+/// More bytes than most heads have.
+const ROOM: usize = 320;
+
 /// The text of a reply's head.
 #[tactic(auto, unfolding(crate::specs::Reply::head_text))]
 fn head_of(alloc: Global, head: &ReplyHead) -> Result<Vec<u8>, AllocError>
     requires { IsTrue (is_reply_status head.now.status) }
     ensures { IfOk result (λ text. text.items ≡ head_text head.now) }
 {
-    let mut text = Vec::new(alloc);
+    let mut text = Vec::with_capacity(alloc, ROOM)?;
     let out = &mut text;
-    put_status(alloc, out, head.status)?;
+    put_status(out, head.status)?;
     put_media(out, head.media)?;
-    put_length(alloc, out, head.length)?;
-    put_location(alloc, out, head.location)?;
+    put_length(out, head.length)?;
+    put_location(out, head.location)?;
     put_cookie(out, head.cookie)?;
     put_allow(out, head.allow)?;
-    put_state(alloc, out, head.state)?;
+    put_state(out, head.state)?;
     put_close(out, head.close)?;
     put_line_end(out)?;
     Ok(text)

@@ -23,11 +23,22 @@ pub fn assembled(
     with_meta(alloc, parts, meta.as_slice())
 }
 
+/// How many bytes the parts have, and these: so that the page is written into room that is made once.
+fn room_for(parts: &[Segment<Hole>], meta: &[u8]) -> usize {
+    let mut room = meta.len();
+    'parts: for part in parts {
+        if let Segment::Bytes(bytes) = part {
+            room = room.saturating_add(bytes.as_slice().len());
+        }
+    }
+    room
+}
+
 /// The bytes of parts, with these at the place of the libraries.
 fn with_meta(alloc: Global, parts: &[Segment<Hole>], meta: &[u8]) -> Result<Vec<u8>, AllocError>
     ensures { IfOk result (λ page. page.items ≡ flat_map (λ part. text_in meta.now (part_of part)) parts.now) }
 {
-    let mut page = Vec::new(alloc);
+    let mut page = Vec::with_capacity(alloc, room_for(parts, meta))?;
     for part in parts {
         add_part(&mut page, part, meta)?;
     }
