@@ -1,11 +1,14 @@
 //! Whether what was found may be shown.
-ghost use Rattle.std.specs.Prelude.{◌≡◌, ◌↔◌, IfOk, IfSome, IsTrue, None};
+ghost use Rattle.std.specs.Prelude.{◌≡◌, ◌↔◌, IfOk, IfSome, IsTrue, None, map};
 ghost use Rattle.std.specs.Arc.{arc_value};
+ghost use Rattle.cache_contexts.specs.Values.{valued};
 ghost use Rattle.cache_entries.specs.Entries.{IsFresh};
+ghost use Rattle.element_entries.specs.Keys.{visit};
 
 use crate::reader::Reader;
-use cache_contexts::values;
+use cache_contexts::{ContextValue, values};
 use cache_entries::{Entry, fresh};
+use cacheability::Context;
 use std::alloc::{AllocError, Global};
 use std::sync::Arc;
 
@@ -19,16 +22,46 @@ pub fn is_fresh(alloc: Global, reader: &Reader<'_>, entry: &Entry) -> Result<boo
     Ok(fresh(reader.state, entry, now.as_slice(), reader.moment))
 }
 
-/// An entry where it is fresh for a reader. `Err` only where memory is wanting.
+/// Whether an entry is fresh for a reader, where these contexts are known to have these values for it: mostly they are the
+/// entry's, and permissions, which are dear to compute, aren't computed again. `Err` only where memory is wanting.
+fn is_fresh_by(
+    alloc: Global,
+    reader: &Reader<'_>,
+    entry: &Entry,
+    contexts: &[Context],
+    known: &[ContextValue],
+) -> Result<bool, AllocError>
+    requires { known.now ≡ map (valued (visit reader.now)) contexts.now }
+    ensures { IfOk result (λ b. IsTrue b ↔ IsFresh reader.now.state.now reader.now.viewer.now reader.now.ask.now reader.now.moment entry.now) }
+{
+    if same_contexts(entry.cacheability.contexts(), contexts) {
+        Ok(fresh(reader.state, entry, known, reader.moment))
+    } else {
+        is_fresh(alloc, reader, entry)
+    }
+}
+
+/// Whether contexts are the same, in the same order.
+fn same_contexts(one: &[Context], two: &[Context]) -> bool
+    ensures { IsTrue result ↔ (one.now ≡ two.now) }
+{
+    one == two
+}
+
+/// An entry where it is fresh for a reader, for whom these contexts, by which it was looked for, have these values. `Err` only
+/// where memory is wanting.
 pub fn if_fresh(
     alloc: Global,
     reader: &Reader<'_>,
     entry: Arc<Entry>,
+    contexts: &[Context],
+    known: &[ContextValue],
 ) -> Result<Option<Arc<Entry>>, AllocError>
+    requires { known.now ≡ map (valued (visit reader.now)) contexts.now }
     ensures fresh { IfOk result (λ found. IfSome found (λ e. (arc_value e ≡ arc_value entry) × IsFresh reader.now.state.now reader.now.viewer.now reader.now.ask.now reader.now.moment (arc_value e))) }
     ensures stale { IfOk result (λ found. found ≡ None → IsFresh reader.now.state.now reader.now.viewer.now reader.now.ask.now reader.now.moment (arc_value entry) → ⊥) }
 {
-    if is_fresh(alloc, reader, &entry)? {
+    if is_fresh_by(alloc, reader, &entry, contexts, known)? {
         Ok(Some(entry))
     } else {
         Ok(None)

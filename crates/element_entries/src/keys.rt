@@ -28,6 +28,17 @@ pub fn duplicate_subject(alloc: Global, subject: &Subject) -> Result<Subject, Al
     })
 }
 
+/// The first key of what is kept, with the values of the required contexts for a reader. `Err` only where memory is wanting.
+pub fn first_key(alloc: Global, reader: &Reader<'_>, subject: Subject) -> Result<Key, AllocError>
+    ensures { IfOk result (λ key. key ≡ key_by (visit reader.now) subject required) }
+{
+    let contexts = required_contexts();
+    Ok(Key {
+        subject,
+        values: values(alloc, reader.state, reader.viewer, reader.ask, &contexts)?,
+    })
+}
+
 /// The key of what is kept, with the values that these contexts have for a reader. `Err` only where memory is wanting.
 pub fn key_of(
     alloc: Global,

@@ -23,7 +23,7 @@ use crate::places::fragment_at;
 use cache_entries::{Bin, Subject};
 use cacheability::{Context, OrderedSet};
 use content_state::{Fragment, Hole};
-use element_entries::Reader;
+use element_entries::{Reader, first_key};
 use html_out::Segment;
 use render_array::Element;
 use renderer::element_level;
@@ -42,8 +42,8 @@ fn look_for<H: House>(
     ensures here { IfOk result (λ seen. IfSome seen.entry (λ e. IsHere meaning (subject_is.Fragment fragment.now) (visit reader.now) (arc_value e))) }
     ensures told { IfOk result (λ seen. (shelves : Shelves) → IsTold (H.sees house.old) shelves → SeenIn reader.now shelves bin_is.Fragments (subject_is.Fragment fragment.now) seen (H.sees house.new)) }
 {
-    let subject = Subject::Fragment(*fragment);
-    look(alloc, house, reader, Bin::Fragments, &subject)
+    let first = first_key(alloc, reader, Subject::Fragment(*fragment))?;
+    look(alloc, house, reader, Bin::Fragments, &first)
 }
 
 /// What stands in the place of a fragment that was put together, which is kept where it may be.

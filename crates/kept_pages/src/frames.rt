@@ -25,7 +25,7 @@ use cache_entries::{Bin, Subject};
 use cacheability::{Context, OrderedSet};
 use content_rows::Duplicate;
 use content_state::{Fragment, Hole};
-use element_entries::Reader;
+use element_entries::{Reader, first_key};
 use html_out::Segment;
 use render_array::Element;
 use site_house::House;
@@ -44,10 +44,11 @@ pub fn some_frame<H: House>(
     ensures told { IfOk result (λ child. Tells reader.now (OfFrame reader.now.ask.now.path (visit reader.now) (arc_value child.entry)) (H.sees house.old) (H.sees house.new) 0 child.built) }
 {
     let subject = Subject::Page(reader.ask.path.duplicate(alloc)?);
-    let Seen { entry, told } = look(alloc, house, reader, Bin::Dynamic, &subject)?;
+    let first = first_key(alloc, reader, subject)?;
+    let Seen { entry, told } = look(alloc, house, reader, Bin::Dynamic, &first)?;
     match entry {
         Some(entry) => Ok(Child { entry, built: 0 }),
-        None => built_frame(alloc, house, reader, &subject, told.as_deref()),
+        None => built_frame(alloc, house, reader, &first.subject, told.as_deref()),
     }
 }
 

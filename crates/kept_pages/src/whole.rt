@@ -21,7 +21,7 @@ use crate::looking::{Seen, look};
 use cache_entries::{Bin, Subject};
 use cacheability::{Context, OrderedSet};
 use content_rows::Duplicate;
-use element_entries::Reader;
+use element_entries::{Reader, first_key};
 use render_array::Element;
 use renderer::element_level;
 use site_house::House;
@@ -41,10 +41,11 @@ pub fn some_target<H: House>(
     ensures told { IfOk result (λ child. Tells reader.now (OfTarget (visit reader.now)) (H.sees house.old) (H.sees house.new) 0 child.built) }
 {
     let subject = Subject::Target(reader.ask.target.duplicate(alloc)?);
-    let Seen { entry, told } = look(alloc, house, reader, Bin::Anonymous, &subject)?;
+    let first = first_key(alloc, reader, subject)?;
+    let Seen { entry, told } = look(alloc, house, reader, Bin::Anonymous, &first)?;
     match entry {
         Some(entry) => Ok(Child { entry, built: 0 }),
-        None => built_target(alloc, house, reader, &subject, told.as_deref()),
+        None => built_target(alloc, house, reader, &first.subject, told.as_deref()),
     }
 }
 

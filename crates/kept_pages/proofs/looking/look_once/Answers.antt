@@ -5,7 +5,7 @@ use Rattle.kept_pages.proofs.looking.look_once.Goals as goal
 pub returns-in_ok-if_fresh-in-Entry-clause-here : goal.returns-in_ok-if_fresh-in-Entry-clause-here
 returns-in_ok-if_fresh-in-Entry-clause-here g c =
     fresh_here _ c.args.reader.now c.args.key.now c.in_ok-if_fresh-in-Entry.field-0 c.in-Entry.entry c.in_ok-entry.field-0
-    c.in-Entry.is c.in_ok-entry.ensures.sound (reads_on (steady_of c.in_ok-entry.ensures.moves c.in_ok-entry.ensures.stays) c.requires)
+    c.in-Entry.is c.in_ok-entry.ensures.sound (reads_on (steady_of c.in_ok-entry.ensures.moves c.in_ok-entry.ensures.stays) c.requires.reads)
     c.in_ok-if_fresh-in-Entry.ensures.fresh
 
 pub returns-in_ok-if_fresh-in-Entry-clause-told : goal.returns-in_ok-if_fresh-in-Entry-clause-told

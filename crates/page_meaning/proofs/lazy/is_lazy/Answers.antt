@@ -1,4 +1,4 @@
-use Rattle.std.proofs.Common.{sym, ◌∙◌, ap, subst, Bool, false, Option}
+use Rattle.std.proofs.Common.{sym, ◌∙◌, ap, subst, false, Option}
 use Rattle.std.proofs.lemmas.Result.{IfOk-weaker}
 use Rattle.std.specs.Option.{option_copied}
 use Rattle.content_rows.specs.declared.row.Block.{Block}
