@@ -1,3 +1,4 @@
 pub mod Digits
 pub mod InOrder
+pub mod Ranks
 pub mod Texts

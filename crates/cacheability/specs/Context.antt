@@ -1,5 +1,5 @@
 -- The texts of cache contexts (Drupal's Cache API, "Cache contexts").
-use Rattle.std.specs.Prelude.{ℕ, List, ◌++◌, codes, Bool, true, false}
+use Rattle.std.specs.Prelude.{ℕ, List, [], ◌++◌, codes, Bool, true, false}
 use Rattle.std.specs.Ordering.{nat_cmp}
 use Rattle.std.specs.Cmp.Lexicographic.{slice_cmp}
 use Rattle.std.specs.declared.cmp.Ordering.{Ordering}
@@ -22,6 +22,29 @@ context_text (context.QueryArg name) = codes "url.query_args:" ++ name
 context_text context.Session = codes "session"
 context_text context.SessionExists = codes "session.exists"
 context_text (context.MenuTrail m) = codes "route.menu_active_trails:" ++ m
+
+-- where the kind of a context stands among the kinds, by the order of texts
+abbrev pub context_rank : Context → ℕ
+context_rank context.Language = 0
+context_rank (context.MenuTrail m) = 1
+context_rank context.Session = 2
+context_rank context.SessionExists = 3
+context_rank context.Theme = 4
+context_rank context.Url = 5
+context_rank context.UrlPath = 6
+context_rank context.IsFront = 7
+context_rank context.QueryArgs = 8
+context_rank (context.QueryArg name) = 9
+context_rank context.User = 10
+context_rank context.NodeGrantsView = 11
+context_rank context.UserPermissions = 12
+context_rank context.UserRoles = 13
+
+-- the name in a context, if there is one
+abbrev pub context_name : Context → List ℕ
+context_name (context.QueryArg name) = name
+context_name (context.MenuTrail m) = m
+context_name _ = []
 
 -- contexts are ordered by their texts
 abbrev pub context_cmp : Context → Context → Ordering

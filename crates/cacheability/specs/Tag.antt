@@ -1,5 +1,5 @@
 -- The texts of cache tags (Drupal's Cache API, "Cache tags").
-use Rattle.std.specs.Prelude.{ℕ, List, ◌++◌, codes}
+use Rattle.std.specs.Prelude.{ℕ, List, [], ◌++◌, codes}
 use Rattle.std.specs.Ordering.{nat_cmp}
 use Rattle.std.specs.Cmp.Lexicographic.{slice_cmp}
 use Rattle.std.specs.declared.cmp.Ordering.{Ordering}
@@ -24,6 +24,41 @@ tag_text (tag.Block b) = codes "config:block.block." ++ b
 tag_text tag.BlockList = codes "config:block_list"
 tag_text tag.Rendered = codes "rendered"
 tag_text tag.NotFound = codes "4xx-response"
+
+-- where the kind of a tag stands among the kinds, by the order of texts
+abbrev pub tag_rank : Tag → ℕ
+tag_rank tag.NotFound = 0
+tag_rank (tag.Block b) = 1
+tag_rank tag.BlockList = 2
+tag_rank (tag.NodeType t) = 3
+tag_rank (tag.Menu m) = 4
+tag_rank tag.Site = 5
+tag_rank (tag.Role r) = 6
+tag_rank (tag.Listing l) = 7
+tag_rank (tag.Node n) = 8
+tag_rank tag.NodeList = 9
+tag_rank (tag.NodeListOf t) = 10
+tag_rank tag.Rendered = 11
+tag_rank (tag.Term t) = 12
+tag_rank tag.TermList = 13
+tag_rank (tag.User u) = 14
+
+-- the name in a tag, if there is one
+abbrev pub tag_name : Tag → List ℕ
+tag_name (tag.NodeType t) = t
+tag_name (tag.Role r) = r
+tag_name (tag.NodeListOf t) = t
+tag_name (tag.Menu m) = m
+tag_name (tag.Listing l) = l
+tag_name (tag.Block b) = b
+tag_name _ = []
+
+-- the number in a tag, 0 where there is none
+abbrev pub tag_number : Tag → ℕ
+tag_number (tag.User u) = u
+tag_number (tag.Term t) = t
+tag_number (tag.Node n) = n
+tag_number _ = 0
 
 -- tags are ordered by their texts
 abbrev pub tag_cmp : Tag → Tag → Ordering

@@ -3,15 +3,13 @@ ghost use Rattle.std.specs.Prelude.{◌≡◌, ◌↔◌, IfOk, IsTrue, Some, na
 ghost use Rattle.std.specs.Ordering.{nat_cmp, on};
 ghost use Rattle.std.specs.Cmp.{partial_equiv_from_equiv};
 ghost use Rattle.std.specs.Cmp.Lexicographic.{pointwise, slice_cmp};
-ghost use Rattle.std.specs.Cmp.Rules.{comparing, hashing};
-ghost use Rattle.std.specs.Hash as fed;
+ghost use Rattle.std.specs.Cmp.Rules.{comparing};
 ghost use Rattle.std.proofs.Common.{rules};
 
 use crate::name::Name;
 use crate::written::Written;
 use std::alloc::{AllocError, Global};
 use std::cmp::Ordering;
-use std::hash::{Hash, Hasher};
 
 /// A cache context: a part of the request that what is kept varies by, so that it is kept once for
 /// each of its values (Drupal's Cache API, "Cache contexts"). In its text `.` goes down a level and
@@ -49,7 +47,7 @@ pub enum Context {
 }
 
 impl Context {
-    ghost use Rattle.cacheability.specs.Context.{context_text, is_personal};
+    ghost use Rattle.cacheability.specs.Context.{context_text, context_rank, context_name, context_cmp, is_personal};
 
     /// The text of the context.
     pub fn text(&self, alloc: Global) -> Result<Vec<u8>, AllocError>
@@ -58,13 +56,13 @@ impl Context {
         Vec::from_slice(alloc, self.written().as_slice())
     }
 
-    #[tactic(auto, using(crate::proofs::Texts::contexts_apart))]
     /// Whether two contexts are the same. They are exactly where their texts are.
+    #[tactic(auto, using(crate::proofs::Texts::contexts_apart))]
     pub fn equals(&self, other: &Context) -> bool
         ensures same { IsTrue result ↔ (self.now ≡ other.now) }
         ensures same_text { IsTrue result ↔ (context_text self.now ≡ context_text other.now) }
     {
-        self.reads_as(other)
+        self.has_parts_of(other)
     }
 
     /// Whether it is the viewer or the session, so that what varies by it is for one viewer alone.
@@ -74,11 +72,51 @@ impl Context {
         matches!(self, Context::User | Context::Session)
     }
 
-    /// Whether two contexts have the same text.
-    fn reads_as(&self, other: &Context) -> bool
-        ensures { IsTrue result ↔ (context_text self.now ≡ context_text other.now) }
+    /// Whether two contexts are of one kind, and have the same name in them.
+    #[tactic(auto, using(crate::proofs::Ranks::same_contexts))]
+    fn has_parts_of(&self, other: &Context) -> bool
+        ensures { IsTrue result ↔ (self.now ≡ other.now) }
     {
-        self.written().as_slice() == other.written().as_slice()
+        self.rank() == other.rank() && self.name() == other.name()
+    }
+
+    /// Where the kind stands among the kinds, by the order of texts.
+    fn rank(&self) -> u8
+        ensures { result ≡ context_rank self.now }
+    {
+        match self {
+            Context::Language => 0,
+            Context::MenuTrail(_) => 1,
+            Context::Session => 2,
+            Context::SessionExists => 3,
+            Context::Theme => 4,
+            Context::Url => 5,
+            Context::UrlPath => 6,
+            Context::IsFront => 7,
+            Context::QueryArgs => 8,
+            Context::QueryArg(_) => 9,
+            Context::User => 10,
+            Context::NodeGrantsView => 11,
+            Context::UserPermissions => 12,
+            Context::UserRoles => 13,
+        }
+    }
+
+    /// The name in the context; empty where there is none.
+    fn name(&self) -> &[u8]
+        ensures { result.now ≡ context_name self.now }
+    {
+        match self {
+            Context::QueryArg(name) | Context::MenuTrail(name) => name.as_bytes(),
+            _ => &[],
+        }
+    }
+
+    /// The order of two contexts of one kind, by their texts.
+    fn order_of_texts(&self, other: &Context) -> Ordering
+        ensures { result ≡ context_cmp self.now other.now }
+    {
+        self.written().as_slice().cmp(other.written().as_slice())
     }
 
     /// The text of the context, held in place.
@@ -112,7 +150,7 @@ impl PartialEq for Context {
     ghost laws = { Prim.search (comparing, rules) };
 
     fn eq(&self, other: &Self) -> bool {
-        self.written().as_slice() == other.written().as_slice()
+        self.equals(other)
     }
 }
 
@@ -143,19 +181,17 @@ impl Ord for Context {
 
     ghost matches_eq = { Prim.search (comparing, rules) };
 
+    #[tactic(auto, using(crate::proofs::Ranks::contexts_by_rank, crate::proofs::Ranks::same_bytes))]
     fn cmp(&self, other: &Self) -> Ordering {
-        self.written().as_slice().cmp(other.written().as_slice())
-    }
-}
-
-impl Hash for Context {
-    ghost use Rattle.cacheability.specs.Context.{context_text};
-
-    ghost hash_input = { λ a. fed.slice fed.u8 (context_text a) };
-
-    ghost respects_eq = { Prim.search (hashing, rules) };
-
-    fn hash<H: Hasher>(&self, state: &mut H) {
-        self.written().as_slice().hash(state);
+        match self.rank().cmp(&other.rank()) {
+            Ordering::Equal => {
+                if self.equals(other) {
+                    Ordering::Equal
+                } else {
+                    self.order_of_texts(other)
+                }
+            }
+            apart => apart,
+        }
     }
 }

@@ -3,15 +3,13 @@ ghost use Rattle.std.specs.Prelude.{◌≡◌, ◌↔◌, IfOk, IsTrue, Some, na
 ghost use Rattle.std.specs.Ordering.{nat_cmp, on};
 ghost use Rattle.std.specs.Cmp.{partial_equiv_from_equiv};
 ghost use Rattle.std.specs.Cmp.Lexicographic.{pointwise, slice_cmp};
-ghost use Rattle.std.specs.Cmp.Rules.{comparing, hashing};
-ghost use Rattle.std.specs.Hash as fed;
+ghost use Rattle.std.specs.Cmp.Rules.{comparing};
 ghost use Rattle.std.proofs.Common.{rules};
 
 use crate::name::Name;
 use crate::written::Written;
 use std::alloc::{AllocError, Global};
 use std::cmp::Ordering;
-use std::hash::{Hash, Hasher};
 
 /// A cache tag: a thing that what is kept was made from, so that it is made again once the thing
 /// changes (Drupal's Cache API, "Cache tags"). Tags are ordered by their texts.
@@ -50,7 +48,7 @@ pub enum Tag {
 }
 
 impl Tag {
-    ghost use Rattle.cacheability.specs.Tag.{tag_text};
+    ghost use Rattle.cacheability.specs.Tag.{tag_text, tag_rank, tag_name, tag_number, tag_cmp};
 
     /// The text of the tag.
     pub fn text(&self, alloc: Global) -> Result<Vec<u8>, AllocError>
@@ -59,20 +57,78 @@ impl Tag {
         Vec::from_slice(alloc, self.written().as_slice())
     }
 
-    #[tactic(auto, using(crate::proofs::Texts::tags_apart))]
     /// Whether two tags are the same. They are exactly where their texts are.
+    #[tactic(auto, using(crate::proofs::Texts::tags_apart))]
     pub fn equals(&self, other: &Tag) -> bool
         ensures same { IsTrue result ↔ (self.now ≡ other.now) }
         ensures same_text { IsTrue result ↔ (tag_text self.now ≡ tag_text other.now) }
     {
-        self.reads_as(other)
+        self.has_parts_of(other)
     }
 
-    /// Whether two tags have the same text.
-    fn reads_as(&self, other: &Tag) -> bool
-        ensures { IsTrue result ↔ (tag_text self.now ≡ tag_text other.now) }
+    /// Whether two tags are of one kind, and have the same name and number in them.
+    #[tactic(auto, using(crate::proofs::Ranks::same_tags))]
+    fn has_parts_of(&self, other: &Tag) -> bool
+        ensures { IsTrue result ↔ (self.now ≡ other.now) }
     {
-        self.written().as_slice() == other.written().as_slice()
+        self.rank() == other.rank()
+            && self.number() == other.number()
+            && self.name() == other.name()
+    }
+
+    /// Where the kind stands among the kinds, by the order of texts.
+    fn rank(&self) -> u8
+        ensures { result ≡ tag_rank self.now }
+    {
+        match self {
+            Tag::NotFound => 0,
+            Tag::Block(_) => 1,
+            Tag::BlockList => 2,
+            Tag::NodeType(_) => 3,
+            Tag::Menu(_) => 4,
+            Tag::Site => 5,
+            Tag::Role(_) => 6,
+            Tag::Listing(_) => 7,
+            Tag::Node(_) => 8,
+            Tag::NodeList => 9,
+            Tag::NodeListOf(_) => 10,
+            Tag::Rendered => 11,
+            Tag::Term(_) => 12,
+            Tag::TermList => 13,
+            Tag::User(_) => 14,
+        }
+    }
+
+    /// The name in the tag; empty where there is none.
+    fn name(&self) -> &[u8]
+        ensures { result.now ≡ tag_name self.now }
+    {
+        match self {
+            Tag::NodeType(name)
+            | Tag::Role(name)
+            | Tag::NodeListOf(name)
+            | Tag::Menu(name)
+            | Tag::Listing(name)
+            | Tag::Block(name) => name.as_bytes(),
+            _ => &[],
+        }
+    }
+
+    /// The number in the tag; 0 where there is none.
+    fn number(&self) -> u32
+        ensures { result ≡ tag_number self.now }
+    {
+        match self {
+            Tag::User(number) | Tag::Term(number) | Tag::Node(number) => *number,
+            _ => 0,
+        }
+    }
+
+    /// The order of two tags of one kind, by their texts.
+    fn order_of_texts(&self, other: &Tag) -> Ordering
+        ensures { result ≡ tag_cmp self.now other.now }
+    {
+        self.written().as_slice().cmp(other.written().as_slice())
     }
 
     /// The text of the tag, held in place.
@@ -107,7 +163,7 @@ impl PartialEq for Tag {
     ghost laws = { Prim.search (comparing, rules) };
 
     fn eq(&self, other: &Self) -> bool {
-        self.written().as_slice() == other.written().as_slice()
+        self.equals(other)
     }
 }
 
@@ -138,19 +194,17 @@ impl Ord for Tag {
 
     ghost matches_eq = { Prim.search (comparing, rules) };
 
+    #[tactic(auto, using(crate::proofs::Ranks::tags_by_rank, crate::proofs::Ranks::same_bytes))]
     fn cmp(&self, other: &Self) -> Ordering {
-        self.written().as_slice().cmp(other.written().as_slice())
-    }
-}
-
-impl Hash for Tag {
-    ghost use Rattle.cacheability.specs.Tag.{tag_text};
-
-    ghost hash_input = { λ a. fed.slice fed.u8 (tag_text a) };
-
-    ghost respects_eq = { Prim.search (hashing, rules) };
-
-    fn hash<H: Hasher>(&self, state: &mut H) {
-        self.written().as_slice().hash(state);
+        match self.rank().cmp(&other.rank()) {
+            Ordering::Equal => {
+                if self.equals(other) {
+                    Ordering::Equal
+                } else {
+                    self.order_of_texts(other)
+                }
+            }
+            apart => apart,
+        }
     }
 }
