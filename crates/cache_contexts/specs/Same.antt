@@ -1,5 +1,5 @@
 -- When two values of contexts are the same, as a test, and what of them is hashed.
-use Rattle.std.specs.Prelude.{ℕ, List, [], Bool, true, false, ◌&&◌, ◌==◌, ◌++◌, Some, None, length}
+use Rattle.std.specs.Prelude.{ℕ, List, [], Bool, true, false, ◌&&◌, ◌==◌, Some, None, length}
 use Rattle.std.specs.Bool.{beq}
 use Rattle.std.specs.Option.{option_eq}
 use Rattle.std.specs.Cmp.Lexicographic.{pointwise}
@@ -45,7 +45,8 @@ same_value _ _ = false
 abbrev pub same_context_value : ContextValue → ContextValue → Bool
 same_context_value a b = bytes_eq (context_text a.context) (context_text b.context) && same_value a.value b.value
 
--- of texts and names the bytes are hashed, of permissions and grants how many there are
+-- of texts and names the bytes are hashed, of permissions and grants how many there are, and of a context with its value the value
+-- alone: under the keys of one thing mostly stand the same contexts
 abbrev pub text_writes : List ℕ → fed.HashWrites
 text_writes text = fed.slice fed.u8 text
 
@@ -63,4 +64,4 @@ value_writes (any.Grants grants.All) = []
 value_writes (any.Grants (grants.These held)) = fed.usize (length held)
 
 abbrev pub context_value_writes : ContextValue → fed.HashWrites
-context_value_writes v = text_writes (context_text v.context) ++ value_writes v.value
+context_value_writes v = value_writes v.value

@@ -116,7 +116,6 @@ impl Hash for ContextValue {
     ghost respects_eq = { context_values_alike.fed };
 
     fn hash<H: Hasher>(&self, state: &mut H) {
-        self.context.hash(state);
         self.value.hash(state);
     }
 }
