@@ -1,6 +1,6 @@
 //! The active trail of a menu.
 ghost use Rattle.std.specs.Prelude.{◌≡◌, IfOk, if◌then◌else◌};
-ghost use Rattle.std.specs.List.{find};
+ghost use Rattle.std.specs.List.{find, list_any};
 ghost use Rattle.std.specs.Option.{option_copied};
 ghost use Rattle.std.specs.Str.{bytes_eq};
 ghost use Rattle.content_state.specs.Route.{root_path};
@@ -34,8 +34,19 @@ pub fn active_trail(
 fn trail_to(alloc: Global, links: &[Link], path: &[u8]) -> Result<Vec<Name>, AllocError>
     ensures { IfOk result (λ ids. ids.items ≡ trail_to links.now path.now) }
 {
+    // mostly none does, and then the order of the tree, which is dear, isn't asked
+    if !has_link_to(links, path) {
+        return Ok(Vec::new(alloc));
+    }
     let places = tree_of(alloc, links)?;
     upward(alloc, links, first_to(links, &places, path))
+}
+
+/// Whether one of these links leads to a path.
+fn has_link_to(links: &[Link], path: &[u8]) -> bool
+    ensures { result ≡ list_any (λ l. bytes_eq l.path path.now) links.now }
+{
+    links.iter().any(|link| link.path.as_slice() == path)
 }
 
 /// The path that a link of the trail leads to.

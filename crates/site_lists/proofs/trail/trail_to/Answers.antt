@@ -1,9 +1,9 @@
-use Rattle.std.proofs.Common.{◌∙◌, ap}
+use Rattle.std.proofs.Common.{◌∙◌, sym, ap}
 use Rattle.std.specs.Prelude.{None}
 use Rattle.std.proofs.lemmas.Result.{IfOk-weaker}
 use Rattle.content_state.specs.Context.{preorder, upward}
 use Rattle.site_lists.specs.MenuPlaces.{first_to}
-use Rattle.site_lists.proofs.Menus.{first_is}
+use Rattle.site_lists.proofs.Menus.{first_is, nowhere}
 use Rattle.site_lists.proofs.trail.trail_to.Goals as goal
 
 pub returns : goal.returns
@@ -15,3 +15,6 @@ returns c =
     ∙ ap (first_to links path) c.deref.ensures.value
     ∙ first_is links path c.in_ok-places.places.items (preorder 9 links None) c.in_ok-places.ensures.order in
     IfOk-weaker c.upward.result _ _ (λ ids e. e ∙ ap (upward 9 links) same) c.upward.ensures
+
+pub returns-then-not-has_link_to : goal.returns-then-not-has_link_to
+returns-then-not-has_link_to c = c.new.ensures.items ∙ nowhere c.args.path.now c.args.links.now (sym c.if-not-has_link_to.ensures)
