@@ -32,6 +32,7 @@ same_grants (grants.These a) (grants.These b) = pointwise same_grant a b
 same_grants _ _ = false
 
 abbrev pub same_value : AnyValue → AnyValue → Bool
+same_value (any.Name a) (any.Name b) = bytes_eq a b
 same_value (any.Text a) (any.Text b) = bytes_eq a b
 same_value (any.Argument a) (any.Argument b) = option_eq bytes_eq a b
 same_value (any.User a) (any.User b) = a == b
@@ -51,6 +52,7 @@ abbrev pub text_writes : List ℕ → fed.HashWrites
 text_writes text = fed.slice fed.u8 text
 
 abbrev pub value_writes : AnyValue → fed.HashWrites
+value_writes (any.Name name) = text_writes name
 value_writes (any.Text text) = text_writes text
 value_writes (any.Argument None) = []
 value_writes (any.Argument (Some text)) = text_writes text

@@ -58,6 +58,7 @@ grants_decided (grants.These a) (grants.These b) = Decides-like (pointwise same_
 grants_decided _ _ = (λ e. absurd (true≢false (sym e)), λ e. cc)
 
 pub value_decided : (a b : AnyValue) → Decides (same_value a b) (a ≡ b)
+value_decided (any.Name a) (any.Name b) = Decides-like (bytes_eq a b) (λ e. ap any.Name e) (λ e. cc) (bytes_eq-Decides a b)
 value_decided (any.Text a) (any.Text b) = Decides-like (bytes_eq a b) (λ e. ap any.Text e) (λ e. cc) (bytes_eq-Decides a b)
 value_decided (any.Argument a) (any.Argument b) = Decides-like (option_eq bytes_eq a b) (λ e. ap any.Argument e) (λ e. cc) (option_decided a b)
 value_decided (any.User a) (any.User b) = Decides-like (a == b) (λ e. ap any.User e) (λ e. cc) (Decides-eqb a b)

@@ -17,8 +17,8 @@ visit_on state viewer ask moment = record { rows = state.rows; viewer = viewer; 
 
 -- the value of a context, as one of the values of any
 abbrev pub as_any : (c : Context) → Value c → AnyValue
-as_any context.Language text = any.Text text
-as_any context.Theme text = any.Text text
+as_any context.Language name = any.Name name
+as_any context.Theme name = any.Name name
 as_any context.User uid = any.User uid
 as_any context.UserRoles names = any.Names names
 as_any context.UserPermissions permissions = any.Permissions permissions

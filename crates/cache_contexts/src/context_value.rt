@@ -10,7 +10,9 @@ use std::hash::{Hash, Hasher};
 /// The value of a cache context, whichever it is.
 #[derive(Drop)]
 pub enum AnyValue {
-    /// A text: the language, the theme, a target, a path or a query.
+    /// A name, held in place: the language or the theme.
+    Name(Name),
+    /// A text: a target, a path or a query.
     Text(Text),
     /// An argument of the query, where it is there; its absence equals no text.
     Argument(Option<Text>),
@@ -45,6 +47,7 @@ impl PartialEq for AnyValue {
 
     fn eq(&self, other: &Self) -> bool {
         match (self, other) {
+            (AnyValue::Name(one), AnyValue::Name(two)) => one == two,
             (AnyValue::Text(one), AnyValue::Text(two)) => one == two,
             (AnyValue::Argument(one), AnyValue::Argument(two)) => one == two,
             (AnyValue::User(one), AnyValue::User(two)) => one == two,
@@ -74,6 +77,7 @@ impl Hash for AnyValue {
 
     fn hash<H: Hasher>(&self, state: &mut H) {
         match self {
+            AnyValue::Name(name) => name.hash(state),
             AnyValue::Text(text) | AnyValue::Argument(Some(text)) => text.as_slice().hash(state),
             AnyValue::User(uid) => uid.hash(state),
             AnyValue::Flag(flag) => flag.hash(state),

@@ -1,5 +1,5 @@
 //! The values of contexts.
-ghost use Rattle.std.specs.Prelude.{◌≡◌, ℕ, IfOk, map};
+ghost use Rattle.std.specs.Prelude.{◌≡◌, ℕ, IfOk, codes, map};
 ghost use Rattle.content_state.specs.Context.{is_front, trail_in, value as value_on};
 ghost use Rattle.content_state.specs.Route.{front_path};
 ghost use Rattle.content_state.specs.Rows.{menu_of};
@@ -62,8 +62,8 @@ fn any_value(
     ensures { IfOk result (λ found. found ≡ as_any context (value_on (visit_on state.now viewer.now ask.now 0) context)) }
 {
     Ok(match context {
-        Context::Language => AnyValue::Text(Text::copied(alloc, b"en")?),
-        Context::Theme => AnyValue::Text(Text::copied(alloc, b"site")?),
+        Context::Language => AnyValue::Name(language()),
+        Context::Theme => AnyValue::Name(theme()),
         Context::User => AnyValue::User(viewer.uid),
         Context::UserRoles => AnyValue::Names(roles(alloc, state, viewer)?),
         Context::UserPermissions => AnyValue::Permissions(permissions(alloc, state, viewer)?),
@@ -77,6 +77,26 @@ fn any_value(
         Context::SessionExists => AnyValue::Flag(viewer.session.is_some()),
         Context::MenuTrail(name) => AnyValue::Names(trail(alloc, state, ask, name)?),
     })
+}
+
+/// The language of every page.
+fn language() -> Name
+    ensures { result ≡ codes "en" }
+{
+    match Name::new(b"en") {
+        Ok(name) => name,
+        Err(_) => unreachable!(),
+    }
+}
+
+/// The theme of every page.
+fn theme() -> Name
+    ensures { result ≡ codes "site" }
+{
+    match Name::new(b"site") {
+        Ok(name) => name,
+        Err(_) => unreachable!(),
+    }
 }
 
 /// The names of a viewer's roles.

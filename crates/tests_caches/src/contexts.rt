@@ -44,6 +44,7 @@ fn grants_text(alloc: Global, out: &mut Vec<u8>, grants: &[Grant]) -> Result<(),
 fn letters(alloc: Global, value: &AnyValue) -> Result<Vec<u8>, AllocError> {
     let mut out = Vec::new(alloc);
     match value {
+        AnyValue::Name(name) => add(&mut out, name.as_bytes())?,
         AnyValue::Text(text) => add(&mut out, text.as_slice())?,
         AnyValue::Argument(None) | AnyValue::Session(None) => add(&mut out, b"-")?,
         AnyValue::Argument(Some(text)) => {
