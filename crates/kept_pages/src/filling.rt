@@ -42,8 +42,8 @@ fn look_for<H: House>(
     ensures here { IfOk result (λ seen. IfSome seen.entry (λ e. IsHere meaning (subject_is.Fragment fragment.now) (visit reader.now) (arc_value e))) }
     ensures told { IfOk result (λ seen. (shelves : Shelves) → IsTold (H.sees house.old) shelves → SeenIn reader.now shelves bin_is.Fragments (subject_is.Fragment fragment.now) seen (H.sees house.new)) }
 {
-    let first = first_key(alloc, reader, Subject::Fragment(*fragment))?;
-    look(alloc, house, reader, Bin::Fragments, &first)
+    let mut key = first_key(alloc, reader, Subject::Fragment(*fragment))?;
+    look(alloc, house, reader, Bin::Fragments, &mut key)
 }
 
 /// What stands in the place of a fragment that was put together, which is kept where it may be.

@@ -44,11 +44,11 @@ pub fn some_frame<H: House>(
     ensures told { IfOk result (λ child. Tells reader.now (OfFrame reader.now.ask.now.path (visit reader.now) (arc_value child.entry)) (H.sees house.old) (H.sees house.new) 0 child.built) }
 {
     let subject = Subject::Page(reader.ask.path.duplicate(alloc)?);
-    let first = first_key(alloc, reader, subject)?;
-    let Seen { entry, told } = look(alloc, house, reader, Bin::Dynamic, &first)?;
+    let mut key = first_key(alloc, reader, subject)?;
+    let Seen { entry, told } = look(alloc, house, reader, Bin::Dynamic, &mut key)?;
     match entry {
         Some(entry) => Ok(Child { entry, built: 0 }),
-        None => built_frame(alloc, house, reader, &first.subject, told.as_deref()),
+        None => built_frame(alloc, house, reader, &key.subject, told.as_deref()),
     }
 }
 

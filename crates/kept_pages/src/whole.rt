@@ -41,11 +41,11 @@ pub fn some_target<H: House>(
     ensures told { IfOk result (λ child. Tells reader.now (OfTarget (visit reader.now)) (H.sees house.old) (H.sees house.new) 0 child.built) }
 {
     let subject = Subject::Target(reader.ask.target.duplicate(alloc)?);
-    let first = first_key(alloc, reader, subject)?;
-    let Seen { entry, told } = look(alloc, house, reader, Bin::Anonymous, &first)?;
+    let mut key = first_key(alloc, reader, subject)?;
+    let Seen { entry, told } = look(alloc, house, reader, Bin::Anonymous, &mut key)?;
     match entry {
         Some(entry) => Ok(Child { entry, built: 0 }),
-        None => built_target(alloc, house, reader, &first.subject, told.as_deref()),
+        None => built_target(alloc, house, reader, &key.subject, told.as_deref()),
     }
 }
 

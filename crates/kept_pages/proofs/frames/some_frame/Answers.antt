@@ -10,12 +10,12 @@ use Rattle.kept_pages.proofs.frames.some_frame.Goals as goal
 pub returns-in-Some-clause-told : goal.returns-in-Some-clause-told
 returns-in-Some-clause-told g c =
     tells_found c.args.reader.now (InFrame c.args.reader.now.ask.now.path (visit c.args.reader.now)) bin.Dynamic (subject.Page c.args.reader.now.ask.now.path) c.in-Some.entry c.in_ok-entry.field-0 _ _ c.in-Some.is
-    (rw c.in_ok-duplicate.ensures at (rw c.in_ok-first.ensures at c.in_ok-entry.ensures.told))
+    (rw c.in_ok-duplicate.ensures at (rw c.in_ok-key.ensures at c.in_ok-entry.ensures.told))
 
 pub returns-clause-told : goal.returns-clause-told
 returns-clause-told g c =
     IfOk-weaker c.built_frame.result _ _
     (λ child built.
     tells_built c.args.reader.now (InFrame c.args.reader.now.ask.now.path (visit c.args.reader.now)) bin.Dynamic (subject.Page c.args.reader.now.ask.now.path) (arc_value child.entry) c.in_ok-entry.field-0 _ _ _ child.built c.in-None.is
-    (rw c.in_ok-duplicate.ensures at (rw c.in_ok-first.ensures at c.in_ok-entry.ensures.told)) built)
+    (rw c.in_ok-duplicate.ensures at (rw c.in_ok-key.ensures at c.in_ok-entry.ensures.told)) built)
     c.built_frame.ensures.told
