@@ -24,20 +24,47 @@ fn wait_for(mark: &Mark) {
     }
 }
 
-/// A gate that tells that a point is reached; at the first one it waits for a mark, if it waits at all.
+/// A gate that tells that a point is reached; at the first one it waits for a mark, if it waits at all. It counts the replies, and writes
+/// down how many elements were built for each of the first four.
 #[derive(Drop)]
 pub struct Hold {
     reached: Mark,
     until: Option<Mark>,
+    replies: usize,
+    built: [u64; 4],
+}
+
+impl Hold {
+    // The gate that isn't held, and where nothing was reached.
+    fn new(alloc: Global) -> Result<Hold, AllocError> {
+        Ok(Hold {
+            reached: Arc::new(alloc, AtomicBool::new(false))?,
+            until: None,
+            replies: 0,
+            built: [0; 4],
+        })
+    }
+
+    // Counts a reply for which so many elements were built.
+    fn note(&mut self, built: u64) {
+        if let Some(place) = self.built.get_mut(self.replies) {
+            *place = built;
+        }
+        self.replies = self.replies.saturating_add(1);
+    }
 }
 
 impl Gate for Hold {
     ghost reached = { λ _. None };
 
-    fn reach(&mut self, _point: Point) {
+    fn reach(&mut self, point: Point) {
         self.reached.store(true, SeqCst);
         if let Some(until) = self.until.take() {
             wait_for(&until);
+        }
+        match point {
+            Point::AfterSnapshot => {}
+            Point::BeforeReply(built) => self.note(built),
         }
     }
 }
@@ -57,18 +84,19 @@ pub struct Connection {
 impl Connection {
     /// The connection with these requests, which begins at once and isn't held.
     pub fn new(alloc: Global, requests: &[u8]) -> Result<Connection, AllocError> {
-        let gate = Hold {
-            reached: Arc::new(alloc, AtomicBool::new(false))?,
-            until: None,
-        };
+        let requests = Vec::from_slice(alloc, requests)?;
+        let moments = vec![in alloc; 1_000]?;
+        let sink = MemorySink::new(alloc, 4_000)?;
+        let answered = Arc::new(alloc, AtomicBool::new(false))?;
+        let gate = Hold::new(alloc)?;
         Ok(Connection {
-            source: MemorySource::new(Vec::from_slice(alloc, requests)?, 64),
-            sink: MemorySink::new(alloc, 4_000)?,
-            clock: ListClock::new(vec![in alloc; 1_000]?),
+            source: MemorySource::new(requests, 64),
+            sink,
+            clock: ListClock::new(moments),
             entropy: ListEntropy::new(Vec::new(alloc)),
             gate,
             after: None,
-            answered: Arc::new(alloc, AtomicBool::new(false))?,
+            answered,
         })
     }
 
@@ -82,6 +110,11 @@ impl Connection {
     /// What was written.
     pub fn written(&self) -> &[u8] {
         self.sink.bytes()
+    }
+
+    /// How many replies there were, and how many elements were built for each of the first four.
+    pub fn built(&self) -> (usize, [u64; 4]) {
+        (self.gate.replies, self.gate.built)
     }
 }
 
