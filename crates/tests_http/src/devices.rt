@@ -191,6 +191,7 @@ fn reading_and_writing(rt: HostRuntime) {
     assert!(rt; source.read(&mut buffer) == Ok(3));
     assert!(rt; buffer == *b"abc\0\0\0\0\0");
     assert!(rt; source.read(&mut buffer) == Ok(0));
+    drop(source);
     let mut places = [0; 4];
     let mut sink = Writing::new(places.as_mut_slice());
     assert!(rt; write_whole(&mut sink, b"abc") == Ok(()));

@@ -16,13 +16,19 @@ enum Seen {
     Refused(u16),
 }
 
-fn seen_in(alloc: Global, bytes: &[u8], room: &mut HeadRoom) -> Result<Seen, AllocError> {
-    let parsed = parse_in(alloc, bytes, room)?;
-    Ok(match &parsed {
+fn seen(parsed: &Parsed) -> Seen {
+    match parsed {
         Parsed::Whole(_, size) => Seen::Whole(*size),
         Parsed::More => Seen::More,
         Parsed::Refused(code) => Seen::Refused(*code),
-    })
+    }
+}
+
+fn seen_in(alloc: Global, bytes: &[u8], room: &mut HeadRoom) -> Result<Seen, AllocError> {
+    let parsed = parse_in(alloc, bytes, room)?;
+    let seen = seen(&parsed);
+    drop(parsed);
+    Ok(seen)
 }
 
 /// Whether bytes begin with that, each of them.
@@ -236,17 +242,26 @@ fn has_parts(request: &Request) -> bool {
         && request.body.as_slice() == b"hi".as_slice()
 }
 
+/// Whether bytes begin with that request, and more bytes follow it, so many.
+fn begin_with_it(alloc: Global, bytes: &[u8], more: usize) -> Result<bool, AllocError> {
+    Ok(match request_in(alloc, bytes)? {
+        Some((request, size)) => size.saturating_add(more) == bytes.len() && has_parts(&request),
+        None => false,
+    })
+}
+
 #[test]
 fn the_parts_of_a_request(rt: HostRuntime) -> Result<(), Fail> {
     let bytes: &[u8] =
         b"PATCH /a%20b?c=%41&d? HTTP/1.1\r\nContent-Type: \t text/plain \r\ncontent-type: x\r\nX-CSRF-Token: t1\r\nx-csrf-token: t2\r\nContent-Length: 2\r\n\r\nhi and more";
-    let right = match request_in(rt.alloc(), bytes)? {
-        Some((request, size)) => size == bytes.len() - 9 && has_parts(&request),
-        None => false,
-    };
-    assert!(rt; right);
-    let body = Octets::copied(rt.alloc(), b"hi")?;
-    assert!(rt; body.into_vec().as_slice() == b"hi".as_slice());
+    assert!(rt; begin_with_it(rt.alloc(), bytes, 9)?);
+    Ok(())
+}
+
+#[test]
+fn the_bytes_of_a_text(rt: HostRuntime) -> Result<(), Fail> {
+    let text = Octets::copied(rt.alloc(), b"hi")?;
+    assert!(rt; text.into_vec().as_slice() == b"hi".as_slice());
     Ok(())
 }
 

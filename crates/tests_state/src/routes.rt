@@ -4,7 +4,7 @@ use crate::site::site;
 use cacheability::{Name, Tag};
 use content_state::{Route, route_of};
 use site_lists::{list_tags, query_value};
-use std::alloc::Global;
+use std::alloc::{AllocError, Global};
 use std::test::Fail;
 
 /// What a path leads to, in a word, with its number where it has one.
@@ -26,7 +26,7 @@ fn leads(
     path: &str,
     to: (&str, u32),
     tags: &[Tag],
-) -> Result<bool, Fail> {
+) -> Result<bool, AllocError> {
     let state = site(alloc, front)?;
     let (route, covering) = route_of(alloc, &state, path.as_bytes())?;
     let (kind, number) = word(&route);

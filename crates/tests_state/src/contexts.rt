@@ -34,40 +34,85 @@ fn texts_text(out: &mut Vec<u8>, texts: &[Text]) -> Result<(), AllocError> {
 fn grants_text(alloc: Global, out: &mut Vec<u8>, grants: &[Grant]) -> Result<(), AllocError> {
     for grant in grants {
         add(out, grant.realm.as_bytes())?;
+        let digits = grant.gid.to_string(alloc)?;
         out.push(b':')?;
-        out.extend_from_slice(grant.gid.to_string(alloc)?.as_bytes())?;
+        out.extend_from_slice(digits.as_bytes())?;
     }
     Ok(())
 }
 
+/// A number in digits.
+fn number_text(alloc: Global, out: &mut Vec<u8>, number: u32) -> Result<(), AllocError> {
+    let digits = number.to_string(alloc)?;
+    add(out, digits.as_bytes())
+}
+
+/// What is absent, or may be.
+fn optional_text(out: &mut Vec<u8>, text: Option<&[u8]>) -> Result<(), AllocError> {
+    match text {
+        Some(text) => {
+            add(out, b"=")?;
+            out.extend_from_slice(text)
+        }
+        None => add(out, b"-"),
+    }
+}
+
+fn permissions_text(out: &mut Vec<u8>, permissions: &Permissions) -> Result<(), AllocError> {
+    match permissions {
+        Permissions::All => add(out, b"*"),
+        Permissions::These(texts) => texts_text(out, texts.as_slice()),
+    }
+}
+
+fn view_grants_text(
+    alloc: Global,
+    out: &mut Vec<u8>,
+    grants: &ViewGrants,
+) -> Result<(), AllocError> {
+    match grants {
+        ViewGrants::All => add(out, b"*"),
+        ViewGrants::These(grants) => grants_text(alloc, out, grants.as_slice()),
+    }
+}
+
 /// A value in letters: lists with commas, `*` for everything, `-` for what is absent and `=` before what may be.
+fn value_text(alloc: Global, out: &mut Vec<u8>, value: &AnyValue) -> Result<(), AllocError> {
+    match value {
+        AnyValue::Text(text) => add(out, text.as_slice()),
+        AnyValue::Argument(text) => {
+            optional_text(out, text.as_ref().map(|text| text.as_slice()))
+        }
+        AnyValue::Session(token) => {
+            optional_text(out, token.as_ref().map(|token| token.as_bytes()))
+        }
+        AnyValue::User(uid) => number_text(alloc, out, *uid),
+        AnyValue::Flag(flag) => add(out, if *flag { b"1" } else { b"0" }),
+        AnyValue::Names(names) => names_text(out, names.as_slice()),
+        AnyValue::Permissions(permissions) => permissions_text(out, permissions),
+        AnyValue::Grants(grants) => view_grants_text(alloc, out, grants),
+    }
+}
+
 fn letters(alloc: Global, value: &AnyValue) -> Result<Vec<u8>, AllocError> {
     let mut out = Vec::new(alloc);
-    match value {
-        AnyValue::Text(text) => add(&mut out, text.as_slice())?,
-        AnyValue::Argument(None) | AnyValue::Session(None) => add(&mut out, b"-")?,
-        AnyValue::Argument(Some(text)) => {
-            add(&mut out, b"=")?;
-            out.extend_from_slice(text.as_slice())?;
-        }
-        AnyValue::Session(Some(token)) => {
-            add(&mut out, b"=")?;
-            out.extend_from_slice(token.as_bytes())?;
-        }
-        AnyValue::User(uid) => add(&mut out, uid.to_string(alloc)?.as_bytes())?,
-        AnyValue::Flag(flag) => add(&mut out, if *flag { b"1" } else { b"0" })?,
-        AnyValue::Names(names) => names_text(&mut out, names.as_slice())?,
-        AnyValue::Permissions(Permissions::All) | AnyValue::Grants(ViewGrants::All) => {
-            add(&mut out, b"*")?
-        }
-        AnyValue::Permissions(Permissions::These(texts)) => {
-            texts_text(&mut out, texts.as_slice())?
-        }
-        AnyValue::Grants(ViewGrants::These(grants)) => {
-            grants_text(alloc, &mut out, grants.as_slice())?
-        }
-    }
+    value_text(alloc, &mut out, value)?;
     Ok(out)
+}
+
+/// The context of a value, and the value in letters, for a user on a path.
+fn found(
+    alloc: Global,
+    state: &State,
+    uid: u32,
+    path: &[u8],
+    context: Context,
+) -> Result<(Context, Vec<u8>), AllocError> {
+    let ask = asked(alloc, path, b"page=2&sort=a+b")?;
+    let found = value(alloc, state, &viewer(uid), &ask, context)?;
+    drop(ask);
+    let letters = letters(alloc, &found.value)?;
+    Ok((found.context, letters))
 }
 
 /// The context of a text, up to its parameter.
@@ -97,10 +142,8 @@ type Row = (u32, &'static str, &'static str, &'static str, &'static str);
 fn has_value(alloc: Global, state: &State, row: &Row) -> Result<bool, AllocError> {
     let (uid, path, text, parameter, wanted) = *row;
     let context = context_of(text, name(parameter.as_bytes())?);
-    let ask = asked(alloc, path.as_bytes(), b"page=2&sort=a+b")?;
-    let found = value(alloc, state, &viewer(uid), &ask, context)?;
-    let text = letters(alloc, &found.value)?;
-    Ok(found.context == context && text.as_slice() == wanted.as_bytes())
+    let (of, letters) = found(alloc, state, uid, path.as_bytes(), context)?;
+    Ok(of == context && letters.as_slice() == wanted.as_bytes())
 }
 
 const VALUES: [Row; 25] = [
@@ -147,15 +190,16 @@ fn values(rt: HostRuntime) -> Result<(), Fail> {
 }
 
 /// The texts of what is said, contexts first.
-fn said_text(alloc: Global, said: &Cacheability) -> Result<Vec<u8>, AllocError> {
-    let mut out = Vec::new(alloc);
+fn said_text(alloc: Global, out: &mut Vec<u8>, said: &Cacheability) -> Result<(), AllocError> {
     for context in said.contexts() {
-        add(&mut out, context.text(alloc)?.as_slice())?;
+        let text = context.text(alloc)?;
+        add(out, text.as_slice())?;
     }
     for tag in said.tags() {
-        add(&mut out, tag.text(alloc)?.as_slice())?;
+        let text = tag.text(alloc)?;
+        add(out, text.as_slice())?;
     }
-    Ok(out)
+    Ok(())
 }
 
 /// Whether for the member these contexts come to that.
@@ -166,7 +210,9 @@ fn comes_to(
     wanted: &str,
 ) -> Result<bool, AllocError> {
     let said = optimise(alloc, state, &viewer(2), contexts)?;
-    Ok(said_text(alloc, &said)?.as_slice() == wanted.as_bytes())
+    let mut out = Vec::new(alloc);
+    said_text(alloc, &mut out, &said)?;
+    Ok(out.as_slice() == wanted.as_bytes())
 }
 
 #[test]

@@ -1,7 +1,7 @@
 //! When entries are fresh, and the order of a bin.
 
 use crate::club::{asked, name, site, viewer};
-use cache_contexts::values;
+use cache_contexts::{ContextValue, values};
 use cache_entries::{Bin, Entry, Found, Kept, Key, Subject, fresh};
 use cacheability::{Cacheability, Context, OrderedSet, Tag};
 use content_rows::Items;
@@ -21,18 +21,36 @@ fn site_after(alloc: Global, edits: u64) -> Result<State, AllocError> {
     site(alloc, counts)
 }
 
-/// An entry that was made for the member at moment 100, of the first node after one edit, and holds until 160.
-fn entry(alloc: Global) -> Result<Entry, AllocError> {
-    let state = site_after(alloc, 1)?;
+/// What an entry says.
+fn said(alloc: Global) -> Result<Cacheability, AllocError> {
     let mut said = Cacheability::new(alloc);
     said.add_tag(Tag::Node(1))?;
     said.add_tag(Tag::Rendered)?;
     said.add_context(Context::User)?;
-    let asked = asked(alloc, b"/node/1", b"")?;
+    Ok(said)
+}
+
+/// The values of contexts for a user, on a path with a query.
+fn values_for(
+    alloc: Global,
+    state: &State,
+    uid: u32,
+    path: &[u8],
+    query: &[u8],
+    contexts: &[Context],
+) -> Result<Items<ContextValue>, AllocError> {
+    let asked = asked(alloc, path, query)?;
+    values(alloc, state, &viewer(uid), &asked, contexts)
+}
+
+/// An entry that was made on a state for the member at moment 100, and holds until 160.
+fn entry_on(alloc: Global, state: &State) -> Result<Entry, AllocError> {
+    let said = said(alloc)?;
+    let values = values_for(alloc, state, 2, b"/node/1", b"", said.contexts())?;
     Ok(Entry {
         segments: Segments::new(alloc),
         libraries: Items::none(alloc),
-        values: values(alloc, &state, &viewer(2), &asked, said.contexts())?,
+        values,
         sum: state.counts().sum(said.tags()),
         cacheability: said,
         made_at: state.number(),
@@ -42,19 +60,30 @@ fn entry(alloc: Global) -> Result<Entry, AllocError> {
     })
 }
 
+/// The same, of the first node after one edit.
+fn entry(alloc: Global) -> Result<Entry, AllocError> {
+    let state = site_after(alloc, 1)?;
+    entry_on(alloc, &state)
+}
+
+/// Whether an entry is fresh on a state, for a user and at a moment.
+fn is_fresh_on(
+    alloc: Global,
+    state: &State,
+    entry: &Entry,
+    uid: u32,
+    moment: u64,
+) -> Result<bool, AllocError> {
+    let contexts = entry.cacheability.contexts();
+    let values = values_for(alloc, state, uid, b"/node", b"page=1", contexts)?;
+    Ok(fresh(state, entry, values.as_slice(), moment))
+}
+
 /// Whether that entry is fresh after so many edits, for a user and at a moment.
 fn is_fresh(alloc: Global, edits: u64, uid: u32, moment: u64) -> Result<bool, AllocError> {
-    let state = site_after(alloc, edits)?;
     let entry = entry(alloc)?;
-    let asked = asked(alloc, b"/node", b"page=1")?;
-    let values = values(
-        alloc,
-        &state,
-        &viewer(uid),
-        &asked,
-        entry.cacheability.contexts(),
-    )?;
-    Ok(fresh(&state, &entry, values.as_slice(), moment))
+    let state = site_after(alloc, edits)?;
+    is_fresh_on(alloc, &state, &entry, uid, moment)
 }
 
 #[test]
@@ -82,22 +111,28 @@ fn key(alloc: Global, block: &[u8]) -> Result<Key, AllocError> {
     })
 }
 
-/// Keeps the entry, or a redirect, for a block.
-fn keep(alloc: Global, bins: &mut Bins, block: &[u8], redirects: bool) -> Result<(), AllocError> {
-    let kept = if redirects {
-        Kept::Redirect(Arc::new(alloc, OrderedSet::new(alloc))?)
+/// The entry, or a redirect.
+fn kept(alloc: Global, redirects: bool) -> Result<Kept, AllocError> {
+    if redirects {
+        let contexts = Arc::new(alloc, OrderedSet::new(alloc))?;
+        Ok(Kept::Redirect(contexts))
     } else {
-        Kept::Entry(Arc::new(alloc, entry(alloc)?)?)
-    };
-    match bins.keep(Bin::Fragments, key(alloc, block)?, kept) {
-        Ok(()) => Ok(()),
-        Err(_) => Err(AllocError),
+        let entry = Arc::new(alloc, entry(alloc)?)?;
+        Ok(Kept::Entry(entry))
     }
 }
 
-/// What is found for a block: `e` an entry, `r` a redirect, `-` nothing.
-fn look(alloc: Global, bins: &mut Bins, block: &[u8]) -> Result<u8, AllocError> {
-    Ok(match bins.look(Bin::Fragments, &key(alloc, block)?)? {
+/// Keeps the entry, or a redirect, for a block.
+fn keep(alloc: Global, bins: &mut Bins, block: &[u8], redirects: bool) -> Result<(), AllocError> {
+    let key = key(alloc, block)?;
+    let kept = kept(alloc, redirects)?;
+    bins.keep(Bin::Fragments, key, kept).map_err(|_| AllocError)
+}
+
+/// What a bin finds for a block: `e` an entry, `r` a redirect, `-` nothing.
+fn look(alloc: Global, bins: &mut Bins, bin: Bin, block: &[u8]) -> Result<u8, AllocError> {
+    let key = key(alloc, block)?;
+    Ok(match bins.look(bin, &key)? {
         Found::Entry(_) => b'e',
         Found::Redirect(_) => b'r',
         Found::Absent => b'-',
@@ -113,9 +148,8 @@ fn bins(alloc: Global, room: usize) -> Result<Bins, AllocError> {
 }
 
 /// Does to bins what a word says, letter by letter: a letter looks for the block of that name, an upper-case one keeps its
-/// entry, and one behind `>` its redirect. It gives what was found.
-fn after(alloc: Global, bins: &mut Bins, word: &str) -> Result<Vec<u8>, AllocError> {
-    let mut found = Vec::new(alloc);
+/// entry, and one behind `>` its redirect. It adds what was found.
+fn run(alloc: Global, bins: &mut Bins, word: &str, found: &mut Vec<u8>) -> Result<(), AllocError> {
     let mut redirects = false;
     for letter in word.as_bytes() {
         match *letter {
@@ -124,16 +158,17 @@ fn after(alloc: Global, bins: &mut Bins, word: &str) -> Result<Vec<u8>, AllocErr
                 keep(alloc, bins, &[block.to_ascii_lowercase()], redirects)?;
                 redirects = false;
             }
-            block => found.push(look(alloc, bins, &[block])?)?,
+            block => found.push(look(alloc, bins, Bin::Fragments, &[block])?)?,
         }
     }
-    Ok(found)
+    Ok(())
 }
 
 /// Whether bins of room for two give this for a word, and drop so many keys.
 fn gives(alloc: Global, word: &str, wanted: &str, dropped: u64) -> Result<bool, AllocError> {
+    let mut found = Vec::new(alloc);
     let mut bins = bins(alloc, 2)?;
-    let found = after(alloc, &mut bins, word)?;
+    run(alloc, &mut bins, word, &mut found)?;
     Ok(found.as_slice() == wanted.as_bytes() && bins.dropped() == dropped)
 }
 
@@ -153,14 +188,19 @@ fn order_of_a_bin(rt: HostRuntime) -> Result<(), Fail> {
     Ok(())
 }
 
+/// What is found in another bin, and in its own, where an entry is kept.
+fn found_in_both(alloc: Global, bins: &mut Bins) -> Result<(u8, u8), AllocError> {
+    keep(alloc, bins, b"a", false)?;
+    let elsewhere = look(alloc, bins, Bin::Dynamic, b"a")?;
+    let there = look(alloc, bins, Bin::Fragments, b"a")?;
+    Ok((elsewhere, there))
+}
+
 /// The other bins are as they were.
 #[test]
 fn bins_by_themselves(rt: HostRuntime) -> Result<(), Fail> {
-    let alloc = rt.alloc();
-    let mut bins = bins(alloc, 1)?;
-    keep(alloc, &mut bins, b"a", false)?;
-    let elsewhere = bins.look(Bin::Dynamic, &key(alloc, b"a")?)?;
-    assert!(rt; matches!(&elsewhere, Found::Absent));
-    assert!(rt; look(alloc, &mut bins, b"a")? == b'e');
+    let mut bins = bins(rt.alloc(), 1)?;
+    let (elsewhere, there) = found_in_both(rt.alloc(), &mut bins)?;
+    assert!(rt; elsewhere == b'-' && there == b'e');
     Ok(())
 }
