@@ -1,21 +1,14 @@
 //! How many elements are built for the pages of a connection.
-ghost use Rattle.std.specs.Prelude.{IfOk, None};
-ghost use Rattle.content_state.specs.SiteRules.{IsValidState};
+ghost use Rattle.std.specs.Prelude.{None};
 
-use cacheability::Name;
-use content_rows::{
-    Block, BlockKind, Cell, FieldValue, Items, Node, Region, Row, Seq, Session, Text, starter,
-};
-use content_state::{Rows, State};
-use site_alone::{alone_with, rows_of};
+use site_alone::alone_with;
+use site_files::read_site;
 use site_hall::Alone;
 use site_house::House;
 use site_http::serve_connection;
 use site_io::{Ended, Gate, ListClock, ListEntropy, MemorySink, MemorySource, Point};
 use site_keeper::MemoryKeeper;
 use std::alloc::{AllocError, Global};
-use std::sync::Arc;
-use tag_counts::Counts;
 
 // A gate that notes how many elements were built for each of the first replies.
 #[derive(Drop)]
@@ -37,100 +30,36 @@ impl Gate for Noting {
     }
 }
 
-fn name(bytes: &[u8]) -> Result<Name, AllocError> {
-    Name::new(bytes).map_err(|_| AllocError)
-}
+// The rows of the new site with a second node, which stands on the front page too, and a session `abc` of its first user.
+const ROWS: &[u8] = b"{\"cell\":\"site\",\"front\":\"/node\",\"name\":\"Site\"}
+{\"cell\":\"seq\",\"node\":3,\"term\":1,\"user\":2}
+{\"cell\":\"type:page\",\"fields\":[{\"edit\":null,\"label\":\"Body\",\"name\":\"body\",\"owner\":false,\"teaser\":true,\"view\":null}],\"label\":\"Page\",\"submitted\":false}
+{\"admin\":false,\"cell\":\"role:anonymous\",\"grants\":[],\"label\":\"Anonymous\",\"permissions\":[\"access content\"]}
+{\"admin\":false,\"cell\":\"role:authenticated\",\"grants\":[],\"label\":\"Member\",\"permissions\":[\"access content\"]}
+{\"cell\":\"user:1\",\"created\":0,\"digest\":null,\"grants\":[],\"name\":\"admin\",\"roles\":[],\"salt\":\"\",\"status\":true,\"uuid\":\"u-1\"}
+{\"cell\":\"node:1\",\"changed\":100,\"created\":100,\"fields\":{\"body\":\"Hello\"},\"grants\":[],\"path\":null,\"promote\":true,\"refs\":[],\"status\":true,\"sticky\":false,\"terms\":[],\"title\":\"First\",\"type\":\"page\",\"uid\":1,\"uuid\":\"n-1\",\"vid\":1}
+{\"cell\":\"node:2\",\"changed\":100,\"created\":101,\"fields\":{\"body\":\"Hi\"},\"grants\":[],\"path\":null,\"promote\":true,\"refs\":[],\"status\":true,\"sticky\":false,\"terms\":[],\"title\":\"Second\",\"type\":\"page\",\"uid\":1,\"uuid\":\"n-2\",\"vid\":1}
+{\"age\":null,\"cell\":\"listing:frontpage\",\"path\":\"/node\",\"promoted\":true,\"recent\":null,\"term\":null,\"title\":\"Home\",\"types\":[]}
+{\"cell\":\"session:abc\",\"expires\":4000000000,\"uid\":1}
+";
 
-// A second node, which stands on the front page too.
-fn second(alloc: Global) -> Result<Row, AllocError> {
-    let mut fields = Vec::new(alloc);
-    fields.push(FieldValue {
-        name: name(b"body")?,
-        value: Text::copied(alloc, b"Hi")?,
-    })?;
-    Ok(Row::Node(Node {
-        changed: 100,
-        created: 101,
-        fields: Items::from_vec(fields),
-        grants: Items::none(alloc),
-        path: None,
-        promote: true,
-        refs: Items::none(alloc),
-        status: true,
-        sticky: false,
-        terms: Items::none(alloc),
-        title: Text::copied(alloc, b"Second")?,
-        node_type: name(b"page")?,
-        uid: 1,
-        uuid: Text::copied(alloc, b"n-2")?,
-        vid: 1,
-    }))
-}
+// In the header of each page, who is logged in.
+const GREETING: &str =
+    "{\"age\":null,\"cell\":\"block:one\",\"hide\":false,\"kind\":\"greeting\",\"label\":\"\",\"name\":null,\"paths\":[],\"region\":\"header\",\"roles\":[],\"text\":null,\"weight\":0}\n";
 
-fn set(alloc: Global, rows: &mut Rows, cell: Cell, row: Row) -> Result<(), AllocError> {
-    rows.set(cell, Arc::new(alloc, row)?)?;
-    Ok(())
-}
+// Aside on each page, the time, which may be shown at its own moment alone.
+const CLOCK: &str =
+    "{\"age\":0,\"cell\":\"block:one\",\"hide\":false,\"kind\":\"clock\",\"label\":\"\",\"name\":null,\"paths\":[],\"region\":\"aside\",\"roles\":[],\"text\":null,\"weight\":0}\n";
 
-// What stands on each page beside its content.
-#[derive(Clone, Copy)]
-enum Placed {
-    Nothing,
-    // In the header, who is logged in.
-    Greeting,
-    // Aside, the time, which may be shown so many seconds.
-    Clock(u32),
-}
-
-// The block that stands on each page.
-fn block(alloc: Global, kind: BlockKind, age: Option<u32>, region: Region) -> Row {
-    Row::Block(Block {
-        age,
-        hide: false,
-        kind,
-        label: Text::from_vec(Vec::new(alloc)),
-        name: None,
-        paths: Items::none(alloc),
-        region,
-        roles: Items::none(alloc),
-        text: None,
-        weight: 0,
-    })
-}
-
-fn place(alloc: Global, rows: &mut Rows, placed: Placed) -> Result<(), AllocError> {
-    let row = match placed {
-        Placed::Nothing => return Ok(()),
-        Placed::Greeting => block(alloc, BlockKind::Greeting, None, Region::Header),
-        Placed::Clock(age) => block(alloc, BlockKind::Clock, Some(age), Region::Aside),
-    };
-    set(alloc, rows, Cell::Block(name(b"one")?), row)
-}
-
-// The new site with a second node, a session `abc` of its first user, and what stands on each page.
-fn rows(alloc: Global, placed: Placed) -> Result<Rows, AllocError> {
-    let mut rows = rows_of(alloc, starter(alloc)?)?;
-    set(alloc, &mut rows, Cell::Node(2), second(alloc)?)?;
-    let seq = Seq {
-        node: 3,
-        term: 1,
-        user: 2,
-    };
-    set(alloc, &mut rows, Cell::Seq, Row::Seq(seq))?;
-    let session = Session {
-        expires: 4_000_000_000,
-        uid: 1,
-    };
-    let cell = Cell::Session(name(b"abc")?);
-    set(alloc, &mut rows, cell, Row::Session(session))?;
-    place(alloc, &mut rows, placed)?;
-    Ok(rows)
-}
+// The same, which may be shown for a minute.
+const SLOW_CLOCK: &str =
+    "{\"age\":60,\"cell\":\"block:one\",\"hide\":false,\"kind\":\"clock\",\"label\":\"\",\"name\":null,\"paths\":[],\"region\":\"aside\",\"roles\":[],\"text\":null,\"weight\":0}\n";
 
 // Requests over a site at these moments, how many elements are built for each reply, and pieces of the replies, in order.
 #[derive(Drop)]
 struct Case {
-    placed: Placed,
+    // The row of what stands on each page beside its content, if anything does.
+    placed: &'static str,
     moments: &'static [u64],
     requests: &'static [&'static str],
     built: [u64; 8],
@@ -154,8 +83,10 @@ fn answered<H: House>(
     case: &Case,
     sink: &mut MemorySink,
 ) -> Result<[u64; 8], AllocError> {
-    let mut source = MemorySource::new(input(alloc, case.requests)?, 64);
-    let mut clock = ListClock::new(Vec::from_slice(alloc, case.moments)?);
+    let moments = Vec::from_slice(alloc, case.moments)?;
+    let requests = input(alloc, case.requests)?;
+    let mut source = MemorySource::new(requests, 64);
+    let mut clock = ListClock::new(moments);
     let mut entropy = ListEntropy::new(Vec::new(alloc));
     let mut gate = Noting {
         built: [0; 8],
@@ -178,22 +109,19 @@ fn answered<H: House>(
     }
 }
 
-// The state of such a site.
-fn state(alloc: Global, placed: Placed) -> Result<State, AllocError>
-    ensures { IfOk result (λ state. IsValidState state) }
-{
-    let state = State::new(alloc, rows(alloc, placed)?, Counts::new(alloc), 0)?;
-    if let Ok(true) = state.is_valid(alloc) {
-        Ok(state)
-    } else {
-        drop(state);
-        Err(AllocError)
-    }
+// The rows of the site with one more, if any.
+fn lines(alloc: Global, placed: &str) -> Result<Vec<u8>, AllocError> {
+    let mut lines = Vec::from_slice(alloc, ROWS)?;
+    lines.extend_from_slice(placed.as_bytes())?;
+    Ok(lines)
 }
 
 // A house over such a site, for a caller that is alone.
-fn house(alloc: Global, placed: Placed) -> Result<Alone<MemoryKeeper>, AllocError> {
-    let state = state(alloc, placed)?;
+fn house(alloc: Global, placed: &str) -> Result<Alone<MemoryKeeper>, AllocError> {
+    let mut source = MemorySource::new(lines(alloc, placed)?, 4_096);
+    let Ok(state) = read_site(alloc, &mut source) else {
+        return Err(AllocError);
+    };
     let house = alone_with(alloc, &state);
     drop(state);
     house
@@ -244,7 +172,7 @@ fn what_is_kept_is_not_built(rt: HostRuntime) {
     let cases = [
         // A page, for visitors, and for whom all is permitted.
         Case {
-            placed: Placed::Nothing,
+            placed: "",
             moments: &[1000],
             requests: &[PAGE, PAGE, BY_ABC, BY_ABC],
             built: [2, 0, 2, 0, 0, 0, 0, 0],
@@ -252,7 +180,7 @@ fn what_is_kept_is_not_built(rt: HostRuntime) {
         },
         // A page that leads nowhere.
         Case {
-            placed: Placed::Nothing,
+            placed: "",
             moments: &[1000],
             requests: &[NOWHERE, NOWHERE],
             built: [1, 0, 0, 0, 0, 0, 0, 0],
@@ -260,7 +188,7 @@ fn what_is_kept_is_not_built(rt: HostRuntime) {
         },
         // The front page with two nodes, again, and once more after an edit of the first of them.
         Case {
-            placed: Placed::Nothing,
+            placed: "",
             moments: &[1000],
             requests: &[FRONT, FRONT, EDIT, FRONT, FRONT],
             built: [4, 0, 0, 3, 0, 0, 0, 0],
@@ -268,7 +196,7 @@ fn what_is_kept_is_not_built(rt: HostRuntime) {
         },
         // A page, again, and once more after all that is kept was let go.
         Case {
-            placed: Placed::Nothing,
+            placed: "",
             moments: &[1000],
             requests: &[PAGE, PAGE, REBUILD, PAGE, PAGE],
             built: [2, 0, 0, 2, 0, 0, 0, 0],
@@ -276,7 +204,7 @@ fn what_is_kept_is_not_built(rt: HostRuntime) {
         },
         // Nobody is greeted as somebody else.
         Case {
-            placed: Placed::Greeting,
+            placed: GREETING,
             moments: &[1000],
             requests: &[PAGE, PAGE, BY_ABC, BY_ABC, PAGE],
             built: [3, 0, 3, 0, 0, 0, 0, 0],
@@ -292,7 +220,7 @@ fn what_is_kept_is_not_built(rt: HostRuntime) {
         },
         // What may be shown at its own moment alone is built for each page that is kept but for it.
         Case {
-            placed: Placed::Clock(0),
+            placed: CLOCK,
             moments: &[1000, 1001, 1002],
             requests: &[PAGE, PAGE, PAGE],
             built: [3, 1, 1, 0, 0, 0, 0, 0],
@@ -304,7 +232,7 @@ fn what_is_kept_is_not_built(rt: HostRuntime) {
         },
         // A clock that went back.
         Case {
-            placed: Placed::Nothing,
+            placed: "",
             moments: &[100, 90],
             requests: &[PAGE, PAGE],
             built: [2, 2, 0, 0, 0, 0, 0, 0],
@@ -322,7 +250,7 @@ fn what_is_kept_is_not_built(rt: HostRuntime) {
 fn a_page_lasts_as_long_as_what_it_shows(rt: HostRuntime) {
     let cases = [
         Case {
-            placed: Placed::Clock(60),
+            placed: SLOW_CLOCK,
             moments: &[1000, 1060, 1061],
             requests: &[PAGE, PAGE, PAGE],
             built: [0; 8],
@@ -336,7 +264,7 @@ fn a_page_lasts_as_long_as_what_it_shows(rt: HostRuntime) {
         },
         // The text is kept at moment 50, and the page that it stands on at 100.
         Case {
-            placed: Placed::Clock(60),
+            placed: SLOW_CLOCK,
             moments: &[50, 100, 110, 111],
             requests: &[FRONT, PAGE, PAGE, PAGE],
             built: [0; 8],

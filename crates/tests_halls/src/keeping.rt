@@ -2,11 +2,9 @@
 ghost use Rattle.std.specs.Prelude.{◌≡◌};
 
 use crate::closing::closed;
-use crate::site::{name, site};
-use cache_entries::{Bin, Found, Kept, Key, Subject};
+use crate::site::{key, site};
+use cache_entries::{Bin, Found, Kept};
 use cacheability::OrderedSet;
-use content_rows::Items;
-use content_state::Fragment;
 use site_hall::Tally;
 use site_house::House;
 use site_keeper::MemoryKeeper;
@@ -14,15 +12,7 @@ use site_turn::{Guest, Pass, Site};
 use std::alloc::{AllocError, Global};
 use std::sync::{Arc, Wait};
 
-// The key of the block `a`, whose values are none.
-fn key(alloc: Global) -> Result<Key, AllocError> {
-    Ok(Key {
-        subject: Subject::Fragment(Fragment::Block(name(b"a")?)),
-        values: Items::none(alloc),
-    })
-}
-
-// A pass keeps that the block stands under another key.
+// A pass keeps that the block `a` stands under another key.
 fn keep<R: Wait>(
     rt: &R,
     alloc: Global,
@@ -32,8 +22,8 @@ fn keep<R: Wait>(
     requires { pass.old.table ≡ site.now.table }
     ensures { pass.new.table ≡ site.now.table }
 {
-    let key = key(alloc)?;
     let contexts = Arc::new(alloc, OrderedSet::new(alloc))?;
+    let key = key(alloc, b"a")?;
     let mut guest = Guest::new(rt, site.room(), pass);
     guest.keep(alloc, Bin::Fragments, key, Kept::Redirect(contexts))
 }
@@ -48,7 +38,7 @@ fn finds<R: Wait>(
     requires { pass.old.table ≡ site.now.table }
     ensures { pass.new.table ≡ site.now.table }
 {
-    let key = key(alloc)?;
+    let key = key(alloc, b"a")?;
     let mut guest = Guest::new(rt, site.room(), pass);
     match guest.look(alloc, Bin::Fragments, &key)? {
         Found::Redirect(_) => Ok(true),

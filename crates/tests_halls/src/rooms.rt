@@ -1,11 +1,9 @@
 //! What halls keep of pages, where each bin has room for one thing.
 ghost use Rattle.std.specs.Prelude.{◌≡◌, IfOk, None};
 
-use crate::site::{name, stored};
-use cache_entries::{Bin, Found, Kept, Key, Subject};
+use crate::site::{key, stored};
+use cache_entries::{Bin, Found, Kept};
 use cacheability::OrderedSet;
-use content_rows::Items;
-use content_state::Fragment;
 use site_hall::{Alone, Hall, Rooms, Tally};
 use site_house::House;
 use site_keeper::MemoryKeeper;
@@ -25,24 +23,17 @@ fn hall(alloc: Global) -> Result<Hall<MemoryKeeper>, AllocError>
         dynamic: one,
         anonymous: one,
     };
-    let stored = stored(alloc, 0)?;
+    let stored = stored(alloc)?;
     let copy = stored.duplicate(alloc)?;
     let keeper = MemoryKeeper::new(alloc, copy, Vec::new(alloc));
     Hall::with_rooms(alloc, keeper, stored, rooms).map_err(|_| AllocError)
 }
 
-// The key of the block of this name, whose values are none.
-fn key(alloc: Global, block: &[u8]) -> Result<Key, AllocError> {
-    Ok(Key {
-        subject: Subject::Fragment(Fragment::Block(name(block)?)),
-        values: Items::none(alloc),
-    })
-}
-
 // Keeps that a block stands under another key.
 fn keep<H: House>(alloc: Global, house: &mut H, bin: Bin, block: &[u8]) -> Result<(), AllocError> {
     let contexts = Arc::new(alloc, OrderedSet::new(alloc))?;
-    house.keep(alloc, bin, key(alloc, block)?, Kept::Redirect(contexts))
+    let key = key(alloc, block)?;
+    house.keep(alloc, bin, key, Kept::Redirect(contexts))
 }
 
 // Whether it is found where a block stands.
@@ -52,7 +43,8 @@ fn finds<H: House>(
     bin: Bin,
     block: &[u8],
 ) -> Result<bool, AllocError> {
-    match house.look(alloc, bin, &key(alloc, block)?)? {
+    let key = key(alloc, block)?;
+    match house.look(alloc, bin, &key)? {
         Found::Redirect(_) => Ok(true),
         Found::Entry(_) | Found::Absent => Ok(false),
     }

@@ -1,5 +1,0 @@
-//! Tests of pages that are kept.
-#![tactic(auto)]
-
-#[cfg(test)]
-mod counted;
