@@ -1,8 +1,9 @@
 //! What edits make of the rows that a site begins with.
 
+use crate::starting::rows;
 use cacheability::{Name, Tag};
-use content_rows::{Cell, Items, Row, Site, Term, Text, starter};
-use content_state::{Commit, Rows, State, Write};
+use content_rows::{Cell, Items, Row, Site, Term, Text};
+use content_state::{Commit, State, Write};
 use state_commits::apply;
 use std::alloc::{AllocError, Global};
 use std::process::Abort;
@@ -15,10 +16,7 @@ fn name(rt: &impl Abort, bytes: &[u8]) -> Name {
 
 // The state that a site begins with.
 fn begun(alloc: Global) -> Result<State, AllocError> {
-    let mut rows = Rows::new(alloc);
-    for (cell, row) in starter(alloc)? {
-        rows.set(cell, Arc::new(alloc, row)?)?;
-    }
+    let rows = rows(alloc)?;
     State::new(alloc, rows, Counts::new(alloc), 0)
 }
 
@@ -30,11 +28,13 @@ fn settings(alloc: Global) -> Result<Row, AllocError> {
 }
 
 fn term(alloc: Global) -> Result<Row, AllocError> {
+    let name = Text::copied(alloc, b"Fruit")?;
+    let uuid = Text::copied(alloc, b"t-1")?;
     Ok(Row::Term(Term {
-        description: Text::copied(alloc, b"")?,
-        name: Text::copied(alloc, b"Fruit")?,
+        description: Text::from_vec(Vec::new(alloc)),
+        name,
         status: true,
-        uuid: Text::copied(alloc, b"t-1")?,
+        uuid,
     }))
 }
 
@@ -80,21 +80,35 @@ fn have_count(counts: &Counts, tags: &[Tag], count: u64) -> bool {
     tags.iter().all(|tag| counts.count(tag) == count)
 }
 
+// Whether a state has the term and the new settings.
+fn has_both(state: &State) -> bool {
+    match (state.term(1).0, state.site().0) {
+        (Some(fruit), Some(site)) => {
+            fruit.name.as_slice() == b"Fruit".as_slice()
+                && site.name.as_slice() == b"Renamed".as_slice()
+        }
+        _ => false,
+    }
+}
+
+// Whether a state is the one after the three writes.
+fn is_edited(state: &State) -> bool {
+    has_both(state) && state.node(1).0.is_none() && state.user(1).0.is_some() && state.number() == 1
+}
+
+// Whether a state is still the one that a site begins with.
+fn is_begun(state: &State) -> bool {
+    state.node(1).0.is_some() && state.counts().is_empty()
+}
+
 #[test]
 fn one_edit_of_three_writes(rt: HostRuntime) {
     let alloc = rt.alloc();
     let before = begun(alloc).expect(&rt, "memory");
     let commit = three_writes(alloc).expect(&rt, "memory");
     let after = applied(&rt, alloc, &before, &commit);
-    let fruit = after.term(1).0.expect(&rt, "the term");
-    assert!(rt; fruit.name.as_slice() == b"Fruit".as_slice());
-    let site = after.site().0.expect(&rt, "the settings");
-    assert!(rt; site.name.as_slice() == b"Renamed".as_slice());
-    assert!(rt; after.node(1).0.is_none());
-    assert!(rt; after.user(1).0.is_some());
-    assert!(rt; after.number() == 1);
-    assert!(rt; before.node(1).0.is_some());
-    assert!(rt; before.counts().is_empty());
+    assert!(rt; is_edited(&after));
+    assert!(rt; is_begun(&before));
 }
 
 #[test]

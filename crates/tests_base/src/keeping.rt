@@ -3,26 +3,16 @@ ghost use Rattle.std.specs.Prelude.{IfOk};
 ghost use Rattle.content_state.specs.SiteRules.{AreValidRows};
 ghost use Rattle.site_keeper.specs.Keeper.{held_of, with_batch};
 
+use crate::starting::rows;
 use cacheability::Tag;
-use content_rows::{Cell, Items, Row, Seq, starter};
-use content_state::{Commit, Rows, Write};
+use content_rows::{Cell, Items, Row, Seq};
+use content_state::{Commit, Write};
 use site_keeper::{Batch, Fail, Keeper, KeeperFault, MemoryKeeper, Stored};
 use std::alloc::{AllocError, Global};
 use std::sync::Arc;
 use tag_counts::Counts;
 
 fn sendable<T: Send + Sync>(_: &T) {}
-
-// The rows that a site begins with.
-fn rows(alloc: Global) -> Result<Rows, AllocError> {
-    let mut rows = Rows::new(alloc);
-    for (cell, row) in starter(alloc)? {
-        if rows.set(cell, Arc::new(alloc, row)?).is_err() {
-            return Err(AllocError);
-        }
-    }
-    Ok(rows)
-}
 
 // A site as it begins.
 fn stored(alloc: Global) -> Result<Stored, AllocError>
@@ -118,29 +108,56 @@ fn a_batch_is_kept(rt: HostRuntime) {
     assert!(rt; keeper.faults() == 0);
 }
 
+// What a keeper holds: all of the batch, or nothing of it; `None` where that can't be read, or is neither.
+fn held<K: Keeper>(alloc: Global, keeper: &mut K) -> Option<bool> {
+    let Ok(stored) = keeper.load(alloc) else {
+        return None;
+    };
+    if is_as(&stored, true) {
+        Some(true)
+    } else if is_as(&stored, false) {
+        Some(false)
+    } else {
+        None
+    }
+}
+
+// Whether a keeper whose first call fails tells that of an edit, and holds what it is to keep then, with this head.
+fn fails_once(alloc: Global, kept: bool, head: u64) -> Result<bool, AllocError> {
+    let (mut keeper, batch) = keeper(alloc, &[Fail { call: 1, kept }])?;
+    let applied = keeper.apply(alloc, &batch);
+    drop(batch);
+    Ok(
+        applied == Err(KeeperFault::Failed)
+            && keeper.faults() == 1
+            && keeper.head(alloc) == Ok(head)
+            && held(alloc, &mut keeper) == Some(kept)
+            && keeper.faults() == 1,
+    )
+}
+
 #[test]
 fn an_apply_fails(rt: HostRuntime) {
-    let alloc = rt.alloc();
     for (kept, head) in [(true, 1), (false, 0)] {
-        let fails = [Fail { call: 1, kept }];
-        let (mut keeper, batch) = keeper(alloc, &fails).expect(&rt, "memory");
-        assert!(rt; keeper.apply(alloc, &batch) == Err(KeeperFault::Failed));
-        assert!(rt; keeper.faults() == 1);
-        assert!(rt; keeper.head(alloc) == Ok(head));
-        let stored = keeper.load(alloc).expect(&rt, "it doesn't fail");
-        assert!(rt; is_as(&stored, kept));
-        assert!(rt; keeper.faults() == 1);
+        assert!(rt; fails_once(rt.alloc(), kept, head) == Ok(true));
     }
+}
+
+// Whether a keeper tells nothing at its first and its third call, and begins with nothing of the batch.
+fn fails_twice(alloc: Global) -> Result<bool, AllocError> {
+    let fails = [1, 3].map(|call| Fail { call, kept: false });
+    let (mut keeper, batch) = keeper(alloc, &fails)?;
+    drop(batch);
+    Ok(
+        held(alloc, &mut keeper) == None
+            && keeper.head(alloc) == Ok(0)
+            && keeper.head(alloc) == Err(KeeperFault::Failed)
+            && held(alloc, &mut keeper) == Some(false)
+            && keeper.faults() == 2,
+    )
 }
 
 #[test]
 fn other_calls_fail(rt: HostRuntime) {
-    let alloc = rt.alloc();
-    let fails = [1, 3].map(|call| Fail { call, kept: false });
-    let (mut keeper, _) = keeper(alloc, &fails).expect(&rt, "memory");
-    assert!(rt; keeper.load(alloc).is_err());
-    assert!(rt; keeper.head(alloc) == Ok(0));
-    assert!(rt; keeper.head(alloc) == Err(KeeperFault::Failed));
-    assert!(rt; keeper.load(alloc).is_ok());
-    assert!(rt; keeper.faults() == 2);
+    assert!(rt; fails_twice(rt.alloc()) == Ok(true));
 }

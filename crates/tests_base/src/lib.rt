@@ -19,4 +19,6 @@ mod roles;
 #[cfg(test)]
 mod rows;
 #[cfg(test)]
+mod starting;
+#[cfg(test)]
 mod tags;

@@ -11,13 +11,17 @@ const DIGEST: &[u8] = b"7f597846a282e0f4fd2827f0d3fa47363f762044678a8d92d2a30f6d
 
 const UNSALTED: &[u8] = b"8798bca71b5739c968fd153b3e0ccace92c58f961b71ee4a3be8719f0f9c7cba";
 
+fn optional(alloc: Global, bytes: Option<&[u8]>) -> Result<Option<Text>, AllocError> {
+    match bytes {
+        Some(bytes) => Ok(Some(Text::copied(alloc, bytes)?)),
+        None => Ok(None),
+    }
+}
+
 /// A user with this digest and this salt.
 fn user(alloc: Global, digest: Option<&[u8]>, salt: &[u8]) -> Result<User, AllocError> {
-    let digest = match digest {
-        Some(bytes) => Some(Text::copied(alloc, bytes)?),
-        None => None,
-    };
     let salt = Text::copied(alloc, salt)?;
+    let digest = optional(alloc, digest)?;
     Ok(User {
         created: 0,
         digest,

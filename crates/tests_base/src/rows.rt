@@ -9,14 +9,21 @@ use std::alloc::{AllocError, Global};
 
 fn sendable_and_shared<T: Send + Sync>(_: &T) {}
 
+/// A second copy of the first node among the rows of a new site.
+fn copied(alloc: Global, rows: &[(Cell, Row)]) -> Result<Row, AllocError> {
+    match rows {
+        [_, _, _, _, _, _, (Cell::Node(1), row), _] => row.duplicate(alloc),
+        _ => Err(AllocError),
+    }
+}
+
 /// A second copy of the first node of a new site.
 fn first_node(alloc: Global) -> Result<Row, AllocError> {
     let rows = starter(alloc)?;
     sendable_and_shared(&rows);
-    match rows.as_slice() {
-        [_, _, _, _, _, _, (Cell::Node(1), row), _] => row.duplicate(alloc),
-        _ => Err(AllocError),
-    }
+    let copy = copied(alloc, &rows);
+    drop(rows);
+    copy
 }
 
 /// Whether a node is the first of a new site.
@@ -43,7 +50,8 @@ fn a_new_site_has_a_first_node(rt: HostRuntime) {
 
 /// Whether a cell has this text.
 fn reads(alloc: Global, cell: &Cell, text: &[u8]) -> Result<bool, AllocError> {
-    Ok(cell.text(alloc)?.as_slice() == text)
+    let written = cell.text(alloc)?;
+    Ok(written.as_slice() == text)
 }
 
 /// Whether a cell stands to the cells of a list as its place does to theirs.
@@ -216,7 +224,10 @@ fn clock(alloc: Global, age: Option<u32>) -> Result<Row, AllocError> {
 
 /// Whether the row is made, and is right for the cell.
 fn is_right(row: Result<Row, AllocError>, cell: Cell) -> Result<bool, AllocError> {
-    Ok(row?.is_right(&cell))
+    let row = row?;
+    let right = row.is_right(&cell);
+    drop(row);
+    Ok(right)
 }
 
 #[test]

@@ -16,7 +16,7 @@ enum Seen {
     Refused(u16),
 }
 
-fn seen(parsed: &Parsed) -> Seen {
+fn seen_of(parsed: &Parsed) -> Seen {
     match parsed {
         Parsed::Whole(_, size) => Seen::Whole(*size),
         Parsed::More => Seen::More,
@@ -26,7 +26,7 @@ fn seen(parsed: &Parsed) -> Seen {
 
 fn seen_in(alloc: Global, bytes: &[u8], room: &mut HeadRoom) -> Result<Seen, AllocError> {
     let parsed = parse_in(alloc, bytes, room)?;
-    let seen = seen(&parsed);
+    let seen = seen_of(&parsed);
     drop(parsed);
     Ok(seen)
 }

@@ -6,7 +6,6 @@ use cacheability::{Cacheability, Context, Name};
 use content_rows::{Grant, Permissions, Text, ViewGrants};
 use content_state::State;
 use std::alloc::{AllocError, Global};
-use std::test::Fail;
 use tag_counts::Counts;
 
 /// Adds a comma, where something stands there, and a text.
@@ -181,12 +180,11 @@ const VALUES: [Row; 25] = [
 ];
 
 #[test]
-fn values(rt: HostRuntime) -> Result<(), Fail> {
-    let state = site(rt.alloc(), Counts::new(rt.alloc()))?;
+fn values(rt: HostRuntime) {
+    let state = site(rt.alloc(), Counts::new(rt.alloc())).expect(&rt, "memory");
     for row in &VALUES {
-        assert!(rt; has_value(rt.alloc(), &state, row)?);
+        assert!(rt; has_value(rt.alloc(), &state, row) == Ok(true));
     }
-    Ok(())
 }
 
 /// The texts of what is said, contexts first.
@@ -216,9 +214,9 @@ fn comes_to(
 }
 
 #[test]
-fn left_out(rt: HostRuntime) -> Result<(), Fail> {
-    let state = site(rt.alloc(), Counts::new(rt.alloc()))?;
-    let page = Context::QueryArg(name(b"page")?);
+fn left_out(rt: HostRuntime) {
+    let state = site(rt.alloc(), Counts::new(rt.alloc())).expect(&rt, "memory");
+    let page = Context::QueryArg(name(b"page").expect(&rt, "a name"));
     let cases: [(&[Context], &str); 5] = [
         (
             &[Context::UserRoles, Context::User, Context::NodeGrantsView],
@@ -242,7 +240,6 @@ fn left_out(rt: HostRuntime) -> Result<(), Fail> {
         ),
     ];
     for (contexts, wanted) in cases {
-        assert!(rt; comes_to(rt.alloc(), &state, contexts, wanted)?);
+        assert!(rt; comes_to(rt.alloc(), &state, contexts, wanted) == Ok(true));
     }
-    Ok(())
 }

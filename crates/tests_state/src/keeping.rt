@@ -11,7 +11,6 @@ use html_out::Segments;
 use std::alloc::{AllocError, Global};
 use std::num::NonZeroUsize;
 use std::sync::Arc;
-use std::test::Fail;
 use tag_counts::Counts;
 
 /// The site with its first node invalidated so often, at most once.
@@ -87,7 +86,7 @@ fn is_fresh(alloc: Global, edits: u64, uid: u32, moment: u64) -> Result<bool, Al
 }
 
 #[test]
-fn freshness(rt: HostRuntime) -> Result<(), Fail> {
+fn freshness(rt: HostRuntime) {
     let cases = [
         (1, 2, 100, true),
         (1, 2, 160, true),
@@ -98,9 +97,8 @@ fn freshness(rt: HostRuntime) -> Result<(), Fail> {
         (1, 1, 130, false),
     ];
     for (edits, uid, moment, wanted) in cases {
-        assert!(rt; is_fresh(rt.alloc(), edits, uid, moment)? == wanted);
+        assert!(rt; is_fresh(rt.alloc(), edits, uid, moment) == Ok(wanted));
     }
-    Ok(())
 }
 
 /// The key of a block, whose values are none.
@@ -173,7 +171,7 @@ fn gives(alloc: Global, word: &str, wanted: &str, dropped: u64) -> Result<bool, 
 }
 
 #[test]
-fn order_of_a_bin(rt: HostRuntime) -> Result<(), Fail> {
+fn order_of_a_bin(rt: HostRuntime) {
     let cases = [
         ("a", "-", 0),
         ("ABab", "ee", 0),
@@ -183,9 +181,8 @@ fn order_of_a_bin(rt: HostRuntime) -> Result<(), Fail> {
         ("AB>ACabc", "r-e", 1),
     ];
     for (word, wanted, dropped) in cases {
-        assert!(rt; gives(rt.alloc(), word, wanted, dropped)?);
+        assert!(rt; gives(rt.alloc(), word, wanted, dropped) == Ok(true));
     }
-    Ok(())
 }
 
 /// What is found in another bin, and in its own, where an entry is kept.
@@ -198,9 +195,7 @@ fn found_in_both(alloc: Global, bins: &mut Bins) -> Result<(u8, u8), AllocError>
 
 /// The other bins are as they were.
 #[test]
-fn bins_by_themselves(rt: HostRuntime) -> Result<(), Fail> {
-    let mut bins = bins(rt.alloc(), 1)?;
-    let (elsewhere, there) = found_in_both(rt.alloc(), &mut bins)?;
-    assert!(rt; elsewhere == b'-' && there == b'e');
-    Ok(())
+fn bins_by_themselves(rt: HostRuntime) {
+    let mut bins = bins(rt.alloc(), 1).expect(&rt, "memory");
+    assert!(rt; found_in_both(rt.alloc(), &mut bins) == Ok((b'-', b'e')));
 }

@@ -3,12 +3,6 @@
 use cacheability::Name;
 use edit_replies::done_text;
 use site_commands::Done;
-use std::alloc::AllocError;
-use std::test::Fail;
-
-fn name(bytes: &[u8]) -> Result<Name, AllocError> {
-    Name::new(bytes).map_err(|_| AllocError)
-}
 
 /// Whether this is the reply of what was done.
 fn tells(done: &Done, number: u64, closing: bool, wanted: &[u8]) -> bool {
@@ -17,7 +11,9 @@ fn tells(done: &Done, number: u64, closing: bool, wanted: &[u8]) -> bool {
 }
 
 #[test]
-fn accepted_edits(rt: HostRuntime) -> Result<(), Fail> {
+fn accepted_edits(rt: HostRuntime) {
+    let token = Name::new(b"00000000000000030000000000000004").expect(&rt, "a name");
+    let long = Name::new(&[b'z'; 64]).expect(&rt, "a name");
     let table: [(Done, u64, bool, &[u8]); 9] = [
         (
             Done::NodeCreated(9),
@@ -56,13 +52,13 @@ fn accepted_edits(rt: HostRuntime) -> Result<(), Fail> {
             b"HTTP/1.1 200 OK\r\nContent-Type: application/json\r\nContent-Length: 11\r\nX-Site-State: 1\r\n\r\n{\"ok\":true}",
         ),
         (
-            Done::LoggedIn(2, name(b"00000000000000030000000000000004")?),
+            Done::LoggedIn(2, token),
             2,
             false,
             b"HTTP/1.1 303 See Other\r\nContent-Type: text/html; charset=UTF-8\r\nContent-Length: 0\r\nLocation: /user/2\r\nSet-Cookie: SESS=00000000000000030000000000000004; Path=/; HttpOnly; SameSite=Lax\r\nX-Site-State: 2\r\n\r\n",
         ),
         (
-            Done::LoggedIn(4_294_967_294, name(&[b'z'; 64])?),
+            Done::LoggedIn(4_294_967_294, long),
             18_446_744_073_709_551_615,
             true,
             b"HTTP/1.1 303 See Other\r\nContent-Type: text/html; charset=UTF-8\r\nContent-Length: 0\r\nLocation: /user/4294967294\r\nSet-Cookie: SESS=zzzzzzzzzzzzzzzzzzzzzzzzzzzzzzzzzzzzzzzzzzzzzzzzzzzzzzzzzzzzzzzz; Path=/; HttpOnly; SameSite=Lax\r\nX-Site-State: 18446744073709551615\r\nConnection: close\r\n\r\n",
@@ -77,5 +73,4 @@ fn accepted_edits(rt: HostRuntime) -> Result<(), Fail> {
     for (done, number, closing, wanted) in &table {
         assert!(rt; tells(done, *number, *closing, wanted));
     }
-    Ok(())
 }

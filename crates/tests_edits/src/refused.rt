@@ -9,19 +9,6 @@ use site_commands::Refusal;
 use std::alloc::{AllocError, Global};
 use std::test::Fail;
 
-fn name(bytes: &[u8]) -> Result<Name, AllocError> {
-    Name::new(bytes).map_err(|_| AllocError)
-}
-
-fn denied(alloc: Global, permission: &[u8]) -> Result<Refusal, AllocError> {
-    let text = PermissionText::copied(alloc, permission)?;
-    Ok(Refusal::Denied(Reason::Permission(text)))
-}
-
-fn broken(alloc: Global, field: &[u8], rule: Rule) -> Result<Refusal, AllocError> {
-    Ok(Refusal::Broken(Text::copied(alloc, field)?, rule))
-}
-
 /// Whether this is the reply of a refusal.
 fn tells(
     alloc: Global,
@@ -35,9 +22,10 @@ fn tells(
 }
 
 #[test]
-fn refusals(rt: HostRuntime) -> Result<(), Fail> {
-    let alloc = rt.alloc();
-    let table: [(Refusal, u64, bool, &[u8]); 17] = [
+fn refusals(rt: HostRuntime) {
+    let body = Name::new(b"body").expect(&rt, "a name");
+    let frontpage = Name::new(b"frontpage").expect(&rt, "a name");
+    let table: [(Refusal, u64, bool, &[u8]); 13] = [
         (
             Refusal::Csrf,
             0,
@@ -51,19 +39,13 @@ fn refusals(rt: HostRuntime) -> Result<(), Fail> {
             b"HTTP/1.1 404 Not Found\r\nContent-Type: application/json\r\nContent-Length: 20\r\nX-Site-State: 0\r\nConnection: close\r\n\r\n{\"code\":\"no-target\"}",
         ),
         (
-            denied(alloc, b"administer nodes")?,
-            0,
-            false,
-            b"HTTP/1.1 403 Forbidden\r\nContent-Type: application/json\r\nContent-Length: 75\r\nX-Site-State: 0\r\n\r\n{\"code\":\"denied\",\"reason\":\"The 'administer nodes' permission is required.\"}",
-        ),
-        (
             Refusal::Denied(Reason::Grant(Op::Update, 2)),
             0,
             false,
             b"HTTP/1.1 403 Forbidden\r\nContent-Type: application/json\r\nContent-Length: 69\r\nX-Site-State: 0\r\n\r\n{\"code\":\"denied\",\"reason\":\"A 'update' grant for node 2 is required.\"}",
         ),
         (
-            Refusal::Denied(Reason::OwnerOnly(name(b"body")?)),
+            Refusal::Denied(Reason::OwnerOnly(body)),
             0,
             false,
             b"HTTP/1.1 403 Forbidden\r\nContent-Type: application/json\r\nContent-Length: 69\r\nX-Site-State: 0\r\n\r\n{\"code\":\"denied\",\"reason\":\"Only the owner may use the field 'body'.\"}",
@@ -87,24 +69,6 @@ fn refusals(rt: HostRuntime) -> Result<(), Fail> {
             b"HTTP/1.1 409 Conflict\r\nContent-Type: application/json\r\nContent-Length: 22\r\nX-Site-State: 18446744073709551615\r\nConnection: close\r\n\r\n{\"code\":\"token-clash\"}",
         ),
         (
-            broken(alloc, b"vid", Rule::Missing)?,
-            0,
-            false,
-            b"HTTP/1.1 422 Unprocessable Entity\r\nContent-Type: application/json\r\nContent-Length: 46\r\nX-Site-State: 0\r\n\r\n{\"code\":\"rule\",\"field\":\"vid\",\"rule\":\"missing\"}",
-        ),
-        (
-            broken(alloc, b"\xc3\xbc\"", Rule::Unknown)?,
-            0,
-            false,
-            b"HTTP/1.1 422 Unprocessable Entity\r\nContent-Type: application/json\r\nContent-Length: 47\r\nX-Site-State: 0\r\n\r\n{\"code\":\"rule\",\"field\":\"\xc3\xbc\\\"\",\"rule\":\"unknown\"}",
-        ),
-        (
-            broken(alloc, b"\xff", Rule::Taken)?,
-            0,
-            false,
-            b"HTTP/1.1 422 Unprocessable Entity\r\nContent-Type: application/json\r\nContent-Length: 43\r\nX-Site-State: 0\r\n\r\n{\"code\":\"rule\",\"field\":null,\"rule\":\"taken\"}",
-        ),
-        (
             Refusal::UuidTaken(9),
             1,
             false,
@@ -123,7 +87,7 @@ fn refusals(rt: HostRuntime) -> Result<(), Fail> {
             b"HTTP/1.1 409 Conflict\r\nContent-Type: application/json\r\nContent-Length: 48\r\nX-Site-State: 1\r\n\r\n{\"code\":\"path-taken\",\"holder\":\"node:4294967294\"}",
         ),
         (
-            Refusal::PathTaken(Cell::Listing(name(b"frontpage")?)),
+            Refusal::PathTaken(Cell::Listing(frontpage)),
             1,
             false,
             b"HTTP/1.1 409 Conflict\r\nContent-Type: application/json\r\nContent-Length: 50\r\nX-Site-State: 1\r\n\r\n{\"code\":\"path-taken\",\"holder\":\"listing:frontpage\"}",
@@ -142,9 +106,57 @@ fn refusals(rt: HostRuntime) -> Result<(), Fail> {
         ),
     ];
     for (refusal, number, closing, wanted) in &table {
-        assert!(rt; tells(alloc, refusal, *number, *closing, wanted)?);
+        assert!(rt; tells(rt.alloc(), refusal, *number, *closing, wanted) == Ok(true));
     }
-    Ok(())
+}
+
+/// Whether this is the reply, on the state 0, to whom a permission is wanting.
+fn denied_tells(alloc: Global, permission: &[u8], wanted: &[u8]) -> Result<bool, AllocError> {
+    let text = PermissionText::copied(alloc, permission)?;
+    let refusal = Refusal::Denied(Reason::Permission(text));
+    tells(alloc, &refusal, 0, false, wanted)
+}
+
+#[test]
+fn a_permission_is_wanting(rt: HostRuntime) {
+    let wanted: &[u8] =
+        b"HTTP/1.1 403 Forbidden\r\nContent-Type: application/json\r\nContent-Length: 75\r\nX-Site-State: 0\r\n\r\n{\"code\":\"denied\",\"reason\":\"The 'administer nodes' permission is required.\"}";
+    assert!(rt; denied_tells(rt.alloc(), b"administer nodes", wanted) == Ok(true));
+}
+
+/// Whether this is the reply, on the state 0, where a field breaks a rule.
+fn broken_tells(
+    alloc: Global,
+    field: &[u8],
+    rule: Rule,
+    wanted: &[u8],
+) -> Result<bool, AllocError> {
+    let refusal = Refusal::Broken(Text::copied(alloc, field)?, rule);
+    tells(alloc, &refusal, 0, false, wanted)
+}
+
+#[test]
+fn rules_that_are_broken(rt: HostRuntime) {
+    let table: [(&[u8], Rule, &[u8]); 3] = [
+        (
+            b"vid",
+            Rule::Missing,
+            b"HTTP/1.1 422 Unprocessable Entity\r\nContent-Type: application/json\r\nContent-Length: 46\r\nX-Site-State: 0\r\n\r\n{\"code\":\"rule\",\"field\":\"vid\",\"rule\":\"missing\"}",
+        ),
+        (
+            b"\xc3\xbc\"",
+            Rule::Unknown,
+            b"HTTP/1.1 422 Unprocessable Entity\r\nContent-Type: application/json\r\nContent-Length: 47\r\nX-Site-State: 0\r\n\r\n{\"code\":\"rule\",\"field\":\"\xc3\xbc\\\"\",\"rule\":\"unknown\"}",
+        ),
+        (
+            b"\xff",
+            Rule::Taken,
+            b"HTTP/1.1 422 Unprocessable Entity\r\nContent-Type: application/json\r\nContent-Length: 43\r\nX-Site-State: 0\r\n\r\n{\"code\":\"rule\",\"field\":null,\"rule\":\"taken\"}",
+        ),
+    ];
+    for (field, rule, wanted) in table {
+        assert!(rt; broken_tells(rt.alloc(), field, rule, wanted) == Ok(true));
+    }
 }
 
 #[test]

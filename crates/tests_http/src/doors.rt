@@ -5,20 +5,31 @@ use site_io::{Door, Ended, MemoryDoor, MemorySink, MemorySource, Sink, Source};
 use std::alloc::{AllocError, Global};
 
 fn connection(alloc: Global, input: &[u8]) -> Result<(MemorySource, MemorySink), AllocError> {
-    let source = MemorySource::new(Vec::from_slice(alloc, input)?, 64);
-    Ok((source, MemorySink::new(alloc, 8)?))
+    let input = Vec::from_slice(alloc, input)?;
+    let sink = MemorySink::new(alloc, 8)?;
+    Ok((MemorySource::new(input, 64), sink))
+}
+
+fn connections(
+    alloc: Global,
+    inputs: &[&[u8]],
+) -> Result<Vec<(MemorySource, MemorySink)>, AllocError> {
+    let mut connections = Vec::new(alloc);
+    for input in inputs {
+        let connection = connection(alloc, input)?;
+        connections.push(connection)?;
+    }
+    Ok(connections)
 }
 
 // A door with the connections of these inputs, whose calls with these numbers fail.
 fn door(alloc: Global, inputs: &[&[u8]], failing: &[u64]) -> Result<MemoryDoor, AllocError>
     ensures { IfOk result (λ door. door.is_out ≡ false) }
 {
-    let mut connections = Vec::new(alloc);
-    for input in inputs {
-        connections.push(connection(alloc, input)?)?;
-    }
     let failing = Vec::from_slice(alloc, failing)?;
-    Ok(MemoryDoor::new(alloc, connections)?.failing_at(failing))
+    let connections = connections(alloc, inputs)?;
+    let door = MemoryDoor::new(alloc, connections)?;
+    Ok(door.failing_at(failing))
 }
 
 // Serves one connection: two bytes are read and written again. Whether there was one.
