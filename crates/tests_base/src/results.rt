@@ -4,10 +4,16 @@ use access_result::{AccessResult, PermissionText, Reason, Verdict};
 use cacheability::{Cacheability, Name, Op, Tag};
 use std::alloc::{AllocError, Global};
 
-/// A result that looked at the node of this number.
-fn decided(alloc: Global, verdict: Verdict, nid: u32) -> Result<AccessResult, AllocError> {
+/// What was looked at, of the node of this number.
+fn looked_at(alloc: Global, nid: u32) -> Result<Cacheability, AllocError> {
     let mut cacheability = Cacheability::new(alloc);
     cacheability.add_tag(Tag::Node(nid))?;
+    Ok(cacheability)
+}
+
+/// A result that looked at the node of this number.
+fn decided(alloc: Global, verdict: Verdict, nid: u32) -> Result<AccessResult, AllocError> {
+    let cacheability = looked_at(alloc, nid)?;
     let reason = match verdict {
         Verdict::Allowed => None,
         _ => Some(Reason::Grant(Op::View, nid)),
@@ -19,17 +25,21 @@ fn decided(alloc: Global, verdict: Verdict, nid: u32) -> Result<AccessResult, Al
     })
 }
 
-/// The node that a reason names, 0 without a reason.
-fn named(reason: Option<&Reason>) -> u32 {
+/// The node that a reason names, 0 where it names none.
+fn named(reason: &Reason) -> u32 {
     match reason {
-        Some(Reason::Grant(_, nid)) => *nid,
+        Reason::Grant(_, nid) => *nid,
         _ => 0,
     }
 }
 
 /// The verdict, the node that the reason names, 0 without a reason, and the number of tags.
 fn told(of: &AccessResult) -> (Verdict, u32, usize) {
-    (of.verdict, named(of.reason()), of.cacheability.tags().len())
+    let nid = match of.reason() {
+        Some(reason) => named(reason),
+        None => 0,
+    };
+    (of.verdict, nid, of.cacheability.tags().len())
 }
 
 /// What both combinations of two verdicts, the left of node 1 and the right of node 2, tell.

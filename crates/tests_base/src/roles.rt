@@ -9,10 +9,16 @@ fn name(bytes: &[u8]) -> Result<Name, AllocError> {
     Name::new(bytes).map_err(|_| AllocError)
 }
 
+/// Two names, one of them twice.
+fn names(alloc: Global) -> Result<Vec<Name>, AllocError> {
+    let writer = name(b"writer")?;
+    let club = name(b"club")?;
+    Vec::from_slice(alloc, &[writer, club, writer])
+}
+
 /// A user of two roles, one of them twice.
 fn user(alloc: Global, active: bool) -> Result<User, AllocError> {
-    let roles = [name(b"writer")?, name(b"club")?, name(b"writer")?];
-    let roles = Items::from_vec(Vec::from_slice(alloc, &roles)?);
+    let roles = Items::from_vec(names(alloc)?);
     Ok(User {
         created: 0,
         digest: None,
@@ -25,12 +31,17 @@ fn user(alloc: Global, active: bool) -> Result<User, AllocError> {
     })
 }
 
+/// Two texts.
+fn texts(alloc: Global, first: &[u8], second: &[u8]) -> Result<Vec<Text>, AllocError> {
+    let mut texts = Vec::new(alloc);
+    texts.push(Text::copied(alloc, first)?)?;
+    texts.push(Text::copied(alloc, second)?)?;
+    Ok(texts)
+}
+
 /// A role of two permissions.
 fn role(alloc: Global, admin: bool, first: &[u8], second: &[u8]) -> Result<Role, AllocError> {
-    let mut permissions = Vec::new(alloc);
-    for permission in [first, second] {
-        permissions.push(Text::copied(alloc, permission)?)?;
-    }
+    let permissions = texts(alloc, first, second)?;
     Ok(Role {
         admin,
         grants: Items::none(alloc),

@@ -92,8 +92,8 @@ struct Known(Option<[u8; 32]>);
 impl RandomSource for Known {
     fn fill_bytes(&self, places: &mut [u8]) -> io::Result<()> {
         let bytes = self.0.ok_or(io::Error::from(ErrorKind::Other))?;
-        for (place, byte) in places.iter_mut().zip(bytes) {
-            *place = byte;
+        for (place, byte) in places.iter_mut().zip(&bytes) {
+            *place = *byte;
         }
         Ok(())
     }
@@ -104,12 +104,15 @@ fn sendable<T: Send>(_: &T) {}
 // Seven bytes in pieces of three, whose second read fails.
 fn source(alloc: Global) -> Result<MemorySource, AllocError> {
     let bytes = Vec::from_slice(alloc, b"abcdefg")?;
-    Ok(MemorySource::new(bytes, 3).failing_at(Vec::from_slice(alloc, &[2])?))
+    let failing = Vec::from_slice(alloc, &[2])?;
+    Ok(MemorySource::new(bytes, 3).failing_at(failing))
 }
 
 // Room for eight bytes; the first write fails.
 fn sink(alloc: Global) -> Result<MemorySink, AllocError> {
-    Ok(MemorySink::new(alloc, 8)?.failing_at(Vec::from_slice(alloc, &[1])?))
+    let failing = Vec::from_slice(alloc, &[1])?;
+    let sink = MemorySink::new(alloc, 8)?;
+    Ok(sink.failing_at(failing))
 }
 
 #[test]
@@ -156,35 +159,48 @@ fn a_sink_in_memory(rt: HostRuntime) {
     }
 }
 
-#[test]
-fn lists_of_moments_and_words(rt: HostRuntime) {
-    let moments = Vec::from_slice(rt.alloc(), &[5, 9_999_999_999, 7]).expect(&rt, "memory");
-    let mut clock = ListClock::new(moments);
+// Whether a clock shows these moments, one after another.
+fn shows(mut clock: ListClock, moments: &[u64]) -> bool {
     sendable(&clock);
-    for moment in [5, LAST_MOMENT, 7, 7] {
-        assert!(rt; clock.now() == moment);
-    }
-    assert!(rt; ListClock::new(Vec::new(rt.alloc())).now() == 0);
-    let words = Vec::from_slice(rt.alloc(), &[u64::MAX, 2]).expect(&rt, "memory");
-    let mut entropy = ListEntropy::new(words);
-    for word in [u64::MAX, 2, 2] {
-        assert!(rt; entropy.word() == word);
-    }
-    assert!(rt; ListEntropy::new(Vec::new(rt.alloc())).word() == 0);
+    moments.iter().all(|moment| clock.now() == *moment)
 }
 
 #[test]
-fn devices_of_the_system(rt: HostRuntime) {
+fn lists_of_moments(rt: HostRuntime) {
+    let moments = Vec::from_slice(rt.alloc(), &[5, 9_999_999_999, 7]).expect(&rt, "memory");
+    assert!(rt; shows(ListClock::new(moments), &[5, LAST_MOMENT, 7, 7]));
+    assert!(rt; shows(ListClock::new(Vec::new(rt.alloc())), &[0]));
+}
+
+// Whether these words are drawn, one after another.
+fn draws(mut entropy: ListEntropy, words: &[u64]) -> bool {
+    words.iter().all(|word| entropy.word() == *word)
+}
+
+#[test]
+fn lists_of_words(rt: HostRuntime) {
+    let words = Vec::from_slice(rt.alloc(), &[u64::MAX, 2]).expect(&rt, "memory");
+    assert!(rt; draws(ListEntropy::new(words), &[u64::MAX, 2, 2]));
+    assert!(rt; draws(ListEntropy::new(Vec::new(rt.alloc())), &[0]));
+}
+
+#[test]
+fn reading_and_writing(rt: HostRuntime) {
     let mut source = Reading::new(b"abc".as_slice());
     let mut buffer = [0; 8];
     assert!(rt; source.read(&mut buffer) == Ok(3));
     assert!(rt; buffer == *b"abc\0\0\0\0\0");
     assert!(rt; source.read(&mut buffer) == Ok(0));
+    drop(source);
     let mut places = [0; 4];
     let mut sink = Writing::new(places.as_mut_slice());
     assert!(rt; write_whole(&mut sink, b"abc") == Ok(()));
     assert!(rt; write_whole(&mut sink, b"de") == Err(Failed));
     assert!(rt; sink.faults() == 1);
+}
+
+#[test]
+fn devices_of_the_system(rt: HostRuntime) {
     let moment = SystemClock::new(&rt).now();
     assert!(rt; 1_700_000_000 < moment && moment <= LAST_MOMENT);
     let seed = Seed::draw(&rt).expect(&rt, "chance");

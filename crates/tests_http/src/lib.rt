@@ -1,9 +1,14 @@
-//! Tests of what comes in and goes out, by public calls alone: requests and heads of replies, devices, and pieces of pages.
+//! Tests of what comes in and goes out, by public calls alone: requests and heads of replies, devices, doors in memory and over TCP, and
+//! pieces of pages.
 #![tactic(auto)]
 
 #[cfg(test)]
 mod devices;
 #[cfg(test)]
+mod doors;
+#[cfg(test)]
 mod escaping;
 #[cfg(test)]
 mod requests;
+#[cfg(test)]
+mod tcp;

@@ -16,12 +16,39 @@ enum Seen {
     Refused(u16),
 }
 
-fn seen_in(alloc: Global, bytes: &[u8], room: &mut HeadRoom) -> Result<Seen, AllocError> {
-    Ok(match parse_in(alloc, bytes, room)? {
-        Parsed::Whole(_, size) => Seen::Whole(size),
+fn seen_of(parsed: &Parsed) -> Seen {
+    match parsed {
+        Parsed::Whole(_, size) => Seen::Whole(*size),
         Parsed::More => Seen::More,
-        Parsed::Refused(code) => Seen::Refused(code),
-    })
+        Parsed::Refused(code) => Seen::Refused(*code),
+    }
+}
+
+fn seen_in(alloc: Global, bytes: &[u8], room: &mut HeadRoom) -> Result<Seen, AllocError> {
+    let parsed = parse_in(alloc, bytes, room)?;
+    let seen = seen_of(&parsed);
+    drop(parsed);
+    Ok(seen)
+}
+
+/// Whether bytes begin with that, each of them.
+fn are_seen(alloc: Global, table: &[(&[u8], Seen)]) -> Result<bool, AllocError> {
+    let mut room = HeadRoom::new(alloc)?;
+    for (bytes, want) in table {
+        let seen = seen_in(alloc, bytes, &mut room)?;
+        if seen != *want {
+            return Ok(false);
+        }
+    }
+    Ok(true)
+}
+
+/// Adds a piece to bytes, so often.
+fn add(bytes: &mut Vec<u8>, piece: &[u8], count: usize) -> Result<(), AllocError> {
+    for _ in 0..count {
+        bytes.extend_from_slice(piece)?;
+    }
+    Ok(())
 }
 
 /// A start, a piece repeated, and an end.
@@ -33,10 +60,8 @@ fn repeated(
     end: &[u8],
 ) -> Result<Vec<u8>, AllocError> {
     let mut bytes = Vec::from_slice(alloc, start)?;
-    for _ in 0..count {
-        bytes.extend_from_slice(piece)?;
-    }
-    bytes.extend_from_slice(end)?;
+    add(&mut bytes, piece, count)?;
+    add(&mut bytes, end, 1)?;
     Ok(bytes)
 }
 
@@ -56,11 +81,7 @@ fn whole_requests(rt: HostRuntime) -> Result<(), Fail> {
             Seen::Whole(48),
         ),
     ];
-    let mut room = HeadRoom::new(rt.alloc())?;
-    for (bytes, want) in &table {
-        let seen = seen_in(rt.alloc(), bytes, &mut room)?;
-        assert!(rt; seen == *want);
-    }
+    assert!(rt; are_seen(rt.alloc(), &table)?);
     Ok(())
 }
 
@@ -83,11 +104,7 @@ fn parts_of_requests(rt: HostRuntime) -> Result<(), Fail> {
             Seen::More,
         ),
     ];
-    let mut room = HeadRoom::new(rt.alloc())?;
-    for (bytes, want) in &table {
-        let seen = seen_in(rt.alloc(), bytes, &mut room)?;
-        assert!(rt; seen == *want);
-    }
+    assert!(rt; are_seen(rt.alloc(), &table)?);
     Ok(())
 }
 
@@ -103,11 +120,7 @@ fn bytes_of_no_request(rt: HostRuntime) -> Result<(), Fail> {
         (b"GET / HTTP/2.0\r\n", Seen::Refused(400)),
         (b"GET /\xff\xfe HTTP/1.1\r\n\r\n", Seen::Refused(400)),
     ];
-    let mut room = HeadRoom::new(rt.alloc())?;
-    for (bytes, want) in &table {
-        let seen = seen_in(rt.alloc(), bytes, &mut room)?;
-        assert!(rt; seen == *want);
-    }
+    assert!(rt; are_seen(rt.alloc(), &table)?);
     Ok(())
 }
 
@@ -148,11 +161,7 @@ fn lengths_that_are_refused(rt: HostRuntime) -> Result<(), Fail> {
             Seen::Refused(501),
         ),
     ];
-    let mut room = HeadRoom::new(rt.alloc())?;
-    for (bytes, want) in &table {
-        let seen = seen_in(rt.alloc(), bytes, &mut room)?;
-        assert!(rt; seen == *want);
-    }
+    assert!(rt; are_seen(rt.alloc(), &table)?);
     Ok(())
 }
 
@@ -207,7 +216,7 @@ fn every_cutting_of_a_request(rt: HostRuntime) -> Result<(), Fail> {
 fn request_in(alloc: Global, bytes: &[u8]) -> Result<Option<(Request, usize)>, AllocError> {
     Ok(match parse(alloc, bytes)? {
         Parsed::Whole(request, size) => Some((request, size)),
-        _ => None,
+        Parsed::More | Parsed::Refused(_) => None,
     })
 }
 
@@ -219,22 +228,40 @@ fn is_there(field: &Option<Octets>, want: &[u8]) -> bool {
     }
 }
 
+/// Whether a request has the parts of the one of the test.
+fn has_parts(request: &Request) -> bool {
+    request.method.as_slice() == b"PATCH".as_slice()
+        && request.target.as_slice() == b"/a%20b?c=%41&d?".as_slice()
+        && request.path.as_slice() == b"/a b".as_slice()
+        && request.query.as_slice() == b"c=%41&d?".as_slice()
+        && request.version == Version::Http11
+        && !request.closes
+        && is_there(&request.content_type, b"text/plain")
+        && is_there(&request.csrf, b"t1")
+        && request.session.is_none()
+        && request.body.as_slice() == b"hi".as_slice()
+}
+
+/// Whether bytes begin with that request, and more bytes follow it, so many.
+fn begin_with_it(alloc: Global, bytes: &[u8], more: usize) -> Result<bool, AllocError> {
+    Ok(match request_in(alloc, bytes)? {
+        Some((request, size)) => size.saturating_add(more) == bytes.len() && has_parts(&request),
+        None => false,
+    })
+}
+
 #[test]
 fn the_parts_of_a_request(rt: HostRuntime) -> Result<(), Fail> {
     let bytes: &[u8] =
         b"PATCH /a%20b?c=%41&d? HTTP/1.1\r\nContent-Type: \t text/plain \r\ncontent-type: x\r\nX-CSRF-Token: t1\r\nx-csrf-token: t2\r\nContent-Length: 2\r\n\r\nhi and more";
-    let (request, size) = request_in(rt.alloc(), bytes)?.ok_or("no request")?;
-    assert!(rt; size == bytes.len() - 9);
-    assert!(rt; request.method.as_slice() == b"PATCH".as_slice());
-    assert!(rt; request.target.as_slice() == b"/a%20b?c=%41&d?".as_slice());
-    assert!(rt; request.path.as_slice() == b"/a b".as_slice());
-    assert!(rt; request.query.as_slice() == b"c=%41&d?".as_slice());
-    assert!(rt; request.version == Version::Http11);
-    assert!(rt; !request.closes);
-    assert!(rt; is_there(&request.content_type, b"text/plain"));
-    assert!(rt; is_there(&request.csrf, b"t1"));
-    assert!(rt; request.session.is_none());
-    assert!(rt; request.body.into_vec().as_slice() == b"hi".as_slice());
+    assert!(rt; begin_with_it(rt.alloc(), bytes, 9)?);
+    Ok(())
+}
+
+#[test]
+fn the_bytes_of_a_text(rt: HostRuntime) -> Result<(), Fail> {
+    let text = Octets::copied(rt.alloc(), b"hi")?;
+    assert!(rt; text.into_vec().as_slice() == b"hi".as_slice());
     Ok(())
 }
 
@@ -316,12 +343,23 @@ fn plain(status: u16) -> ReplyHead {
     }
 }
 
+/// Whether a head's status is one that replies have, and the head is these bytes, after what stood there before.
+fn is_written(alloc: Global, head: &ReplyHead, want: &[u8]) -> Result<bool, AllocError> {
+    if !is_reply_status(head.status) {
+        return Ok(false);
+    }
+    let mut out = Vec::from_slice(alloc, b"before")?;
+    reply_head(alloc, &mut out, head)?;
+    Ok(match out.as_slice().strip_prefix(b"before") {
+        Some(written) => written == want,
+        None => false,
+    })
+}
+
 #[test]
 fn heads_of_replies(rt: HostRuntime) -> Result<(), Fail> {
     let alloc = rt.alloc();
-    let token = Name::new(b"00000000000000030000000000000004")
-        .ok()
-        .ok_or("no name")?;
+    let token = Name::new(b"00000000000000030000000000000004").expect(&rt, "a name");
     let table: [(ReplyHead, &[u8]); 5] = [
         (
             ReplyHead {
@@ -368,12 +406,7 @@ fn heads_of_replies(rt: HostRuntime) -> Result<(), Fail> {
         ),
     ];
     for (head, want) in &table {
-        assert!(rt; is_reply_status(head.status));
-        let mut out = Vec::from_slice(alloc, b"before")?;
-        reply_head(alloc, &mut out, head)?;
-        assert!(rt; out.as_slice().starts_with(b"before"));
-        assert!(rt; out.as_slice().ends_with(want));
-        assert_eq!(rt; out.len(), want.len() + 6);
+        assert!(rt; is_written(alloc, head, want)?);
     }
     Ok(())
 }

@@ -3,8 +3,7 @@
 use content_state::State;
 use site_files::read_rows;
 use site_io::MemorySource;
-use std::alloc::Global;
-use std::test::Fail;
+use std::alloc::{AllocError, Global};
 use tag_counts::Counts;
 
 /// The rows but for the settings: node 1 has a path of its own and a block with a menu, node 2 refers to itself, and node 3 is
@@ -26,14 +25,27 @@ const ROWS: &[u8] = b"{\"cell\":\"seq\",\"node\":4,\"term\":4,\"user\":8}
 {\"age\":null,\"cell\":\"block:top\",\"hide\":false,\"kind\":\"menu\",\"label\":\"\",\"name\":\"main\",\"paths\":[\"/node/1\"],\"region\":\"header\",\"roles\":[],\"text\":null,\"weight\":0}
 ";
 
-/// The site with this front path.
-pub fn site(alloc: Global, front: &str) -> Result<State, Fail> {
+/// The site of these rows, a line each, whose tags were invalidated so often.
+pub fn site_of(alloc: Global, lines: Vec<u8>, counts: Counts) -> Result<State, AllocError> {
+    let mut source = MemorySource::new(lines, 4096);
+    let Ok(rows) = read_rows(alloc, &mut source) else {
+        return Err(AllocError);
+    };
+    State::new(alloc, rows, counts, 0)
+}
+
+/// The rows with this front path, a line each.
+fn lines(alloc: Global, front: &str) -> Result<Vec<u8>, AllocError> {
     let settings = format!(in alloc;
         "{{\"cell\":\"site\",\"front\":\"{front}\",\"name\":\"Site\"}}\n"
     )?;
     let mut bytes = settings.into_bytes();
     bytes.extend_from_slice(ROWS)?;
-    let mut source = MemorySource::new(bytes, 4096);
-    let rows = read_rows(alloc, &mut source)?;
-    Ok(State::new(alloc, rows, Counts::new(alloc), 0)?)
+    Ok(bytes)
+}
+
+/// The site with this front path.
+pub fn site(alloc: Global, front: &str) -> Result<State, AllocError> {
+    let lines = lines(alloc, front)?;
+    site_of(alloc, lines, Counts::new(alloc))
 }

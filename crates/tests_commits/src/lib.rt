@@ -1,5 +1,0 @@
-//! Tests of edits, by public calls alone.
-#![tactic(auto)]
-
-#[cfg(test)]
-mod edits;

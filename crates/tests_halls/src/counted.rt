@@ -1,0 +1,283 @@
+//! How many elements are built for the pages of a connection.
+ghost use Rattle.std.specs.Prelude.{None};
+
+use site_alone::alone_with;
+use site_files::read_site;
+use site_hall::Alone;
+use site_house::House;
+use site_http::serve_connection;
+use site_io::{Ended, Gate, ListClock, ListEntropy, MemorySink, MemorySource, Point};
+use site_keeper::MemoryKeeper;
+use std::alloc::{AllocError, Global};
+
+// A gate that notes how many elements were built for each of the first replies.
+#[derive(Drop)]
+struct Noting {
+    built: [u64; 8],
+    replies: usize,
+}
+
+impl Gate for Noting {
+    ghost reached = { λ _. None };
+
+    fn reach(&mut self, point: Point) {
+        if let Point::BeforeReply(built) = point {
+            if let Some(place) = self.built.get_mut(self.replies) {
+                *place = built;
+                self.replies += 1;
+            }
+        }
+    }
+}
+
+// The rows of the new site with a second node, which stands on the front page too, and a session `abc` of its first user.
+const ROWS: &[u8] = b"{\"cell\":\"site\",\"front\":\"/node\",\"name\":\"Site\"}
+{\"cell\":\"seq\",\"node\":3,\"term\":1,\"user\":2}
+{\"cell\":\"type:page\",\"fields\":[{\"edit\":null,\"label\":\"Body\",\"name\":\"body\",\"owner\":false,\"teaser\":true,\"view\":null}],\"label\":\"Page\",\"submitted\":false}
+{\"admin\":false,\"cell\":\"role:anonymous\",\"grants\":[],\"label\":\"Anonymous\",\"permissions\":[\"access content\"]}
+{\"admin\":false,\"cell\":\"role:authenticated\",\"grants\":[],\"label\":\"Member\",\"permissions\":[\"access content\"]}
+{\"cell\":\"user:1\",\"created\":0,\"digest\":null,\"grants\":[],\"name\":\"admin\",\"roles\":[],\"salt\":\"\",\"status\":true,\"uuid\":\"u-1\"}
+{\"cell\":\"node:1\",\"changed\":100,\"created\":100,\"fields\":{\"body\":\"Hello\"},\"grants\":[],\"path\":null,\"promote\":true,\"refs\":[],\"status\":true,\"sticky\":false,\"terms\":[],\"title\":\"First\",\"type\":\"page\",\"uid\":1,\"uuid\":\"n-1\",\"vid\":1}
+{\"cell\":\"node:2\",\"changed\":100,\"created\":101,\"fields\":{\"body\":\"Hi\"},\"grants\":[],\"path\":null,\"promote\":true,\"refs\":[],\"status\":true,\"sticky\":false,\"terms\":[],\"title\":\"Second\",\"type\":\"page\",\"uid\":1,\"uuid\":\"n-2\",\"vid\":1}
+{\"age\":null,\"cell\":\"listing:frontpage\",\"path\":\"/node\",\"promoted\":true,\"recent\":null,\"term\":null,\"title\":\"Home\",\"types\":[]}
+{\"cell\":\"session:abc\",\"expires\":4000000000,\"uid\":1}
+";
+
+// In the header of each page, who is logged in.
+const GREETING: &str =
+    "{\"age\":null,\"cell\":\"block:one\",\"hide\":false,\"kind\":\"greeting\",\"label\":\"\",\"name\":null,\"paths\":[],\"region\":\"header\",\"roles\":[],\"text\":null,\"weight\":0}\n";
+
+// Aside on each page, the time, which may be shown at its own moment alone.
+const CLOCK: &str =
+    "{\"age\":0,\"cell\":\"block:one\",\"hide\":false,\"kind\":\"clock\",\"label\":\"\",\"name\":null,\"paths\":[],\"region\":\"aside\",\"roles\":[],\"text\":null,\"weight\":0}\n";
+
+// The same, which may be shown for a minute.
+const SLOW_CLOCK: &str =
+    "{\"age\":60,\"cell\":\"block:one\",\"hide\":false,\"kind\":\"clock\",\"label\":\"\",\"name\":null,\"paths\":[],\"region\":\"aside\",\"roles\":[],\"text\":null,\"weight\":0}\n";
+
+// Requests over a site at these moments, how many elements are built for each reply, and pieces of the replies, in order.
+#[derive(Drop)]
+struct Case {
+    // The row of what stands on each page beside its content, if anything does.
+    placed: &'static str,
+    moments: &'static [u64],
+    requests: &'static [&'static str],
+    built: [u64; 8],
+    pieces: &'static [&'static str],
+}
+
+// The requests, one after the other.
+fn input(alloc: Global, requests: &[&str]) -> Result<Vec<u8>, AllocError> {
+    let mut bytes = Vec::new(alloc);
+    for request in requests {
+        bytes.extend_from_slice(request.as_bytes())?;
+    }
+    Ok(bytes)
+}
+
+// How many elements are built for each reply of a connection over a house, and what it writes into the sink.
+fn answered<H: House>(
+    rt: &HostRuntime,
+    alloc: Global,
+    house: &mut H,
+    case: &Case,
+    sink: &mut MemorySink,
+) -> Result<[u64; 8], AllocError> {
+    let moments = Vec::from_slice(alloc, case.moments)?;
+    let requests = input(alloc, case.requests)?;
+    let mut source = MemorySource::new(requests, 64);
+    let mut clock = ListClock::new(moments);
+    let mut entropy = ListEntropy::new(Vec::new(alloc));
+    let mut gate = Noting {
+        built: [0; 8],
+        replies: 0,
+    };
+    let ended = serve_connection(
+        rt,
+        alloc,
+        house,
+        &mut source,
+        sink,
+        &mut clock,
+        &mut entropy,
+        &mut gate,
+    );
+    if ended == Ended::Closed {
+        Ok(gate.built)
+    } else {
+        Err(AllocError)
+    }
+}
+
+// The rows of the site with one more, if any.
+fn lines(alloc: Global, placed: &str) -> Result<Vec<u8>, AllocError> {
+    let mut lines = Vec::from_slice(alloc, ROWS)?;
+    lines.extend_from_slice(placed.as_bytes())?;
+    Ok(lines)
+}
+
+// A house over such a site, for a caller that is alone.
+fn house(alloc: Global, placed: &str) -> Result<Alone<MemoryKeeper>, AllocError> {
+    let mut source = MemorySource::new(lines(alloc, placed)?, 4_096);
+    let Ok(state) = read_site(alloc, &mut source) else {
+        return Err(AllocError);
+    };
+    let house = alone_with(alloc, &state);
+    drop(state);
+    house
+}
+
+// What a connection writes over such a site, and how many elements are built for each reply.
+fn served(rt: &HostRuntime, case: &Case) -> Result<(Vec<u8>, [u64; 8]), AllocError> {
+    let alloc = rt.alloc();
+    let mut sink = MemorySink::new(alloc, 400_000)?;
+    let mut house = house(alloc, case.placed)?;
+    let built = answered(rt, alloc, &mut house, case, &mut sink);
+    drop(house);
+    Ok((Vec::from_slice(alloc, sink.bytes())?, built?))
+}
+
+// Whether these pieces stand in a text, one after the other.
+fn in_order(text: &[u8], pieces: &[&str]) -> bool {
+    let mut from = 0;
+    for piece in pieces {
+        let rest = text.get(from..).unwrap_or(&[]);
+        let found = rest
+            .windows(piece.len().max(1))
+            .position(|window| window == piece.as_bytes());
+        match found {
+            Some(at) => from += at + piece.len(),
+            None => return false,
+        }
+    }
+    true
+}
+
+const PAGE: &str = "GET /node/1 HTTP/1.1\r\nHost: a\r\n\r\n";
+
+const BY_ABC: &str = "GET /node/1 HTTP/1.1\r\nHost: a\r\nCookie: SESS=abc\r\n\r\n";
+
+const FRONT: &str = "GET /node HTTP/1.1\r\nHost: a\r\n\r\n";
+
+const NOWHERE: &str = "GET /node/9 HTTP/1.1\r\nHost: a\r\n\r\n";
+
+const EDIT: &str =
+    "PATCH /node/1 HTTP/1.1\r\nHost: a\r\nCookie: SESS=abc\r\nX-CSRF-Token: ba7816bf8f01cfea414140de5dae2223\r\nContent-Type: application/json\r\nContent-Length: 21\r\n\r\n{\"title\":\"A\",\"vid\":1}";
+
+const REBUILD: &str =
+    "POST /cache/rebuild HTTP/1.1\r\nHost: a\r\nCookie: SESS=abc\r\nX-CSRF-Token: ba7816bf8f01cfea414140de5dae2223\r\n\r\n";
+
+#[test]
+fn what_is_kept_is_not_built(rt: HostRuntime) {
+    let cases = [
+        // A page, for visitors, and for whom all is permitted.
+        Case {
+            placed: "",
+            moments: &[1000],
+            requests: &[PAGE, PAGE, BY_ABC, BY_ABC],
+            built: [2, 0, 2, 0, 0, 0, 0, 0],
+            pieces: &[],
+        },
+        // A page that leads nowhere.
+        Case {
+            placed: "",
+            moments: &[1000],
+            requests: &[NOWHERE, NOWHERE],
+            built: [1, 0, 0, 0, 0, 0, 0, 0],
+            pieces: &["404 Not Found", "404 Not Found"],
+        },
+        // The front page with two nodes, again, and once more after an edit of the first of them.
+        Case {
+            placed: "",
+            moments: &[1000],
+            requests: &[FRONT, FRONT, EDIT, FRONT, FRONT],
+            built: [4, 0, 0, 3, 0, 0, 0, 0],
+            pieces: &[],
+        },
+        // A page, again, and once more after all that is kept was let go.
+        Case {
+            placed: "",
+            moments: &[1000],
+            requests: &[PAGE, PAGE, REBUILD, PAGE, PAGE],
+            built: [2, 0, 0, 2, 0, 0, 0, 0],
+            pieces: &[],
+        },
+        // Nobody is greeted as somebody else.
+        Case {
+            placed: GREETING,
+            moments: &[1000],
+            requests: &[PAGE, PAGE, BY_ABC, BY_ABC, PAGE],
+            built: [3, 0, 3, 0, 0, 0, 0, 0],
+            pieces: &[
+                "Content-Length: 330\r\n",
+                "Content-Length: 330\r\n",
+                "Content-Length: 310\r\n",
+                "<p>Hello, admin</p>",
+                "Content-Length: 310\r\n",
+                "<p>Hello, admin</p>",
+                "Content-Length: 330\r\n",
+            ],
+        },
+        // What may be shown at its own moment alone is built for each page that is kept but for it.
+        Case {
+            placed: CLOCK,
+            moments: &[1000, 1001, 1002],
+            requests: &[PAGE, PAGE, PAGE],
+            built: [3, 1, 1, 0, 0, 0, 0, 0],
+            pieces: &[
+                "<time>1970-01-01T00:16:40Z</time>",
+                "<time>1970-01-01T00:16:41Z</time>",
+                "<time>1970-01-01T00:16:42Z</time>",
+            ],
+        },
+        // A clock that went back.
+        Case {
+            placed: "",
+            moments: &[100, 90],
+            requests: &[PAGE, PAGE],
+            built: [2, 2, 0, 0, 0, 0, 0, 0],
+            pieces: &[],
+        },
+    ];
+    for case in &cases {
+        let (text, built) = served(&rt, case).expect(&rt, "memory");
+        assert!(rt; built == case.built);
+        assert!(rt; in_order(&text, case.pieces));
+    }
+}
+
+#[test]
+fn a_page_lasts_as_long_as_what_it_shows(rt: HostRuntime) {
+    let cases = [
+        Case {
+            placed: SLOW_CLOCK,
+            moments: &[1000, 1060, 1061],
+            requests: &[PAGE, PAGE, PAGE],
+            built: [0; 8],
+            pieces: &[
+                "Content-Length: 361\r\n",
+                "<time>1970-01-01T00:16:40Z</time>",
+                "Content-Length: 361\r\n",
+                "<time>1970-01-01T00:16:40Z</time>",
+                "<time>1970-01-01T00:17:41Z</time>",
+            ],
+        },
+        // The text is kept at moment 50, and the page that it stands on at 100.
+        Case {
+            placed: SLOW_CLOCK,
+            moments: &[50, 100, 110, 111],
+            requests: &[FRONT, PAGE, PAGE, PAGE],
+            built: [0; 8],
+            pieces: &[
+                "<time>1970-01-01T00:00:50Z</time>",
+                "<time>1970-01-01T00:00:50Z</time>",
+                "<time>1970-01-01T00:00:50Z</time>",
+                "<time>1970-01-01T00:01:51Z</time>",
+            ],
+        },
+    ];
+    for case in &cases {
+        let (text, _) = served(&rt, case).expect(&rt, "memory");
+        assert!(rt; in_order(&text, case.pieces));
+    }
+}

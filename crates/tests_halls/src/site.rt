@@ -1,0 +1,64 @@
+//! A new site with a session, and what is wanted of it.
+ghost use Rattle.std.specs.Prelude.{◌≡◌, IfOk};
+ghost use Rattle.content_state.specs.SiteRules.{AreValidRows};
+
+use cache_entries::{Key, Subject};
+use cacheability::Name;
+use content_rows::Items;
+use content_state::{Fragment, Rows};
+use site_files::{STARTER, read_rows};
+use site_hall::Hall;
+use site_io::MemorySource;
+use site_keeper::{MemoryKeeper, Stored};
+use site_turn::Site;
+use std::alloc::{AllocError, Global};
+use tag_counts::Counts;
+
+/// A session `abc` of the first user.
+const SESSION: &[u8] = b"{\"cell\":\"session:abc\",\"expires\":2000,\"uid\":1}\n";
+
+// The rows that a site begins with, and the session.
+fn rows(alloc: Global) -> Result<Rows, AllocError>
+    ensures { IfOk result (λ rows. AreValidRows rows) }
+{
+    let mut lines = Vec::from_slice(alloc, STARTER)?;
+    lines.extend_from_slice(SESSION)?;
+    let mut source = MemorySource::new(lines, 4_096);
+    read_rows(alloc, &mut source).map_err(|_| AllocError)
+}
+
+/// What a keeper holds of that site, at the number 0.
+pub fn stored(alloc: Global) -> Result<Stored, AllocError>
+    ensures { IfOk result (λ stored. AreValidRows stored.rows) }
+{
+    let rows = rows(alloc)?;
+    Ok(Stored {
+        rows,
+        counts: Counts::new(alloc),
+        head: 0,
+    })
+}
+
+/// The site, at the number 0, over a keeper in memory. No pass is made yet.
+pub fn site(alloc: Global) -> Result<Site<MemoryKeeper>, AllocError>
+    ensures { IfOk result (λ site. site.founder.made ≡ 0) }
+{
+    let stored = stored(alloc)?;
+    let copy = stored.duplicate(alloc)?;
+    let keeper = MemoryKeeper::new(alloc, copy, Vec::new(alloc));
+    let Ok(hall) = Hall::new(alloc, keeper, stored) else {
+        return Err(AllocError);
+    };
+    Site::new(alloc, hall).map_err(|_| AllocError)
+}
+
+/// The key of the block of this name, whose values are none.
+pub fn key(alloc: Global, block: &[u8]) -> Result<Key, AllocError> {
+    let Ok(name) = Name::new(block) else {
+        return Err(AllocError);
+    };
+    Ok(Key {
+        subject: Subject::Fragment(Fragment::Block(name)),
+        values: Items::none(alloc),
+    })
+}

@@ -1,5 +1,0 @@
-//! Tests of passwords, by public calls alone.
-#![tactic(auto)]
-
-#[cfg(test)]
-mod passwords;

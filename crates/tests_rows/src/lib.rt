@@ -1,5 +1,0 @@
-//! Tests of rows and cells, by public calls alone.
-#![tactic(auto)]
-
-#[cfg(test)]
-mod rules;
