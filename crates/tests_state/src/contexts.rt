@@ -78,7 +78,7 @@ fn view_grants_text(
 /// A value in letters: lists with commas, `*` for everything, `-` for what is absent and `=` before what may be.
 fn value_text(alloc: Global, out: &mut Vec<u8>, value: &AnyValue) -> Result<(), AllocError> {
     match value {
-        AnyValue::Name(name) => add(&mut out, name.as_bytes())?,
+        AnyValue::Name(name) => add(out, name.as_bytes()),
         AnyValue::Text(text) => add(out, text.as_slice()),
         AnyValue::Argument(text) => {
             optional_text(out, text.as_ref().map(|text| text.as_slice()))
