@@ -82,16 +82,6 @@ fn used<S: Alter + Drop>(
     Some((kept, seen, keeper.into_connection().into_store()))
 }
 
-/// The same, with the files of the store.
-fn closed<D: Disk + Drop>(
-    used: Option<(bool, Option<Seen>, FileStore<D>)>,
-) -> Option<(bool, Option<Seen>, Files<D>)> {
-    match used {
-        Some((kept, seen, store)) => Some((kept, seen, store.close())),
-        None => None,
-    }
-}
-
 /// The same in files, which come back, and where nothing is held if they aren't opened. None where memory is wanting.
 ///
 /// A keeper asks nothing of files to be made where its tables are there, so it isn't refused where they were opened.
@@ -102,7 +92,10 @@ fn used_in<D: Disk + Drop>(
     batch: Option<&Batch>,
 ) -> Option<(bool, Option<Seen>, Files<D>)> {
     match opened(alloc, files, frames) {
-        Ok(conn) => closed(used(alloc, conn, batch)),
+        Ok(conn) => match used(alloc, conn, batch) {
+            Some((kept, seen, store)) => Some((kept, seen, store.close())),
+            None => None,
+        },
         Err(files) => Some((false, None, files)),
     }
 }
@@ -118,29 +111,15 @@ fn found_in(alloc: Global, files: Files<Stopping>) -> Option<Seen> {
     }
 }
 
-/// The files of a new store.
-fn no_files(alloc: Global) -> Option<Files<Stopping>> {
-    Some(Files {
-        log: file_of(alloc, &[], u64::MAX)?,
-        db: file_of(alloc, &[], u64::MAX)?,
-    })
-}
-
-/// The files of a store in which a batch was kept.
-fn files_with(alloc: Global, batch: &Batch) -> Option<Files<Stopping>> {
-    let files = no_files(alloc)?;
-    match used_in(alloc, files, 1000, Some(batch)) {
-        Some((_, _, files)) => Some(files),
-        None => None,
-    }
-}
-
 /// The files of a store into which the site was imported.
 fn begun(alloc: Global) -> Option<Files<Stopping>> {
+    let files = Files {
+        log: file_of(alloc, &[], u64::MAX)?,
+        db: file_of(alloc, &[], u64::MAX)?,
+    };
     let import = batch_of(alloc, &BEGIN)?;
-    let files = files_with(alloc, &import);
-    drop(import);
-    files
+    let (_, _, files) = used_in(alloc, files, 1000, Some(&import))?;
+    Some(files)
 }
 
 /// How an edit ended whose files stopped.

@@ -75,23 +75,16 @@ fn database(alloc: Global, statements: &[&str]) -> Result<Connection<MemStore>, 
     Ok(conn)
 }
 
-/// The head that was loaded.
-fn head_of(seen: Result<Seen, KeeperFault>) -> Result<u64, KeeperFault> {
-    match seen {
-        Ok(seen) => Ok(seen.head),
-        Err(fault) => Err(fault),
-    }
-}
-
 /// The head that a store is loaded with, and how often its keeper has failed then.
 fn loaded<S: Alter + Drop>(
     alloc: Global,
     mut keeper: SqliteKeeper<S>,
 ) -> (Result<u64, KeeperFault>, u64) {
-    let seen = held_by(alloc, &mut keeper);
-    let faults = keeper.faults();
-    drop(keeper);
-    (head_of(seen), faults)
+    let head = match held_by(alloc, &mut keeper) {
+        Ok(seen) => Ok(seen.head),
+        Err(fault) => Err(fault),
+    };
+    (head, keeper.faults())
 }
 
 #[test]
@@ -130,9 +123,7 @@ fn told_of_three<S: Alter + Drop>(
     let first = kept_by(alloc, &mut keeper, &BEGIN);
     let second = kept_by(alloc, &mut keeper, &EDIT);
     let third = kept_by(alloc, &mut keeper, &LAST);
-    let faults = keeper.faults();
-    drop(keeper);
-    ([first, second, third], faults)
+    ([first, second, third], keeper.faults())
 }
 
 /// Of a batch that is refused at some statement nothing is kept, and the next one is.
@@ -158,7 +149,6 @@ fn kept_in<S: Alter + Drop>(
         Ok(mut keeper) => {
             let before = held_by(alloc, &mut keeper);
             let after = kept_by(alloc, &mut keeper, words);
-            drop(keeper);
             [before, after]
         }
         Err(_) => [Err(KeeperFault::Failed), Err(KeeperFault::Failed)],
