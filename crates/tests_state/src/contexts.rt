@@ -6,6 +6,7 @@ use cacheability::{Cacheability, Context, Name};
 use content_rows::{Grant, Permissions, Text, ViewGrants};
 use content_state::State;
 use std::alloc::{AllocError, Global};
+use std::test::Fail;
 use tag_counts::Counts;
 
 /// Adds a comma, where something stands there, and a text.
@@ -78,7 +79,7 @@ fn view_grants_text(
 /// A value in letters: lists with commas, `*` for everything, `-` for what is absent and `=` before what may be.
 fn value_text(alloc: Global, out: &mut Vec<u8>, value: &AnyValue) -> Result<(), AllocError> {
     match value {
-        AnyValue::Name(name) => add(&mut out, name.as_bytes())?,
+        AnyValue::Name(name) => add(out, name.as_bytes()),
         AnyValue::Text(text) => add(out, text.as_slice()),
         AnyValue::Argument(text) => {
             optional_text(out, text.as_ref().map(|text| text.as_slice()))
@@ -215,9 +216,9 @@ fn comes_to(
 }
 
 #[test]
-fn left_out(rt: HostRuntime) {
-    let state = site(rt.alloc(), Counts::new(rt.alloc())).expect(&rt, "memory");
-    let page = Context::QueryArg(name(b"page").expect(&rt, "a name"));
+fn left_out(rt: HostRuntime) -> Result<(), Fail> {
+    let page = Context::QueryArg(name(b"page")?);
+    let state = site(rt.alloc(), Counts::new(rt.alloc()))?;
     let cases: [(&[Context], &str); 5] = [
         (
             &[Context::UserRoles, Context::User, Context::NodeGrantsView],
@@ -243,4 +244,5 @@ fn left_out(rt: HostRuntime) {
     for (contexts, wanted) in cases {
         assert!(rt; comes_to(rt.alloc(), &state, contexts, wanted) == Ok(true));
     }
+    Ok(())
 }
