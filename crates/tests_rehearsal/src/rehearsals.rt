@@ -1,13 +1,14 @@
 //! What is kept by one requester, and found by another.
 ghost use Rattle.std.specs.Prelude.{IfOk, All};
 ghost use Rattle.content_state.specs.Ask.{IsAsk};
+ghost use Rattle.content_state.specs.SiteRules.{AreValidRows};
 ghost use Rattle.site_rehearsal.specs.Rehearsed.{MayAct, MayTake};
 
-use crate::site::{Begun, CLUB, SECOND, name, stored};
-use cache_contexts::{ContextValue, values};
+use crate::site::{club, name, second};
+use cache_contexts::values;
 use cache_entries::{Bin, Found, Key, Subject};
 use cacheability::Context;
-use content_rows::{Items, Text};
+use content_rows::Text;
 use content_state::{Ask, Fragment, Mode, State};
 use render_array::Element;
 use site_access::viewer_of;
@@ -29,35 +30,25 @@ fn ask(alloc: Global, session: &[u8]) -> Result<Ask, AllocError>
     })
 }
 
-/// The values that contexts have on a state for whom the session names.
-fn values_for(
-    alloc: Global,
-    state: &State,
-    session: &[u8],
-    contexts: &[Context],
-) -> Result<Items<ContextValue>, AllocError> {
-    let ask = ask(alloc, session)?;
-    let viewer = viewer_of(state, &ask, 1000);
-    values(alloc, state, &viewer, &ask, contexts)
-}
-
 /// The key of a node, with the values that contexts have for whom the session names.
 fn key(
     alloc: Global,
-    site: &Begun,
+    stored: Stored,
     session: &[u8],
     subject: Fragment,
     contexts: &[Context],
-) -> Result<Key, AllocError> {
-    let Stored { rows, counts, head } = stored(alloc, site)?;
+) -> Result<Key, AllocError>
+    requires { AreValidRows stored.rows }
+{
+    let Stored { rows, counts, head } = stored;
     let Ok(state) = State::from_rows(alloc, rows, counts, head) else {
         return Err(AllocError);
     };
-    let values = values_for(alloc, &state, session, contexts);
-    drop(state);
+    let ask = ask(alloc, session)?;
+    let viewer = viewer_of(&state, &ask, 1000);
     Ok(Key {
         subject: Subject::Fragment(subject),
-        values: values?,
+        values: values(alloc, &state, &viewer, &ask, contexts)?,
     })
 }
 
@@ -79,50 +70,38 @@ fn keep() -> Act
     Act::Keep
 }
 
-/// Who has a session looks for a node of a site.
-fn look(
-    alloc: Global,
-    site: &Begun,
-    session: &[u8],
-    subject: Fragment,
-    contexts: &[Context],
-) -> Result<Act, AllocError>
-    ensures { IfOk result MayAct }
+fn look(key: Key, ask: Ask) -> Act
+    ensures { MayAct result }
 {
-    let key = key(alloc, site, session, subject, contexts)?;
-    let ask = ask(alloc, session)?;
-    Ok(Act::Look {
+    Act::Look {
         bin: Bin::Fragments,
         key,
         ask,
         now: 1000,
-    })
+    }
 }
 
-/// Who has a session builds a node.
-fn build(alloc: Global, session: &[u8], fragment: Fragment) -> Result<Act, AllocError>
-    ensures { IfOk result MayAct }
+fn build(fragment: Fragment, ask: Ask) -> Act
+    requires { IsAsk ask }
+    ensures { MayAct result }
 {
-    let ask = ask(alloc, session)?;
-    Ok(Act::Build {
+    Act::Build {
         element: Element::Fragment(fragment),
         ask,
         now: 1000,
-    })
+    }
 }
 
-/// The first user removes a node.
-fn remove(alloc: Global, nid: u32) -> Result<Act, AllocError>
-    ensures { IfOk result MayAct }
+/// A node is removed.
+fn remove(nid: u32, csrf: Text, ask: Ask) -> Act
+    ensures { MayAct result }
 {
-    let csrf = Text::copied(alloc, CSRF)?;
-    let ask = ask(alloc, b"abc")?;
-    Ok(Act::Commit {
+    Act::Commit {
         command: Command::RemoveNode(Some(nid)),
         csrf: Some(csrf),
         ask,
         now: 1000,
-    })
+    }
 }
 
 fn turn(requester: u32, act: Act) -> Turn
@@ -166,11 +145,11 @@ fn letters(alloc: Global, replies: &[Reply]) -> Result<Vec<u8>, AllocError> {
     Ok(letters)
 }
 
-/// The replies to turns on a site, in letters.
-fn rehearsed(alloc: Global, site: &Begun, turns: &[Turn]) -> Result<Vec<u8>, AllocError>
-    requires { All MayTake turns.now }
+/// The replies to turns, in letters.
+fn rehearsed(alloc: Global, base: Stored, turns: &[Turn]) -> Result<Vec<u8>, AllocError>
+    requires rows { AreValidRows base.rows }
+    requires may { All MayTake turns.now }
 {
-    let base = stored(alloc, site)?;
     let Ok(replies) = rehearse(alloc, base, turns) else {
         return Err(AllocError);
     };
@@ -180,36 +159,34 @@ fn rehearsed(alloc: Global, site: &Begun, turns: &[Turn]) -> Result<Vec<u8>, All
 /// A requester builds a node and keeps it once another one has changed the node: it is kept as it was made.
 fn kept_late(alloc: Global) -> Result<Vec<u8>, AllocError> {
     let node = Fragment::Node(1, Mode::Teaser);
-    let first = look(alloc, &SECOND, b"abc", node, &FIRST)?;
-    let again = look(alloc, &SECOND, b"abc", node, &FIRST)?;
-    let removal = remove(alloc, 1)?;
-    let building = build(alloc, b"abc", node)?;
+    let first = key(alloc, second(alloc)?, b"abc", node, &FIRST)?;
+    let again = key(alloc, second(alloc)?, b"abc", node, &FIRST)?;
+    let csrf = Text::copied(alloc, CSRF)?;
     let turns = [
         turn(1, snapshot()),
-        turn(1, building),
-        turn(2, removal),
+        turn(1, build(node, ask(alloc, b"abc")?)),
+        turn(2, remove(1, csrf, ask(alloc, b"abc")?)),
         turn(1, keep()),
-        turn(2, first),
-        turn(1, again),
+        turn(2, look(first, ask(alloc, b"abc")?)),
+        turn(1, look(again, ask(alloc, b"abc")?)),
     ];
-    rehearsed(alloc, &SECOND, &turns)
+    rehearsed(alloc, second(alloc)?, &turns)
 }
 
 /// A requester builds and keeps a node after a change of another one: it is found on the older state too, where nothing that it
 /// depends on is different.
 fn kept_early(alloc: Global) -> Result<Vec<u8>, AllocError> {
     let node = Fragment::Node(1, Mode::Full);
-    let first = look(alloc, &SECOND, b"abc", node, &FIRST)?;
-    let removal = remove(alloc, 2)?;
-    let building = build(alloc, b"abc", node)?;
+    let first = key(alloc, second(alloc)?, b"abc", node, &FIRST)?;
+    let csrf = Text::copied(alloc, CSRF)?;
     let turns = [
         turn(1, snapshot()),
-        turn(2, removal),
-        turn(2, building),
+        turn(2, remove(2, csrf, ask(alloc, b"abc")?)),
+        turn(2, build(node, ask(alloc, b"abc")?)),
         turn(2, keep()),
-        turn(1, first),
+        turn(1, look(first, ask(alloc, b"abc")?)),
     ];
-    rehearsed(alloc, &SECOND, &turns)
+    rehearsed(alloc, second(alloc)?, &turns)
 }
 
 /// A requester keeps a node for one viewer, and another one looks under a key of another viewer.
@@ -219,15 +196,14 @@ fn kept_for_one(
     contexts: &[Context],
 ) -> Result<Vec<u8>, AllocError> {
     let node = Fragment::Node(6, Mode::Full);
-    let last = look(alloc, &CLUB, session, node, contexts)?;
-    let building = build(alloc, b"test", node)?;
+    let key = key(alloc, club(alloc)?, session, node, contexts)?;
     let turns = [
         turn(2, keep()),
-        turn(1, building),
+        turn(1, build(node, ask(alloc, b"test")?)),
         turn(1, keep()),
-        turn(2, last),
+        turn(2, look(key, ask(alloc, session)?)),
     ];
-    rehearsed(alloc, &CLUB, &turns)
+    rehearsed(alloc, club(alloc)?, &turns)
 }
 
 #[test]
