@@ -15,7 +15,7 @@ more_digits : (digits n : ℕ) → 10 ≤ n → last_digits (suc digits) n ≡ l
 unfolding last_digits
 more_digits digits n h = rw (le-ltb n 10 h, last_digits) refl
 
-either : (n : ℕ) → (n < 10) ⊎ (10 ≤ n)
+pub either : (n : ℕ) → (n < 10) ⊎ (10 ≤ n)
 either n = go (nat_lt n 10) refl
   where
     go : (b : Bool) → b ≡ nat_lt n 10 → (n < 10) ⊎ (10 ≤ n)

@@ -1,6 +1,6 @@
 -- Tags and contexts of different kinds are told apart, and ordered, by their kinds.
 use Rattle.std.proofs.Common.{ℕ, zero, suc, List, [], ◌∷◌, ◌++◌, ◌≡◌, ◌<◌, Bool, true, false, drop, get_or, length, refl, sym, ◌∙◌, ap, arith}
-use Rattle.std.specs.Prelude.{codes, ◌&&◌}
+use Rattle.std.specs.Prelude.{codes, ◌&&◌, cond}
 use Rattle.std.proofs.lemmas.Bool.{true≢false}
 use Rattle.std.specs.List.{list_all}
 use Rattle.std.specs.Ordering.{nat_cmp, ordering_then, ordering_reverse, is_lt, MatchOrdering}
@@ -10,11 +10,12 @@ use Rattle.std.specs.Cmp.Lexicographic.{slice_cmp}
 use Rattle.std.proofs.lemmas.Cmp.{nat_list_cmp_total}
 use Rattle.cacheability.specs.declared.tag.Tag.{Tag}
 use Rattle.cacheability.specs.declared.tag.Tag.TheVariants as tag
-use Rattle.cacheability.specs.Tag.{tag_text, tag_cmp, tag_rank, tag_name, tag_number}
+use Rattle.cacheability.specs.Tag.{tag_text, tag_cmp, tag_rank, tag_name, tag_number, is_numbered}
 use Rattle.cacheability.specs.declared.context.Context.{Context}
 use Rattle.cacheability.specs.declared.context.Context.TheVariants as context
 use Rattle.cacheability.specs.Context.{context_text, context_cmp, context_rank, context_name}
 use Rattle.cacheability.specs.Decimal.{decimal}
+use Rattle.cacheability.proofs.Decimals.{slice_cmp-append}
 
 -- the tag of a kind with this number and this name in it
 tag_made : ℕ → ℕ → List ℕ → Tag
@@ -136,29 +137,32 @@ tag_before tag.BlockList = refl
 tag_before tag.Rendered = refl
 tag_before tag.NotFound = refl
 
--- the place of a kind, and what follows the front of a text
-tag_begins : (t : Tag) → (tag_rank t < length tag_fronts) × (rest : List ℕ) × (tag_text t ≡ get_or tag_fronts (tag_rank t) [] ++ rest)
-tag_begins tag.Site = (omega arith, [], refl)
-tag_begins (tag.NodeType t) = (omega arith, t, refl)
-tag_begins (tag.Role r) = (omega arith, r, refl)
-tag_begins (tag.User u) = (omega arith, decimal u, refl)
-tag_begins (tag.Term t) = (omega arith, decimal t, refl)
-tag_begins tag.TermList = (omega arith, [], refl)
-tag_begins (tag.Node n) = (omega arith, decimal n, refl)
-tag_begins tag.NodeList = (omega arith, [], refl)
-tag_begins (tag.NodeListOf t) = (omega arith, t, refl)
-tag_begins (tag.Menu m) = (omega arith, m, refl)
-tag_begins (tag.Listing l) = (omega arith, l, refl)
-tag_begins (tag.Block b) = (omega arith, b, refl)
-tag_begins tag.BlockList = (omega arith, [], refl)
-tag_begins tag.Rendered = (omega arith, [], refl)
-tag_begins tag.NotFound = (omega arith, [], refl)
+-- what follows the front of a text
+abbrev tag_rest : Tag → List ℕ
+tag_rest t = cond (is_numbered t) (decimal (tag_number t)) (tag_name t)
+
+tag_begins : (t : Tag) → (tag_rank t < length tag_fronts) × (tag_text t ≡ get_or tag_fronts (tag_rank t) [] ++ tag_rest t)
+tag_begins tag.Site = (omega arith, refl)
+tag_begins (tag.NodeType t) = (omega arith, refl)
+tag_begins (tag.Role r) = (omega arith, refl)
+tag_begins (tag.User u) = (omega arith, refl)
+tag_begins (tag.Term t) = (omega arith, refl)
+tag_begins tag.TermList = (omega arith, refl)
+tag_begins (tag.Node n) = (omega arith, refl)
+tag_begins tag.NodeList = (omega arith, refl)
+tag_begins (tag.NodeListOf t) = (omega arith, refl)
+tag_begins (tag.Menu m) = (omega arith, refl)
+tag_begins (tag.Listing l) = (omega arith, refl)
+tag_begins (tag.Block b) = (omega arith, refl)
+tag_begins tag.BlockList = (omega arith, refl)
+tag_begins tag.Rendered = (omega arith, refl)
+tag_begins tag.NotFound = (omega arith, refl)
 
 tag_less : (a b : Tag) → tag_rank a < tag_rank b → tag_cmp a b ≡ Less
 tag_less a b l =
     let front : List ℕ = get_or tag_fronts (tag_rank b) [] in
     let told : is_lt (slice_cmp nat_cmp (tag_text a) front) ≡ true = at_later (λ f. is_lt (slice_cmp nat_cmp (tag_text a) f)) tag_fronts (tag_rank a) (tag_rank b) [] l (tag_begins b).0 (tag_before a) in
-    rw ((tag_begins b).2) (before_longer (tag_text a) front (tag_begins b).1 (less_of (slice_cmp nat_cmp (tag_text a) front) told))
+    rw ((tag_begins b).1) (before_longer (tag_text a) front (tag_rest b) (less_of (slice_cmp nat_cmp (tag_text a) front) told))
 
 -- what the context's texts begin with, in order
 abbrev context_fronts : List (List ℕ)
@@ -181,27 +185,27 @@ context_before context.Session = refl
 context_before context.SessionExists = refl
 context_before (context.MenuTrail m) = refl
 
-context_begins : (c : Context) → (context_rank c < length context_fronts) × (rest : List ℕ) × (context_text c ≡ get_or context_fronts (context_rank c) [] ++ rest)
-context_begins context.Language = (omega arith, [], refl)
-context_begins context.Theme = (omega arith, [], refl)
-context_begins context.User = (omega arith, [], refl)
-context_begins context.UserRoles = (omega arith, [], refl)
-context_begins context.UserPermissions = (omega arith, [], refl)
-context_begins context.NodeGrantsView = (omega arith, [], refl)
-context_begins context.Url = (omega arith, [], refl)
-context_begins context.UrlPath = (omega arith, [], refl)
-context_begins context.IsFront = (omega arith, [], refl)
-context_begins context.QueryArgs = (omega arith, [], refl)
-context_begins (context.QueryArg name) = (omega arith, name, refl)
-context_begins context.Session = (omega arith, [], refl)
-context_begins context.SessionExists = (omega arith, [], refl)
-context_begins (context.MenuTrail m) = (omega arith, m, refl)
+context_begins : (c : Context) → (context_rank c < length context_fronts) × (context_text c ≡ get_or context_fronts (context_rank c) [] ++ context_name c)
+context_begins context.Language = (omega arith, refl)
+context_begins context.Theme = (omega arith, refl)
+context_begins context.User = (omega arith, refl)
+context_begins context.UserRoles = (omega arith, refl)
+context_begins context.UserPermissions = (omega arith, refl)
+context_begins context.NodeGrantsView = (omega arith, refl)
+context_begins context.Url = (omega arith, refl)
+context_begins context.UrlPath = (omega arith, refl)
+context_begins context.IsFront = (omega arith, refl)
+context_begins context.QueryArgs = (omega arith, refl)
+context_begins (context.QueryArg name) = (omega arith, refl)
+context_begins context.Session = (omega arith, refl)
+context_begins context.SessionExists = (omega arith, refl)
+context_begins (context.MenuTrail m) = (omega arith, refl)
 
 context_less : (a b : Context) → context_rank a < context_rank b → context_cmp a b ≡ Less
 context_less a b l =
     let front : List ℕ = get_or context_fronts (context_rank b) [] in
     let told : is_lt (slice_cmp nat_cmp (context_text a) front) ≡ true = at_later (λ f. is_lt (slice_cmp nat_cmp (context_text a) f)) context_fronts (context_rank a) (context_rank b) [] l (context_begins b).0 (context_before a) in
-    rw ((context_begins b).2) (before_longer (context_text a) front (context_begins b).1 (less_of (slice_cmp nat_cmp (context_text a) front) told))
+    rw ((context_begins b).1) (before_longer (context_text a) front (context_name b) (less_of (slice_cmp nat_cmp (context_text a) front) told))
 
 -- what the answer of an order by ranks says, where a lower rank is before
 by_ranks : {K : Type 0} (cmp : K → K → Ordering) (rank : K → ℕ) → ((a b : K) → rank a < rank b → cmp a b ≡ Less) → ((a b : K) → cmp a b ≡ ordering_reverse (cmp b a)) → (a b : K) (o : Ordering) → MatchOrdering o (rank a < rank b) (rank a ≡ rank b) (rank b < rank a) → (o ≡ Equal → ⊥) → o ≡ cmp a b
@@ -227,3 +231,57 @@ itself Greater h = absurd (true≢false (sym (ap is_lt h)))
 -- a list is as far as itself
 pub same_bytes : (xs ys : List ℕ) → xs ≡ ys → Equal ≡ slice_cmp nat_cmp xs ys
 same_bytes xs ys e = sym (itself (slice_cmp nat_cmp xs xs) (bytes_turned xs xs)) ∙ ap (λ zs. slice_cmp nat_cmp xs zs) e
+
+-- texts that begin the same are ordered by what follows
+by_rests : (front xs ys : List ℕ) → slice_cmp nat_cmp (front ++ xs) (front ++ ys) ≡ slice_cmp nat_cmp xs ys
+by_rests front xs ys =
+    slice_cmp-append front front xs ys refl ∙ ap (λ o. ordering_then o (slice_cmp nat_cmp xs ys)) (sym (same_bytes front front refl))
+
+tags_by_rests : (a b : Tag) → tag_rank a ≡ tag_rank b → slice_cmp nat_cmp (tag_rest a) (tag_rest b) ≡ tag_cmp a b
+tags_by_rests a b r =
+    let front : List ℕ = get_or tag_fronts (tag_rank a) [] in
+    let other : tag_text b ≡ front ++ tag_rest b = (tag_begins b).1 ∙ ap (λ k. get_or tag_fronts k [] ++ tag_rest b) (sym r) in
+    sym (by_rests front (tag_rest a) (tag_rest b)) ∙ (λ i. slice_cmp nat_cmp (sym (tag_begins a).1 i) (sym other i))
+
+-- which kinds have numbers is told by their ranks
+numbered_by_rank : (t : Tag) → is_numbered t ≡ is_numbered (tag_made (tag_rank t) 0 [])
+unfolding tag_made
+numbered_by_rank tag.Site = refl
+numbered_by_rank (tag.NodeType t) = refl
+numbered_by_rank (tag.Role r) = refl
+numbered_by_rank (tag.User u) = refl
+numbered_by_rank (tag.Term t) = refl
+numbered_by_rank tag.TermList = refl
+numbered_by_rank (tag.Node n) = refl
+numbered_by_rank tag.NodeList = refl
+numbered_by_rank (tag.NodeListOf t) = refl
+numbered_by_rank (tag.Menu m) = refl
+numbered_by_rank (tag.Listing l) = refl
+numbered_by_rank (tag.Block b) = refl
+numbered_by_rank tag.BlockList = refl
+numbered_by_rank tag.Rendered = refl
+numbered_by_rank tag.NotFound = refl
+
+both_numbered : (a b : Tag) → tag_rank a ≡ tag_rank b → is_numbered a ≡ is_numbered b
+both_numbered a b r = numbered_by_rank a ∙ ap (λ k. is_numbered (tag_made k 0 [])) r ∙ sym (numbered_by_rank b)
+
+-- tags of one kind are ordered by the texts of their numbers, where they have some
+pub tags_by_numbers : (a b : Tag) → tag_rank a ≡ tag_rank b → is_numbered a ≡ true → slice_cmp nat_cmp (decimal (tag_number a)) (decimal (tag_number b)) ≡ tag_cmp a b
+tags_by_numbers a b r n =
+    let one : tag_rest a ≡ decimal (tag_number a) = ap (λ t. cond t (decimal (tag_number a)) (tag_name a)) n in
+    let other : tag_rest b ≡ decimal (tag_number b) = ap (λ t. cond t (decimal (tag_number b)) (tag_name b)) (sym (both_numbered a b r) ∙ n) in
+    (λ i. slice_cmp nat_cmp (sym one i) (sym other i)) ∙ tags_by_rests a b r
+
+-- and by their names, where they have none
+pub tags_by_names : (a b : Tag) → tag_rank a ≡ tag_rank b → is_numbered a ≡ false → slice_cmp nat_cmp (tag_name a) (tag_name b) ≡ tag_cmp a b
+tags_by_names a b r n =
+    let one : tag_rest a ≡ tag_name a = ap (λ t. cond t (decimal (tag_number a)) (tag_name a)) n in
+    let other : tag_rest b ≡ tag_name b = ap (λ t. cond t (decimal (tag_number b)) (tag_name b)) (sym (both_numbered a b r) ∙ n) in
+    (λ i. slice_cmp nat_cmp (sym one i) (sym other i)) ∙ tags_by_rests a b r
+
+-- contexts of one kind are ordered by their names
+pub contexts_by_names : (a b : Context) → context_rank a ≡ context_rank b → slice_cmp nat_cmp (context_name a) (context_name b) ≡ context_cmp a b
+contexts_by_names a b r =
+    let front : List ℕ = get_or context_fronts (context_rank a) [] in
+    let other : context_text b ≡ front ++ context_name b = (context_begins b).1 ∙ ap (λ k. get_or context_fronts k [] ++ context_name b) (sym r) in
+    sym (by_rests front (context_name a) (context_name b)) ∙ (λ i. slice_cmp nat_cmp (sym (context_begins a).1 i) (sym other i))

@@ -1,5 +1,5 @@
 -- The texts of cache tags (Drupal's Cache API, "Cache tags").
-use Rattle.std.specs.Prelude.{ℕ, List, [], ◌++◌, codes}
+use Rattle.std.specs.Prelude.{ℕ, List, [], ◌++◌, codes, Bool, true, false}
 use Rattle.std.specs.Ordering.{nat_cmp}
 use Rattle.std.specs.Cmp.Lexicographic.{slice_cmp}
 use Rattle.std.specs.declared.cmp.Ordering.{Ordering}
@@ -59,6 +59,13 @@ tag_number (tag.User u) = u
 tag_number (tag.Term t) = t
 tag_number (tag.Node n) = n
 tag_number _ = 0
+
+-- whether a tag has a number in it
+abbrev pub is_numbered : Tag → Bool
+is_numbered (tag.User u) = true
+is_numbered (tag.Term t) = true
+is_numbered (tag.Node n) = true
+is_numbered _ = false
 
 -- tags are ordered by their texts
 abbrev pub tag_cmp : Tag → Tag → Ordering

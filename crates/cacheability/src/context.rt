@@ -112,11 +112,13 @@ impl Context {
         }
     }
 
-    /// The order of two contexts of one kind, by their texts.
-    fn order_of_texts(&self, other: &Context) -> Ordering
+    /// The order of two contexts of one kind, by the names in their texts.
+    #[tactic(auto, using(crate::proofs::Ranks::contexts_by_names))]
+    fn order_of_names(&self, other: &Context) -> Ordering
+        requires { context_rank self.now ≡ context_rank other.now }
         ensures { result ≡ context_cmp self.now other.now }
     {
-        self.written().as_slice().cmp(other.written().as_slice())
+        self.name().cmp(other.name())
     }
 
     /// The text of the context, held in place.
@@ -181,16 +183,10 @@ impl Ord for Context {
 
     ghost matches_eq = { Prim.search (comparing, rules) };
 
-    #[tactic(auto, using(crate::proofs::Ranks::contexts_by_rank, crate::proofs::Ranks::same_bytes))]
+    #[tactic(auto, using(crate::proofs::Ranks::contexts_by_rank))]
     fn cmp(&self, other: &Self) -> Ordering {
         match self.rank().cmp(&other.rank()) {
-            Ordering::Equal => {
-                if self.equals(other) {
-                    Ordering::Equal
-                } else {
-                    self.order_of_texts(other)
-                }
-            }
+            Ordering::Equal => self.order_of_names(other),
             apart => apart,
         }
     }

@@ -4,6 +4,7 @@
 
 mod cacheability;
 mod context;
+mod decimal;
 mod max_age;
 mod name;
 mod op;

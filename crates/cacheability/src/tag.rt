@@ -6,6 +6,7 @@ ghost use Rattle.std.specs.Cmp.Lexicographic.{pointwise, slice_cmp};
 ghost use Rattle.std.specs.Cmp.Rules.{comparing};
 ghost use Rattle.std.proofs.Common.{rules};
 
+use crate::decimal::order_of_decimals;
 use crate::name::Name;
 use crate::written::Written;
 use std::alloc::{AllocError, Global};
@@ -48,7 +49,7 @@ pub enum Tag {
 }
 
 impl Tag {
-    ghost use Rattle.cacheability.specs.Tag.{tag_text, tag_rank, tag_name, tag_number, tag_cmp};
+    ghost use Rattle.cacheability.specs.Tag.{tag_text, tag_rank, tag_name, tag_number, tag_cmp, is_numbered};
 
     /// The text of the tag.
     pub fn text(&self, alloc: Global) -> Result<Vec<u8>, AllocError>
@@ -124,11 +125,24 @@ impl Tag {
         }
     }
 
-    /// The order of two tags of one kind, by their texts.
-    fn order_of_texts(&self, other: &Tag) -> Ordering
+    /// Whether there is a number in the tag.
+    fn is_numbered(&self) -> bool
+        ensures { result ≡ is_numbered self.now }
+    {
+        matches!(self, Tag::User(_) | Tag::Term(_) | Tag::Node(_))
+    }
+
+    /// The order of two tags of one kind, by what their texts differ in.
+    #[tactic(auto, using(crate::proofs::Ranks::tags_by_numbers, crate::proofs::Ranks::tags_by_names))]
+    fn order_of_parts(&self, other: &Tag) -> Ordering
+        requires { tag_rank self.now ≡ tag_rank other.now }
         ensures { result ≡ tag_cmp self.now other.now }
     {
-        self.written().as_slice().cmp(other.written().as_slice())
+        if self.is_numbered() {
+            order_of_decimals(self.number(), other.number())
+        } else {
+            self.name().cmp(other.name())
+        }
     }
 
     /// The text of the tag, held in place.
@@ -194,16 +208,10 @@ impl Ord for Tag {
 
     ghost matches_eq = { Prim.search (comparing, rules) };
 
-    #[tactic(auto, using(crate::proofs::Ranks::tags_by_rank, crate::proofs::Ranks::same_bytes))]
+    #[tactic(auto, using(crate::proofs::Ranks::tags_by_rank))]
     fn cmp(&self, other: &Self) -> Ordering {
         match self.rank().cmp(&other.rank()) {
-            Ordering::Equal => {
-                if self.equals(other) {
-                    Ordering::Equal
-                } else {
-                    self.order_of_texts(other)
-                }
-            }
+            Ordering::Equal => self.order_of_parts(other),
             apart => apart,
         }
     }
