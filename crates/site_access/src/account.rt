@@ -2,8 +2,8 @@
 ghost use Rattle.std.specs.Prelude.{◌≡◌, IfOk, map, option_copied, if◌then◌else◌};
 ghost use Rattle.std.specs.List.{filter_map};
 ghost use Rattle.content_state.specs.Rows.{role_of};
-ghost use Rattle.content_state.specs.Viewer.{present_roles as roles_present, viewer_permissions, view_grants_of, may, bypass_node_access as bypass_text};
-ghost use Rattle.content_rows.specs.Permission.{has as is_held, grants_of as grants_by};
+ghost use Rattle.content_state.specs.Viewer.{present_roles as roles_present, viewer_permissions, view_grants_of, may};
+ghost use Rattle.content_rows.specs.Permission.{grants_of as grants_by};
 ghost use Rattle.content_rows.specs.declared.permission.ViewGrants.TheVariants as view_grants_are;
 ghost use Rattle.site_access.specs.Access.{owns};
 ghost use Rattle.site_access.specs.Account.{IsAccountOf, OnRows};
@@ -14,7 +14,7 @@ use content_rows::{Permissions, Role, User, ViewGrants};
 use content_state::{State, Viewer};
 use node_grants::grants_of;
 use std::alloc::{AllocError, Global};
-use user_roles::{has, permissions_of, role_names};
+use user_roles::{has, is_permitted, permissions_of, role_names};
 
 /// A viewer with what it is permitted and granted: made once, and asked about each thing that is to
 /// be shown or edited.
@@ -36,7 +36,8 @@ impl Account {
         let (user, _) = state.user(viewer.uid);
         let roles = present_roles(alloc, state, viewer)?;
         let permissions = permissions_of(alloc, viewer.uid, roles.as_slice())?;
-        let grants = grants_with(alloc, &permissions, user, roles.as_slice())?;
+        let bypasses = has(&permissions, permission::bypass_node_access());
+        let grants = grants_with(alloc, bypasses, user, roles.as_slice())?;
         Ok(Account {
             viewer: *viewer,
             permissions,
@@ -76,21 +77,25 @@ pub fn view_grants(alloc: Global, state: &State, viewer: &Viewer) -> Result<View
 {
     let (user, _) = state.user(viewer.uid);
     let roles = present_roles(alloc, state, viewer)?;
-    let held = permissions_of(alloc, viewer.uid, roles.as_slice())?;
-    grants_with(alloc, &held, user, roles.as_slice())
+    let bypasses = is_permitted(
+        viewer.uid,
+        roles.as_slice(),
+        permission::bypass_node_access(),
+    );
+    grants_with(alloc, bypasses, user, roles.as_slice())
 }
 
-/// The grants by which one with these permissions, this row, if there is one, and these roles may
-/// view nodes. `Err` only where memory is wanting.
+/// The grants by which one with this row, if there is one, and these roles may view nodes: all, where
+/// access to nodes is bypassed. `Err` only where memory is wanting.
 fn grants_with(
     alloc: Global,
-    held: &Permissions,
+    bypasses: bool,
     user: Option<&User>,
     roles: &[&Role],
 ) -> Result<ViewGrants, AllocError>
-    ensures { IfOk result (λ grants. grants ≡ (if is_held held.now bypass_text then view_grants_are.All else view_grants_are.These (grants_by (option_copied user.entry) (map (λ role. role.now) roles.now)))) }
+    ensures { IfOk result (λ grants. grants ≡ (if bypasses then view_grants_are.All else view_grants_are.These (grants_by (option_copied user.entry) (map (λ role. role.now) roles.now)))) }
 {
-    if has(held, permission::bypass_node_access()) {
+    if bypasses {
         return Ok(ViewGrants::All);
     }
     Ok(ViewGrants::These(grants_of(alloc, user, roles)?))

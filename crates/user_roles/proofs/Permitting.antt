@@ -1,5 +1,5 @@
 -- A permission is held exactly where one of the roles permits it.
-use Rattle.std.proofs.Common.{◌≡◌, ◌∙◌, ℕ, List, [], ◌∷◌, Bool, true, false, ◌||◌, ◌==◌, refl, ap, sym, if◌then◌else◌}
+use Rattle.std.proofs.Common.{◌≡◌, ◌∙◌, ℕ, List, [], ◌∷◌, Bool, true, false, ◌||◌, ◌==◌, map, refl, ap, sym, if◌then◌else◌}
 use Rattle.std.specs.List.{list_any, flat_map, fold}
 use Rattle.std.specs.Ordering.{match_ordering, nat_cmp}
 use Rattle.std.specs.declared.cmp.Ordering.{Ordering}
@@ -88,3 +88,9 @@ held_where_permitted uid roles permission =
     let test = λ (p : List ℕ). bytes_eq p permission in
     given (uid == 1) (list_any (λ (r : Role). r.admin) roles) (text_set listed) permission (list_any test listed) (any-text_set test listed)
     ∙ ap (λ b. (uid == 1) || b) (any-roles permission roles)
+
+-- ---- roles behind references
+
+pub list_any-map : {A B : Type 0} (p : B → Bool) (f : A → B) (xs : List A) → list_any (λ x. p (f x)) xs ≡ list_any p (map f xs)
+list_any-map p f [] = refl
+list_any-map p f (x ∷ xs) = ap (λ b. p (f x) || b) (list_any-map p f xs)

@@ -10,5 +10,5 @@ mod sorted;
 
 pub use csrf::csrf_of;
 pub use names::role_names;
-pub use permission::{has, permissions_of};
+pub use permission::{has, is_permitted, permissions_of};
 pub use session::session_live;

@@ -3,7 +3,7 @@ ghost use Rattle.std.specs.Prelude.{◌≡◌, ℕ, List, IfOk, map};
 ghost use Rattle.std.specs.List.{flat_map, list_any};
 ghost use Rattle.std.specs.Str.{bytes_eq};
 ghost use Rattle.content_rows.specs.Permission.{permissions_of as permissions_by, has as is_held, text_set};
-ghost use Rattle.user_roles.specs.Permitted.{is_permitted};
+ghost use Rattle.user_roles.specs.Permitted.{is_permitted, permits};
 
 use crate::sorted::{add_all, listed};
 use content_rows::{Items, Permissions, Role, Text};
@@ -44,6 +44,35 @@ fn texts_of(alloc: Global, roles: &[&Role]) -> Result<Items<Text>, AllocError>
         add_all(alloc, &mut texts, role.permissions.as_slice())?;
     }
     listed(alloc, texts)
+}
+
+/// Whether a user of these roles, the present ones, holds a permission: what `permissions_of` would say, which gathers all of them.
+/// <https://www.drupal.org/docs/user_guide/en/user-concept.html>
+#[tactic(auto, using(crate::proofs::Permitting::held_where_permitted))]
+pub fn is_permitted(uid: u32, roles: &[&Role], permission: &[u8]) -> bool
+    ensures by_roles { result ≡ is_permitted uid (map (λ role. role.now) roles.now) permission.now }
+    ensures held { result ≡ is_held (permissions_by uid (map (λ role. role.now) roles.now)) permission.now }
+{
+    uid == 1 || is_any_permitting(roles, permission)
+}
+
+/// Whether one of the roles permits it.
+fn is_any_permitting(roles: &[&Role], permission: &[u8]) -> bool
+    ensures { result ≡ list_any (permits permission.now) (map (λ role. role.now) roles.now) }
+{
+    'roles: for role in roles {
+        if permits(role, permission) {
+            return true;
+        }
+    }
+    false
+}
+
+/// Whether a role permits it: it is marked admin, or it lists the permission.
+fn permits(role: &Role, permission: &[u8]) -> bool
+    ensures { result ≡ permits permission.now role.now }
+{
+    role.admin || is_among(permission, role.permissions.as_slice())
 }
 
 /// Whether a permission is held.
