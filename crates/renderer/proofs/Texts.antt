@@ -1,11 +1,8 @@
 -- Texts of pieces whose places are filled, and the lines of libraries.
 use Rattle.std.proofs.Common.{ℕ, zero, suc, List, [], ◌∷◌, ◌++◌, ◌≡◌, refl, sym, ◌∙◌, ap, subst, append_assoc, arith, Bool, true, false, Contains}
 use Rattle.std.specs.List.{flat_map, list_any}
-use Rattle.std.specs.Arc.{arc_value}
 use Rattle.std.specs.Prelude.{◌||◌, if◌then◌else◌}
-use Rattle.html_out.specs.declared.part.Segment.{Segment}
-use Rattle.html_out.specs.declared.part.Segment.TheVariants.{Bytes as Shared, Hole as OpenHole}
-use Rattle.html_out.specs.Segment.{part_of, parts_of}
+use Rattle.html_out.specs.Part.{Part, Text, Hole as Open}
 use Rattle.content_state.specs.declared.element.Hole.{Hole}
 use Rattle.content_state.specs.declared.element.Hole.TheVariants.{Meta, Fragment}
 use Rattle.content_state.specs.declared.element.Library.{Library}
@@ -13,7 +10,7 @@ use Rattle.content_state.specs.Plan.{Piece, bytes}
 use Rattle.content_state.specs.Places.{SameMembers}
 use Rattle.render_canvas.specs.Board.{pieces_of}
 use Rattle.render_array.specs.Shown.{meta_if, meta_line, meta_text, same_library, all_libraries, OnlyMeta, IsFilled}
-use Rattle.renderer.specs.Filled.{text_in}
+use Rattle.renderer.specs.Filled.{text_of}
 
 -- bytes before what is filled
 filled_after : (meta bs : List ℕ) (ps : List Piece) (text : List ℕ) → IsFilled meta ps text → IsFilled meta (bytes bs ++ ps) (bs ++ text)
@@ -24,19 +21,18 @@ only_after : (bs : List ℕ) (ps : List Piece) → OnlyMeta (bytes bs ++ ps) →
 only_after [] ps only = only
 only_after (b ∷ bs) ps only = only_after bs ps only
 
-filled_segments : (meta : List ℕ) (ss : List (Segment Hole)) → OnlyMeta (pieces_of (parts_of ss)) → IsFilled meta (pieces_of (parts_of ss)) (flat_map (λ s. text_in meta (part_of s)) ss)
-filled_segments meta [] only = refl
-filled_segments meta (Shared b ∷ ss) only =
-    filled_after meta (arc_value b) (pieces_of (parts_of ss)) (flat_map (λ s. text_in meta (part_of s)) ss)
-    (filled_segments meta ss (only_after (arc_value b) (pieces_of (parts_of ss)) only))
-filled_segments meta (OpenHole Meta ∷ ss) only = (flat_map (λ s. text_in meta (part_of s)) ss, refl, filled_segments meta ss only)
-filled_segments meta (OpenHole (Fragment f) ∷ ss) only = only
+-- parts are filled by their text, with the lines of the libraries at their place
+pub filled_by_text : (meta : List ℕ) (parts : List (Part Hole)) → OnlyMeta (pieces_of parts) → IsFilled meta (pieces_of parts) (text_of meta parts)
+filled_by_text meta [] only = refl
+filled_by_text meta (Text bs ∷ parts) only =
+    filled_after meta bs (pieces_of parts) (text_of meta parts) (filled_by_text meta parts (only_after bs (pieces_of parts) only))
+filled_by_text meta (Open Meta ∷ parts) only = (text_of meta parts, refl, filled_by_text meta parts only)
+filled_by_text meta (Open (Fragment f) ∷ parts) only = only
 
--- segments are filled by their bytes and the lines of the libraries
-pub filled_parts : (given meta : List ℕ) (ss : List (Segment Hole)) (text : List ℕ) → given ≡ meta → text ≡ flat_map (λ s. text_in given (part_of s)) ss → OnlyMeta (pieces_of (parts_of ss)) → IsFilled meta (pieces_of (parts_of ss)) text
-filled_parts given meta ss text m e only =
-    subst (λ n. IsFilled n (pieces_of (parts_of ss)) text) m
-    (subst (λ t. IsFilled given (pieces_of (parts_of ss)) t) (sym e) (filled_segments given ss only))
+pub filled_parts : (given meta : List ℕ) (parts : List (Part Hole)) (text : List ℕ) → given ≡ meta → text ≡ text_of given parts → OnlyMeta (pieces_of parts) → IsFilled meta (pieces_of parts) text
+filled_parts given meta parts text m e only =
+    subst (λ n. IsFilled n (pieces_of parts) text) m
+    (subst (λ t. IsFilled given (pieces_of parts) t) (sym e) (filled_by_text given parts only))
 
 -- lists of libraries with the same members have the same lines
 not_both : false ≡ true → ⊥

@@ -1,5 +1,6 @@
 -- Elements whose places are filled in, under way and done.
 use Rattle.std.specs.Prelude.{ℕ, suc, List, [], ◌++◌, ◌≡◌, ◌≤◌, ◌+◌, Option, Some, None, min, nat_le, sum_by, if◌then◌else◌}
+use Rattle.std.specs.List.{flat_map}
 use Rattle.cacheability.specs.InOrder.{HasBoth}
 use Rattle.html_out.specs.Part.{Part, Text, Hole as Open}
 use Rattle.content_state.specs.declared.element.Hole.{Hole}
@@ -73,3 +74,7 @@ abbrev pub text_in : List ℕ → Part Hole → List ℕ
 text_in meta (Text bytes) = bytes
 text_in meta (Open hole.Meta) = meta
 text_in meta (Open (hole.Fragment f)) = []
+
+-- the text of parts: what stands in their places, one after the other
+abbrev pub text_of : List ℕ → List (Part Hole) → List ℕ
+text_of meta parts = flat_map (text_in meta) parts

@@ -1,10 +1,10 @@
 //! The text of a page, and the lines of its libraries.
-ghost use Rattle.std.specs.Prelude.{◌≡◌, ◌++◌, IfOk, OnOk};
-ghost use Rattle.std.specs.List.{flat_map, list_any};
+ghost use Rattle.std.specs.Prelude.{◌≡◌, ◌++◌, IfOk, OnOk, length};
+ghost use Rattle.std.specs.List.{list_any};
 ghost use Rattle.html_out.specs.Segment.{part_of, parts_of};
 ghost use Rattle.render_canvas.specs.Board.{pieces_of};
 ghost use Rattle.render_array.specs.Shown.{library_name, place_of, same_library, meta_line, meta_if, meta_text, OnlyMeta, IsFilled};
-ghost use Rattle.renderer.specs.Filled.{text_in};
+ghost use Rattle.renderer.specs.Filled.{text_in, text_of};
 
 use content_state::{Hole, Library};
 use html_out::Segment;
@@ -23,42 +23,63 @@ pub fn assembled(
     with_meta(alloc, parts, meta.as_slice())
 }
 
-/// How many bytes the parts have, and these: so that the page is written into room that is made once.
-fn room_for(parts: &[Segment<Hole>], meta: &[u8]) -> usize {
-    let mut room = meta.len();
-    'parts: for part in parts {
-        if let Segment::Bytes(bytes) = part {
-            room = room.saturating_add(bytes.as_slice().len());
-        }
-    }
-    room
-}
-
-/// The bytes of parts, with these at the place of the libraries.
+/// The text of parts, with these bytes at the place of the libraries, in room that is made once.
 fn with_meta(alloc: Global, parts: &[Segment<Hole>], meta: &[u8]) -> Result<Vec<u8>, AllocError>
-    ensures { IfOk result (λ page. page.items ≡ flat_map (λ part. text_in meta.now (part_of part)) parts.now) }
+    ensures { IfOk result (λ page. page.items ≡ text_of meta.now (parts_of parts.now)) }
 {
-    let mut page = Vec::with_capacity(alloc, room_for(parts, meta))?;
-    for part in parts {
-        add_part(&mut page, part, meta)?;
-    }
+    let room = usize::try_from(text_len(parts, meta)).unwrap_or(usize::MAX);
+    let mut page = Vec::with_capacity(alloc, room)?;
+    add_text(&mut page, parts, meta)?;
     Ok(page)
 }
 
-/// Adds the bytes of a part.
-fn add_part(page: &mut Vec<u8>, part: &Segment<Hole>, meta: &[u8]) -> Result<(), AllocError>
-    ensures { OnOk result (page.new.items ≡ page.old.items ++ text_in meta.now (part_of part.now)) }
+/// How many bytes the text of parts has, with these at the place of the libraries.
+pub fn text_len(parts: &[Segment<Hole>], meta: &[u8]) -> u128
+    ensures { result ≡ length (text_of meta.now (parts_of parts.now)) }
+{
+    let mut total = 0;
+    for part in parts {
+        total += part_len(part, meta) as u128;
+    }
+    total
+}
+
+/// How many bytes stand in the place of a part.
+fn part_len(part: &Segment<Hole>, meta: &[u8]) -> usize
+    ensures { result ≡ length (text_in meta.now (part_of part.now)) }
 {
     match part {
-        Segment::Bytes(bytes) => page.extend_from_slice(bytes.as_slice()),
-        Segment::Hole(Hole::Meta) => page.extend_from_slice(meta),
+        Segment::Bytes(bytes) => bytes.len(),
+        Segment::Hole(Hole::Meta) => meta.len(),
+        Segment::Hole(Hole::Fragment(_)) => 0,
+    }
+}
+
+/// Adds the text of parts, with these bytes at the place of the libraries. Where no other place is open it is what the parts
+/// show. `Err` only where memory is wanting.
+pub fn add_text(out: &mut Vec<u8>, parts: &[Segment<Hole>], meta: &[u8]) -> Result<(), AllocError>
+    ensures { OnOk result (out.new.items ≡ out.old.items ++ text_of meta.now (parts_of parts.now)) }
+{
+    for part in parts {
+        add_part(out, part, meta)?;
+    }
+    Ok(())
+}
+
+/// Adds what stands in the place of a part.
+fn add_part(out: &mut Vec<u8>, part: &Segment<Hole>, meta: &[u8]) -> Result<(), AllocError>
+    ensures { OnOk result (out.new.items ≡ out.old.items ++ text_in meta.now (part_of part.now)) }
+{
+    match part {
+        Segment::Bytes(bytes) => out.extend_from_slice(bytes.as_slice()),
+        Segment::Hole(Hole::Meta) => out.extend_from_slice(meta),
         Segment::Hole(Hole::Fragment(_)) => Ok(()),
     }
 }
 
-/// The lines of the libraries that were attached, each once, in the order of their names.
+/// The lines of the libraries that were attached, each once, in the order of their names. `Err` only where memory is wanting.
 #[tactic(auto, unfolding(render_array::specs::Shown::meta_text))]
-fn meta_text(alloc: Global, attached: &[Library]) -> Result<Vec<u8>, AllocError>
+pub fn meta_text(alloc: Global, attached: &[Library]) -> Result<Vec<u8>, AllocError>
     ensures { IfOk result (λ text. text.items ≡ meta_text attached.now) }
 {
     let mut text = Vec::new(alloc);

@@ -7,7 +7,7 @@ mod filled;
 mod levels;
 mod page;
 
-pub use assembling::assembled;
+pub use assembling::{add_text, assembled, meta_text, text_len};
 pub use filled::{Filled, add_bytes, add_child, add_parts, fill, leave_open};
 pub use levels::element_level;
 pub use page::{Page, page_on};
