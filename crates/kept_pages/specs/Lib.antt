@@ -2,5 +2,6 @@ pub mod Houses
 pub mod Went
 pub mod Needed
 pub mod Joins
+pub mod Bodies
 pub mod Held
 pub mod Used

@@ -1,6 +1,7 @@
 //! Pages put together from what is kept: each part of a page is looked for, and where it isn't found it is built and kept.
 #![tactic(auto)]
 
+mod body;
 mod filling;
 mod frames;
 mod joining;
@@ -10,4 +11,5 @@ mod page;
 mod places;
 mod whole;
 
-pub use page::render_page;
+pub use body::Body;
+pub use page::{Page, render_page};

@@ -1,6 +1,5 @@
 //! The page of a request.
 ghost use Rattle.std.specs.Prelude.{◌≡◌, ◌≤◌, IfOk, IsTrue, None, min};
-ghost use Rattle.html_out.specs.Segment.{parts_of};
 ghost use Rattle.content_state.specs.Ask.{IsAsk};
 ghost use Rattle.content_state.specs.Viewer.{viewer_of as named_viewer};
 ghost use Rattle.cache_contexts.specs.Values.{visit_on};
@@ -10,19 +9,29 @@ ghost use Rattle.element_entries.specs.Keys.{visit};
 ghost use Rattle.site_house.specs.House.{Moves, Stays};
 ghost use Rattle.site_house.specs.Bins.{IsSeenIn};
 ghost use Rattle.kept_pages.specs.Houses.{Steady, Reads};
+ghost use Rattle.kept_pages.specs.Bodies.{parts_in, libraries_in, status_in};
 ghost use Rattle.kept_pages.specs.Joins.{MakesPage};
 ghost use Rattle.kept_pages.specs.Needed.{OfWhole, OfTarget, OfRequest};
 ghost use Rattle.kept_pages.specs.Held.{Shelves, IsTold, Tells};
 ghost use Rattle.kept_pages.specs.Used.{KeptAndUsed};
 
+use crate::body::{Body, Pieces, body_of};
 use crate::joining::{Child, Filled};
 use crate::whole::{some_target, whole_page};
-use content_state::{Ask, Hole, Library, State, Viewer};
+use content_state::{Ask, State, Viewer};
 use element_entries::Reader;
-use html_out::Segment;
-use renderer::{Page, assembled};
+use renderer::meta_text;
 use site_house::House;
 use std::alloc::{AllocError, Global};
+
+/// The page of a request: the status of its reply (RFC 9110, section 15), its body, and how many elements were built for
+/// it, up to the greatest u64.
+#[derive(Drop)]
+pub struct Page {
+    pub status: u16,
+    pub body: Body,
+    pub built: u64,
+}
 
 /// The page of a request on a state that the house has seen, for the viewer that its cookie names at the moment, in seconds
 /// since 1970. Its status is 200, or 403 where it may not be viewed, or 404 where its path leads nowhere. It is the page that
@@ -45,7 +54,7 @@ pub fn render_page<H: House>(
     requires right { IsAsk ask.now }
     ensures moves { Moves (H.sees house.old) (H.sees house.new) }
     ensures stays { Stays (H.sees house.old) (H.sees house.new) }
-    ensures page { IfOk result (λ p. IsPage state.now.rows ask.now now p.status p.body.items) }
+    ensures page { IfOk result (λ p. IsPage state.now.rows ask.now now p.status p.body) }
     ensures status { IfOk result (λ p. IsTrue (is_page_status p.status)) }
     ensures built { IfOk result (λ p. Tells (record { state = state.entry; viewer = viewer.entry; ask = ask.entry; moment = now }) (OfRequest (visit_on state.now viewer.now ask.now now)) (H.sees house.old) (H.sees house.new) 0 p.built) }
     ensures used { IfOk result (λ p. (shelves : Shelves) → IsTold (H.sees house.old) shelves → KeptAndUsed (record { state = state.entry; viewer = viewer.entry; ask = ask.entry; moment = now }) (OfRequest (visit_on state.now viewer.now ask.now now)) shelves (H.sees house.new) p.built) }
@@ -69,7 +78,7 @@ fn request_page<H: House>(
     requires reads { Reads (H.sees house.old) reader.now }
     requires viewer { reader.now.viewer.now ≡ named_viewer reader.now.state.now.rows reader.now.ask.now.cookie reader.now.moment }
     ensures steady { Steady (H.sees house.old) (H.sees house.new) }
-    ensures page { IfOk result (λ p. IsPage reader.now.state.now.rows reader.now.ask.now reader.now.moment p.status p.body.items) }
+    ensures page { IfOk result (λ p. IsPage reader.now.state.now.rows reader.now.ask.now reader.now.moment p.status p.body) }
     ensures status { IfOk result (λ p. IsTrue (is_page_status p.status)) }
     ensures told { IfOk result (λ p. Tells reader.now (OfRequest (visit reader.now)) (H.sees house.old) (H.sees house.new) 0 p.built) }
 {
@@ -89,19 +98,12 @@ fn shared_page<H: House>(
     requires nobody { reader.now.viewer.now.session ≡ None }
     requires viewer { reader.now.viewer.now ≡ named_viewer reader.now.state.now.rows reader.now.ask.now.cookie reader.now.moment }
     ensures steady { Steady (H.sees house.old) (H.sees house.new) }
-    ensures page { IfOk result (λ p. IsPage reader.now.state.now.rows reader.now.ask.now reader.now.moment p.status p.body.items) }
+    ensures page { IfOk result (λ p. IsPage reader.now.state.now.rows reader.now.ask.now reader.now.moment p.status p.body) }
     ensures status { IfOk result (λ p. IsTrue (is_page_status p.status)) }
     ensures told { IfOk result (λ p. Tells reader.now (OfTarget (visit reader.now)) (H.sees house.old) (H.sees house.new) 0 p.built) }
 {
     let Child { entry, built } = some_target(alloc, house, reader)?;
-    page_of(
-        alloc,
-        reader,
-        entry.segments.parts(),
-        entry.libraries.as_slice(),
-        entry.status,
-        built,
-    )
+    page_of(alloc, reader, Pieces::Kept(entry), built)
 }
 
 /// The page of a request for whoever has a session: nothing of the whole is kept.
@@ -109,41 +111,32 @@ fn own_page<H: House>(alloc: Global, house: &mut H, reader: &Reader<'_>) -> Resu
     requires reads { Reads (H.sees house.old) reader.now }
     requires viewer { reader.now.viewer.now ≡ named_viewer reader.now.state.now.rows reader.now.ask.now.cookie reader.now.moment }
     ensures steady { Steady (H.sees house.old) (H.sees house.new) }
-    ensures page { IfOk result (λ p. IsPage reader.now.state.now.rows reader.now.ask.now reader.now.moment p.status p.body.items) }
+    ensures page { IfOk result (λ p. IsPage reader.now.state.now.rows reader.now.ask.now reader.now.moment p.status p.body) }
     ensures status { IfOk result (λ p. IsTrue (is_page_status p.status)) }
     ensures told { IfOk result (λ p. Tells reader.now (OfWhole reader.now.ask.now.path (visit reader.now)) (H.sees house.old) (H.sees house.new) 0 p.built) }
 {
     let Filled { joined, built } = whole_page(alloc, house, reader)?;
-    page_of(
-        alloc,
-        reader,
-        joined.segments.parts(),
-        joined.libraries.as_slice(),
-        joined.status,
-        built,
-    )
+    page_of(alloc, reader, Pieces::Own(joined), built)
 }
 
-/// The page that a whole one gives: the lines of its libraries are put in their place last.
+/// The page that a whole one gives: the lines of its libraries are made last.
 fn page_of(
     alloc: Global,
     reader: &Reader<'_>,
-    parts: &[Segment<Hole>],
-    libraries: &[Library],
-    status: Option<u16>,
+    pieces: Pieces,
     built: u64,
 ) -> Result<Page, AllocError>
     requires viewer { reader.now.viewer.now ≡ named_viewer reader.now.state.now.rows reader.now.ask.now.cookie reader.now.moment }
-    requires makes { MakesPage (visit reader.now) status (pieces_of (parts_of parts.now)) libraries.now }
-    ensures page { IfOk result (λ p. IsPage reader.now.state.now.rows reader.now.ask.now reader.now.moment p.status p.body.items) }
+    requires makes { MakesPage (visit reader.now) (status_in pieces) (pieces_of (parts_in pieces)) (libraries_in pieces) }
+    ensures page { IfOk result (λ p. IsPage reader.now.state.now.rows reader.now.ask.now reader.now.moment p.status p.body) }
     ensures status { IfOk result (λ p. IsTrue (is_page_status p.status)) }
     ensures built { IfOk result (λ p. p.built ≡ built) }
 {
-    let body = assembled(alloc, parts, libraries)?;
-    match status {
+    let meta = meta_text(alloc, pieces.libraries())?;
+    match pieces.status() {
         Some(status) => Ok(Page {
             status,
-            body,
+            body: body_of(pieces, meta),
             built,
         }),
         None => unreachable!(),

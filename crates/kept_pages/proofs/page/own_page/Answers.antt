@@ -1,7 +1,6 @@
 use Rattle.element_entries.specs.Keys.{visit}
 use Rattle.std.proofs.lemmas.Result.{IfOk-weaker}
-use Rattle.std.proofs.Common.{sym, ap, subst}
-use Rattle.render_canvas.specs.Board.{pieces_of}
+use Rattle.std.proofs.Common.{sym, subst}
 use Rattle.kept_pages.specs.Needed.{OfWhole}
 use Rattle.kept_pages.specs.Held.{Tells}
 use Rattle.kept_pages.proofs.OfFrames.{made_page}
@@ -9,7 +8,7 @@ use Rattle.kept_pages.proofs.page.own_page.Goals as goal
 
 pub page_of-requires-clause-makes : goal.page_of-requires-clause-makes
 page_of-requires-clause-makes g c =
-    rw c.as_slice.ensures.value (made_page (visit c.args.reader.now) _ _ (sym (ap pieces_of c.parts.ensures)) c.in_ok-joined.ensures.whole)
+    made_page (visit c.args.reader.now) c.in_ok-joined.field-0.joined c.in_ok-joined.ensures.whole
 
 pub returns-clause-told : goal.returns-clause-told
 returns-clause-told g c =

@@ -1,0 +1,20 @@
+-- What a whole page shows and attaches, whether it is kept or not.
+use Rattle.std.specs.Prelude.{ℕ, List, Option}
+use Rattle.std.specs.Arc.{arc_value}
+use Rattle.html_out.specs.Part.{Part}
+use Rattle.content_state.specs.declared.element.Hole.{Hole}
+use Rattle.content_state.specs.declared.element.Library.{Library}
+use Rattle.kept_pages.specs.declared.body.Pieces.{Pieces}
+use Rattle.kept_pages.specs.declared.body.Pieces.TheVariants.{Kept, Own}
+
+abbrev pub parts_in : Pieces → List (Part Hole)
+parts_in (Kept entry) = (arc_value entry).segments
+parts_in (Own joined) = joined.segments
+
+abbrev pub libraries_in : Pieces → List Library
+libraries_in (Kept entry) = (arc_value entry).libraries
+libraries_in (Own joined) = joined.libraries.items
+
+abbrev pub status_in : Pieces → Option ℕ
+status_in (Kept entry) = (arc_value entry).status
+status_in (Own joined) = joined.status
