@@ -1,8 +1,10 @@
 //! A pass at work on its site.
 ghost use Rattle.std.specs.Prelude.{◌≡◌, ◌≤◌, ℕ};
 ghost use Rattle.site_turn.specs.Views.{IsRoom};
-ghost use Rattle.site_house.specs.Bins.{unkept_by};
-ghost use Rattle.site_turn.specs.Houses.{keepers_after};
+ghost use Rattle.site_house.specs.Bins.{unkept_by, KeepsUnder, MayBeKeptIn};
+ghost use Rattle.site_house.specs.House.{Moves, Stays};
+ghost use Rattle.site_turn.specs.Houses.{keepers_after, guest_of};
+ghost use Rattle.site_turn.specs.Turns.{Looks, counts_of_keep};
 
 use crate::pass::Pass;
 use crate::rules::Room;
@@ -97,7 +99,14 @@ impl<R: Wait, K: Keeper> House for Guest<'_, R, K> {
         self.pass.look(self.rt, alloc, self.room, bin, key)
     }
 
-    fn keep(&mut self, alloc: Global, bin: Bin, key: Key, kept: Kept) -> Result<(), AllocError> {
+    /// As each house keeps; and the tally of the pass rises by the answer, as that of the hall does in the turn that it is kept in.
+    fn keep(&mut self, alloc: Global, bin: Bin, key: Key, kept: Kept) -> Result<(), AllocError>
+        requires { MayBeKeptIn (guest_of self.old.pass.now self.old.pass.ghost_name self.old.keepers self.old.unkept) key kept }
+        ensures moves { Moves (guest_of self.old.pass.now self.old.pass.ghost_name self.old.keepers self.old.unkept) (guest_of self.new.pass.now self.new.pass.ghost_name self.new.keepers self.new.unkept) }
+        ensures stays { Stays (guest_of self.old.pass.now self.old.pass.ghost_name self.old.keepers self.old.unkept) (guest_of self.new.pass.now self.new.pass.ghost_name self.new.keepers self.new.unkept) }
+        ensures keeps { KeepsUnder (guest_of self.old.pass.now self.old.pass.ghost_name self.old.keepers self.old.unkept) (guest_of self.new.pass.now self.new.pass.ghost_name self.new.keepers self.new.unkept) bin key kept result }
+        ensures tallies { Looks (counts_of_keep result) self.old.pass.now.note self.new.pass.now.note }
+    {
         let answer = self.pass.keep(self.rt, alloc, self.room, bin, key, kept);
         self.unkept = unkept_after(self.unkept, &answer);
         answer
