@@ -1,9 +1,10 @@
 -- What was needed, and how many were built.
-use Rattle.std.proofs.Common.{ℕ, zero, suc, List, [], ◌∷◌, ◌++◌, ◌≡◌, ◌≤◌, ◌<◌, ◌+◌, min, Bool, true, false, refl, sym, ◌∙◌, ap, subst, arith, take, length, get_or, Option, Some, None, IfSome, inl, inr}
+use Rattle.std.proofs.Common.{ℕ, zero, suc, List, [], ◌∷◌, ◌++◌, ◌≡◌, ◌≤◌, ◌<◌, ◌+◌, min, Bool, true, false, refl, sym, ◌∙◌, ap, subst, arith, take, length, get_or, Option, Some, None, IfSome, option_map, inl, inr}
 use Rattle.std.specs.Arc.{arc_value}
 use Rattle.std.specs.declared.sync.Arc.{Arc}
 use Rattle.std.specs.declared.alloc.Global.{Global}
 use Rattle.std.specs.Prelude.{◌==◌}
+use Rattle.cacheability.specs.declared.context.Context.{Context}
 use Rattle.std.proofs.lemmas.Bool.Decides.{eqb_tells}
 use Rattle.std.proofs.lemmas.Grind.{take_at_read}
 use Rattle.html_out.specs.declared.part.Segment.{Segment}
@@ -30,7 +31,7 @@ use Rattle.kept_pages.specs.declared.joining.Begun.{Begun}
 use Rattle.kept_pages.specs.Joins.{Begins, StaysOpen}
 use Rattle.kept_pages.specs.Needed.{Visits, InPlaces, OfFragment, InFragment, OfPlace, either_shape, NeededBelow, stays_lazy, NeededInFrame, OfFrame, InHoles, OfWhole, OfTarget}
 use Rattle.kept_pages.specs.Went.{Went, Done, Found, Built, then_went, number_built, OfElement}
-use Rattle.kept_pages.specs.Held.{Shelves, IsTold, StaysKept, HeldBy, Held, SeenIn, Closes, Goes, Tells, BuiltUp}
+use Rattle.kept_pages.specs.Held.{Shelves, IsTold, StaysKept, HeldBy, Held, IsToldBy, SeenIn, Closes, Goes, Tells, BuiltUp}
 use Rattle.kept_pages.specs.declared.looking.Seen.{Seen}
 use Rattle.kept_pages.proofs.Shelves.{stays-refl, stays-then}
 use Rattle.element_entries.specs.declared.reader.Reader.{Reader}
@@ -91,16 +92,20 @@ pub stays_held : (r : Reader) (a b : Shelves) → StaysKept a b → (d : Bin) (x
 stays_held r a b stays d x (e, inl k) = (e, inl (record { there = (stays.things d).there _ k.there; fresh = k.fresh }))
 stays_held r a b stays d x (e, inr k) = (e, inr (record { contexts = k.contexts; redirect = (stays.things d).there _ k.redirect; second = record { there = (stays.things d).there _ k.second.there; fresh = k.second.fresh } }))
 
+told_back : (r : Reader) (a b : Shelves) → StaysKept a b → (d : Bin) (x : Subject) (told : Option (List Context)) → IsToldBy r b d x told → IsToldBy r a d x told
+told_back r a b stays d x None none = λ c h. none c ((stays.things d).there _ h)
+told_back r a b stays d x (Some c) alone = record { there = (stays.things d).back _ alone.there; only = λ other h. alone.only other ((stays.things d).there _ h) }
+
 goes_after : (r : Reader) (a b : Shelves) (t : Went) (c : Shelves) → StaysKept a b → Goes r b t c → Goes r a t c
 goes_after r a b Done c stays g = stays-then a b c stays g
 goes_after r a b (Found d x e rest) c stays (h, (mid, s, g)) = (stays_back r a b stays d x e h, (mid, stays-then a b mid stays s, g))
-goes_after r a b (Built d x e inner rest) c stays (h, (looked, filled, kept, s, g, closes, k)) =
-    ((λ held. h (stays_held r a b stays d x held)), (looked, filled, kept, stays-then a b looked stays s, g, closes, k))
+goes_after r a b (Built d x e inner rest) c stays (h, (told, looked, filled, kept, t, s, g, closes, k)) =
+    ((λ held. h (stays_held r a b stays d x held)), (told, looked, filled, kept, told_back r a b stays d x told t, stays-then a b looked stays s, g, closes, k))
 
 goes_then : (r : Reader) (a : Shelves) (t : Went) (b : Shelves) (u : Went) (c : Shelves) → Goes r a t b → Goes r b u c → Goes r a (then_went t u) c
 goes_then r a Done b u c g k = goes_after r a b u c g k
 goes_then r a (Found d x e rest) b u c (h, (mid, s, g)) k = (h, (mid, s, goes_then r mid rest b u c g k))
-goes_then r a (Built d x e inner rest) b u c (h, (looked, filled, kept, s, g, closes, l)) k = (h, (looked, filled, kept, s, g, closes, goes_then r kept rest b u c l k))
+goes_then r a (Built d x e inner rest) b u c (h, (told, looked, filled, kept, t, s, g, closes, l)) k = (h, (told, looked, filled, kept, t, s, g, closes, goes_then r kept rest b u c l k))
 
 -- ---- what is told
 
@@ -138,13 +143,13 @@ tells_child r Shape house house' child old new is t = record {
 }
 
 -- what was built of what this needed, and offered, where so many were built at first
-pub built_up : (r : Reader) (Inner : Went → Type 0) (b : Bin) (s : Subject) (e : Entry) (old mid new : HouseView) (first built built' : ℕ) → first ≡ min first 18446744073709551615 → ((t : Went) → first + number_built t ≡ number_built (Built b s e t Done)) → built' ≡ built → Tells r Inner old mid first built
-    → ((shelves : Shelves) → IsTold mid shelves → Closes r shelves b s e new) → BuiltUp r Inner b s e old new built'
-built_up r Inner b s e old mid new first built built' within counts same t closes = record {
+pub built_up : (r : Reader) (Inner : Went → Type 0) (b : Bin) (s : Subject) (told : Option (List Context)) (e : Entry) (old mid new : HouseView) (first built built' : ℕ) → first ≡ min first 18446744073709551615 → ((t : Went) → first + number_built t ≡ number_built (Built b s e t Done)) → built' ≡ built → Tells r Inner old mid first built
+    → ((shelves : Shelves) → IsTold mid shelves → Closes r shelves b s told e new) → BuiltUp r Inner b s told e old new built'
+built_up r Inner b s told e old mid new first built built' within counts same t closes = record {
   inner = t.tree;
   of_places = t.shape;
   counted = same ∙ t.counted first within ∙ ap (λ n. min n 18446744073709551615) (counts t.tree);
-  goes = λ shelves told. let g = t.goes shelves told in record { filled = g.after; goes = g.goes; closes = closes g.after g.is };
+  goes = λ shelves is. let g = t.goes shelves is in record { filled = g.after; goes = g.goes; closes = closes g.after g.is };
 }
 
 -- the page itself is counted, and so is a fragment; that the whole page was put together is not
@@ -158,20 +163,33 @@ pub counts_target : (s : Subject) (e : Entry) (t : Went) → 0 + number_built t 
 counts_target s e t = omega arith
 
 -- what wasn't found
-pub tells_built : (r : Reader) (Inner : Went → Type 0) (b : Bin) (s : Subject) (e : Entry) (seen : Seen) (old mid new : HouseView) (built : ℕ) → seen.entry ≡ None
+pub tells_built : (r : Reader) (Inner : Went → Type 0) (b : Bin) (s : Subject) (e : Entry) (seen : Seen) (told : Option (List Context)) (old mid new : HouseView) (built : ℕ) → seen.entry ≡ None → told ≡ option_map arc_value seen.told
     → ((shelves : Shelves) → IsTold old shelves → SeenIn r shelves b s seen mid)
-    → BuiltUp r Inner b s e mid new built → Tells r (OfElement Inner b s e) old new 0 built
-tells_built r Inner b s e seen old mid new built none looked t = record {
+    → BuiltUp r Inner b s told e mid new built → Tells r (OfElement Inner b s e) old new 0 built
+tells_built r Inner b s e seen told old mid new built none same looked t = record {
   tree = Built b s e t.inner Done;
   shape = inr (record { inner = t.inner; of_places = t.of_places; is = refl });
   counted = λ count is. one_more built count (number_built (Built b s e t.inner Done)) is t.counted;
-  goes = λ shelves told.
-      let l = looked shelves told in
+  goes = λ shelves is.
+      let l = looked shelves is in
       let g = t.goes l.after l.is in
       record {
         after = g.closes.after;
         is = g.closes.is;
-        goes = (l.not_held none, (l.after, g.filled, g.closes.after, l.stays, g.goes, record { rises = g.closes.rises; either = g.closes.either }, stays-refl g.closes.after));
+        goes = (
+          l.not_held none,
+          (
+            told,
+            l.after,
+            g.filled,
+            g.closes.after,
+            subst (IsToldBy r shelves b s) (sym same) l.told,
+            l.stays,
+            g.goes,
+            record { rises = g.closes.rises; either = g.closes.either },
+            stays-refl g.closes.after,
+          ),
+        );
       };
 }
 

@@ -1,5 +1,5 @@
 -- What a look and a keep do to what is kept.
-use Rattle.std.proofs.Common.{ℕ, List, [], ◌∷◌, ◌++◌, ◌≡◌, ◌≤◌, ◌<◌, ◌⊎◌, min, inl, inr, refl, sym, ◌∙◌, ap, subst, arith, Contains, Option, Some, None, IfSome, OnOk, Result, Ok, Err}
+use Rattle.std.proofs.Common.{ℕ, List, [], ◌∷◌, ◌++◌, ◌≡◌, ◌≤◌, ◌<◌, ◌⊎◌, min, inl, inr, refl, sym, ◌∙◌, ap, subst, arith, Contains, Option, Some, None, IfSome, IsSomeAnd, MatchOption, option_copied, option_map, OnOk, Result, Ok, Err, Bor}
 use Rattle.std.proofs.lemmas.List.Elements.{All-head, All-tail}
 use Rattle.std.specs.Arc.{arc_value}
 use Rattle.std.specs.declared.sync.Arc.{Arc}
@@ -20,12 +20,12 @@ use Rattle.cache_entries.specs.declared.kept.Kept.{Kept as Offer}
 use Rattle.cache_entries.specs.Entries.{IsFresh}
 use Rattle.fragment_cache.specs.Bins.{Bins, Shelf, Thing, Whole, Towards, shelf_of, with_shelf, thing_of, thing_found, IsAbsent, MovesUp, LooksIn, Replaces, KeepsAt}
 use Rattle.element_entries.specs.declared.reader.Reader.{Reader}
-use Rattle.element_entries.specs.Keeping.{MayKeep}
+use Rattle.element_entries.specs.Keeping.{MayKeep, second_contexts}
 use Rattle.element_entries.specs.Keys.{visit, required, key_by}
 use Rattle.site_house.specs.House.{HouseView}
 use Rattle.site_house.specs.Bins.{LooksAt, LooksUp, KeepsUnder, KeepsAt as KeepsInHouse, unkept_by}
 use Rattle.kept_pages.specs.declared.looking.Seen.{Seen}
-use Rattle.kept_pages.specs.Held.{Shelves, IsTold, things_in, NothingLost, Rises, StaysKept, StandsFresh, HeldBy, Held, StandsAlone, SeenOnce, SeenIn, Landed, Puts, IsHeldBy, Offers, Closes}
+use Rattle.kept_pages.specs.Held.{Shelves, IsTold, things_in, NothingLost, Rises, StaysKept, StandsFresh, HeldBy, Held, StandsAlone, SeenOnce, SeenIn, Landed, Puts, StandsBy, IsHeldBy, Offers, Closes}
 
 pub stays-refl : (s : Shelves) → StaysKept s s
 stays-refl s = record { things = λ b. same_refl (things_in s b); dropped = refl; unkept = refl }
@@ -196,6 +196,7 @@ module _ (r : Reader) (old : Shelves) (b : Bin) (s : Subject) where
         stays = t.stays;
         held = held_of seen.entry t.here;
         not_held = λ e h. not_of t e h;
+        told = λ c h. t.not_towards none c h;
       }
     where
       held_of : (o : Option (Arc Entry Global)) → IfSome o (λ e. StandsFresh r (things_in old b) first_key (arc_value e)) → IfSome o (λ e. HeldBy r old b s (arc_value e))
@@ -212,14 +213,15 @@ module _ (r : Reader) (old : Shelves) (b : Bin) (s : Subject) where
   whole_towards : (x : Entry) (y : List Context) → Whole x ≡ Towards y → ⊥
   whole_towards x y e = cc
 
-  pub seen_second : (mid : Shelves) (contexts : List Context) (two : Seen) (told : Option (Arc (List Context) Global)) (new : HouseView) → StaysKept old mid → StandsAlone (things_in old b) first_key contexts
-      → SeenOnce r mid b (key_by (visit r) s contexts) two new → SeenIn r old b s (record { entry = two.entry; told = told }) new
-  seen_second mid contexts two told new stays alone u = record {
+  pub seen_second : (mid : Shelves) (contexts : List Context) (two : Seen) (told : Arc (List Context) Global) (new : HouseView) → arc_value told ≡ contexts → StaysKept old mid → StandsAlone (things_in old b) first_key contexts
+      → SeenOnce r mid b (key_by (visit r) s contexts) two new → SeenIn r old b s (record { entry = two.entry; told = Some told }) new
+  seen_second mid contexts two told new same stays alone u = record {
     after = u.after;
     is = u.is;
     stays = stays-then old mid u.after stays u.stays;
     held = held_of two.entry u.here;
     not_held = λ e h. not_of e h;
+    told = subst (λ c. StandsAlone (things_in old b) first_key c) (sym same) alone;
   }
     where
       held_of : (o : Option (Arc Entry Global)) → IfSome o (λ e. StandsFresh r (things_in mid b) (key_by (visit r) s contexts) (arc_value e)) → IfSome o (λ e. HeldBy r old b s (arc_value e))
@@ -229,18 +231,18 @@ module _ (r : Reader) (old : Shelves) (b : Bin) (s : Subject) where
       not_of : two.entry ≡ None → Held r old b s → ⊥
       not_of e (x, inl h) = whole_towards x contexts (alone.only (Whole x) h.there)
       not_of e (x, inr h) =
-          let same = towards_is h.contexts contexts (alone.only (Towards h.contexts) h.redirect) in
+          let those = towards_is h.contexts contexts (alone.only (Towards h.contexts) h.redirect) in
           u.not_here e x (record {
-            there = (stays.things b).there _ (subst (λ cs. Contains (things_in old b) (key_by (visit r) s cs, Whole x)) same h.second.there);
+            there = (stays.things b).there _ (subst (λ cs. Contains (things_in old b) (key_by (visit r) s cs, Whole x)) those h.second.there);
             fresh = h.second.fresh;
           })
 
-  pub seen_both : (first second : Key) (one two : Seen) (contexts : Arc (List Context) Global) (told : Option (Arc (List Context) Global)) (mid new : HouseView)
+  pub seen_both : (first second : Key) (one two : Seen) (contexts : Arc (List Context) Global) (mid new : HouseView)
       → first ≡ first_key → (o : SeenOnce r old b first one mid) → one.told ≡ Some contexts
       → second ≡ key_by (visit r) s (arc_value contexts) → SeenOnce r o.after b second two new
-      → SeenIn r old b s (record { entry = two.entry; told = told }) new
-  seen_both first second one two contexts told mid new is o some is2 t =
-      seen_second o.after (arc_value contexts) two told new o.stays
+      → SeenIn r old b s (record { entry = two.entry; told = Some contexts }) new
+  seen_both first second one two contexts mid new is o some is2 t =
+      seen_second o.after (arc_value contexts) two contexts new refl o.stays
       (subst (λ k. StandsAlone (things_in old b) k (arc_value contexts)) is
       (subst (λ (x : Option (Arc (List Context) Global)). IfSome x (λ c. StandsAlone (things_in old b) first (arc_value c))) some o.towards))
       (subst (λ k. SeenOnce r o.after b k two new) is2 t)
@@ -349,43 +351,62 @@ put_told house new b key key' kept thing result keeps is same old told =
     (keeps.unkept ∙ ap (unkept_by result) told.unkept)))
 
 -- ---- one entry is offered
+
+-- what stands so is held
+pub stands_held : (r : Reader) (shelves : Shelves) (b : Bin) (s : Subject) (second : Option (List Context)) (e : Entry) → StandsBy r (things_in shelves b) s second e → HeldBy r shelves b s e
+stands_held r shelves b s None e h = inl h
+stands_held r shelves b s (Some contexts) e (h, inl redirect) = inr (record { contexts = contexts; redirect = redirect; second = h })
+stands_held r shelves b s (Some contexts) e (h, inr same) = inl (subst (λ k. StandsFresh r (things_in shelves b) k e) (sym same) h)
+
+-- contexts that are lent are the same
+pub lent : (o : Option (Arc (List Context) Global)) (given : Option (Bor (List Context))) → MatchOption o (given ≡ None) (λ x. IsSomeAnd given (λ y. y.now ≡ arc_value x)) → option_copied given ≡ option_map arc_value o
+lent None given same = ap option_copied same
+lent (Some x) None h = absurd h
+lent (Some x) (Some y) h = ap Some h
+
+-- the contexts of a second key, if there is one
+pub no_second : (o : Option (Arc (List Context) Global)) (second : Option (List Context)) → o ≡ None → option_map arc_value o ≡ second → second ≡ None
+no_second o second is same = sym same ∙ ap (option_map arc_value) is
+
+pub one_second : (o : Option (Arc (List Context) Global)) (second : Option (List Context)) (x : Arc (List Context) Global) → o ≡ Some x → option_map arc_value o ≡ second → second ≡ Some (arc_value x)
+one_second o second x is same = sym same ∙ ap (option_map arc_value) is
+
 module _ (r : Reader) (old : Shelves) (b : Bin) (s : Subject) (e : Entry) (fresh : IsFresh r.state.now r.viewer.now r.ask.now r.moment e) where
-  pub offered_first : (new : HouseView) → Puts old b (key_by (visit r) s required) (Whole e) new → Offers r old b s e new
-  offered_first new p = record {
+  pub offered_first : (told : Option (List Context)) (new : HouseView) → second_contexts told e.cacheability.contexts ≡ None → Puts old b (key_by (visit r) s required) (Whole e) new → Offers r old b s told e new
+  offered_first told new is p = record {
     after = p.after;
     is = p.is;
     rises = p.rises;
     kept = λ none. record {
-      held = inl (record { there = (p.landed none).there; fresh = fresh });
+      held = subst (λ (second : Option (List Context)). StandsBy r (things_in p.after b) s second e) (sym is) (record { there = (p.landed none).there; fresh = fresh });
       others = λ c x h. elim ((p.landed none).others c x h) [ inl a ↦ inl a | inr k ↦ inr (k.0, ap (λ (y : Key). y.subject) k.1) ];
     };
   }
 
-  pub offered_second : (contexts : List Context) (mid new : HouseView) → (p : Puts old b (key_by (visit r) s required) (Towards contexts) mid) → Puts p.after b (key_by (visit r) s contexts) (Whole e) new → Offers r old b s e new
-  offered_second contexts mid new p q = record {
+  pub offered_second : (told : Option (List Context)) (contexts : List Context) (mid new : HouseView) → second_contexts told e.cacheability.contexts ≡ Some contexts
+      → (p : Puts old b (key_by (visit r) s required) (Towards contexts) mid) → Puts p.after b (key_by (visit r) s contexts) (Whole e) new → Offers r old b s told e new
+  offered_second told contexts mid new is p q = record {
     after = q.after;
     is = q.is;
     rises = rises-then old p.after q.after p.rises q.rises;
     kept = λ none. go (p.landed (lost_first old p.after q.after p.rises q.rises none)) (q.landed (lost_then old p.after q.after p.rises q.rises none));
   }
     where
-      go : Landed old b (key_by (visit r) s required) (Towards contexts) p.after → Landed p.after b (key_by (visit r) s contexts) (Whole e) q.after → IsHeldBy r old b s e q.after
+      go : Landed old b (key_by (visit r) s required) (Towards contexts) p.after → Landed p.after b (key_by (visit r) s contexts) (Whole e) q.after → IsHeldBy r old b s told e q.after
       go l m = record {
-        held = elim (m.others b _ l.there) [
-          | inl a ↦ inr (record { contexts = contexts; redirect = a; second = record { there = m.there; fresh = fresh } })
-          | inr k ↦ inl (record { there = subst (λ x. Contains (things_in q.after b) (x, Whole e)) (sym k.1) m.there; fresh = fresh })
-        ];
+        held = subst (λ (second : Option (List Context)). StandsBy r (things_in q.after b) s second e) (sym is)
+            (record { there = m.there; fresh = fresh }, elim (m.others b _ l.there) [ inl a ↦ inl a | inr k ↦ inr k.1 ]);
         others = λ c x h. elim (l.others c x h) [
           | inl a ↦ elim (m.others c x a) [ inl d ↦ inl d | inr k ↦ inr (k.0, ap (λ (y : Key). y.subject) k.1) ]
           | inr k ↦ inr (k.0, ap (λ (y : Key). y.subject) k.1)
         ];
       }
 
-pub closes_may : (r : Reader) (old : Shelves) (b : Bin) (s : Subject) (e : Entry) (new : HouseView) → MayKeep b e.cacheability → Offers r old b s e new → Closes r old b s e new
-closes_may r old b s e new may o = record { after = o.after; is = o.is; rises = o.rises; either = inl (may, o.kept) }
+pub closes_may : (r : Reader) (old : Shelves) (b : Bin) (s : Subject) (told : Option (List Context)) (e : Entry) (new : HouseView) → MayKeep b e.cacheability → Offers r old b s told e new → Closes r old b s told e new
+closes_may r old b s told e new may o = record { after = o.after; is = o.is; rises = o.rises; either = inl (may, o.kept) }
 
-pub closes_not : (r : Reader) (old : Shelves) (b : Bin) (s : Subject) (e : Entry) (new : HouseView) → (MayKeep b e.cacheability → ⊥) → IsTold new old → Closes r old b s e new
-closes_not r old b s e new may_not told = record { after = old; is = told; rises = rises-refl old; either = inr (may_not, stays-refl old) }
+pub closes_not : (r : Reader) (old : Shelves) (b : Bin) (s : Subject) (told : Option (List Context)) (e : Entry) (new : HouseView) → (MayKeep b e.cacheability → ⊥) → IsTold new old → Closes r old b s told e new
+closes_not r old b s told e new may_not is = record { after = old; is = is; rises = rises-refl old; either = inr (may_not, stays-refl old) }
 
 -- ---- what holds of a call that ends well
 pub on_ok_map : {A E P Q : Type 0} (r : Result A E) → OnOk r P → (P → Q) → OnOk r Q

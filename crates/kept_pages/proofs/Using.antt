@@ -1,16 +1,17 @@
 -- What is kept is used, and what may be kept is.
-use Rattle.std.proofs.Common.{ℕ, ◌≡◌, inl, inr, refl, sym, subst, arith}
+use Rattle.std.proofs.Common.{ℕ, List, Option, ◌≡◌, inl, inr, refl, sym, subst, arith}
+use Rattle.cacheability.specs.declared.context.Context.{Context}
 use Rattle.cache_entries.specs.declared.entry.Entry.{Entry}
 use Rattle.cache_entries.specs.declared.key.Subject.{Subject}
 use Rattle.cache_entries.specs.declared.kept.Bin.{Bin}
 use Rattle.element_entries.specs.declared.reader.Reader.{Reader}
-use Rattle.element_entries.specs.Keeping.{MayKeep}
+use Rattle.element_entries.specs.Keeping.{MayKeep, second_contexts}
 use Rattle.site_house.specs.House.{HouseView}
 use Rattle.kept_pages.specs.Held.{Shelves, IsTold, NothingLost, Rises, StaysKept, HeldBy, Held, IsHeldBy, ClosesTo, Goes, Tells}
 use Rattle.kept_pages.specs.Went.{Went, Done, Found, Built}
 use Rattle.kept_pages.specs.Used.{AllHeld, JustHeld, RestIsBuilt, KeptAndUsed}
 use Rattle.kept_pages.proofs.Counting.{stays_back, stays_held}
-use Rattle.kept_pages.proofs.Shelves.{rises-then, lost_first, lost_then}
+use Rattle.kept_pages.proofs.Shelves.{rises-then, lost_first, lost_then, stands_held}
 
 stays_rises : (a b : Shelves) → StaysKept a b → Rises a b
 stays_rises a b stays = let d = stays.dropped in let u = stays.unkept in record { dropped = omega arith; unkept = omega arith }
@@ -18,7 +19,7 @@ stays_rises a b stays = let d = stays.dropped in let u = stays.unkept in record 
 goes_rises : (r : Reader) (old : Shelves) (t : Went) (new : Shelves) → Goes r old t new → Rises old new
 goes_rises r old Done new g = stays_rises old new g
 goes_rises r old (Found b s e rest) new (h, (mid, stays, g)) = rises-then old mid new (stays_rises old mid stays) (goes_rises r mid rest new g)
-goes_rises r old (Built b s e inner rest) new (h, (looked, filled, kept, stays, g, closes, k)) =
+goes_rises r old (Built b s e inner rest) new (h, (told, looked, filled, kept, t, stays, g, closes, k)) =
     rises-then old looked new (stays_rises old looked stays)
     (rises-then looked filled new (goes_rises r looked inner filled g)
     (rises-then filled kept new closes.rises (goes_rises r kept rest new k)))
@@ -44,28 +45,31 @@ one_of : (r : Reader) (new : Shelves) (b c : Bin) (s x : Subject) (e : Entry) �
 one_of r new b c s x e held is =
     subst (λ y. Held r new c y) (sym is.1) (subst (λ d. Held r new d s) (sym is.0) (e, held))
 
-kept_held : (r : Reader) (old new : Shelves) (b : Bin) (s : Subject) (e : Entry) → IsHeldBy r old b s e new → (c : Bin) (x : Subject) → Held r old c x → Held r new c x
-kept_held r old new b s e kept c x (f, inl h) = elim (kept.others c _ h.there) [
+held_of : (r : Reader) (old new : Shelves) (b : Bin) (s : Subject) (told : Option (List Context)) (e : Entry) → IsHeldBy r old b s told e new → HeldBy r new b s e
+held_of r old new b s told e kept = stands_held r new b s (second_contexts told e.cacheability.contexts) e kept.held
+
+kept_held : (r : Reader) (old new : Shelves) (b : Bin) (s : Subject) (told : Option (List Context)) (e : Entry) → IsHeldBy r old b s told e new → (c : Bin) (x : Subject) → Held r old c x → Held r new c x
+kept_held r old new b s told e kept c x (f, inl h) = elim (kept.others c _ h.there) [
   | inl there ↦ (f, inl (record { there = there; fresh = h.fresh }))
-  | inr is ↦ one_of r new b c s x e kept.held is
+  | inr is ↦ one_of r new b c s x e (held_of r old new b s told e kept) is
 ]
-kept_held r old new b s e kept c x (f, inr h) = elim (kept.others c _ h.redirect) [
+kept_held r old new b s told e kept c x (f, inr h) = elim (kept.others c _ h.redirect) [
   | inl redirect ↦ elim (kept.others c _ h.second.there) [
     | inl there ↦ (f, inr (record { contexts = h.contexts; redirect = redirect; second = record { there = there; fresh = h.second.fresh } }))
-    | inr is ↦ one_of r new b c s x e kept.held is
+    | inr is ↦ one_of r new b c s x e (held_of r old new b s told e kept) is
   ]
-  | inr is ↦ one_of r new b c s x e kept.held is
+  | inr is ↦ one_of r new b c s x e (held_of r old new b s told e kept) is
 ]
 
-closes_held : (r : Reader) (old : Shelves) (b : Bin) (s : Subject) (e : Entry) (new : Shelves) → ClosesTo r old b s e new → NothingLost old new → (c : Bin) (x : Subject) → Held r old c x → Held r new c x
-closes_held r old b s e new closes none c x held = elim closes.either [
-  | inl m ↦ kept_held r old new b s e (m.1 none) c x held
+closes_held : (r : Reader) (old : Shelves) (b : Bin) (s : Subject) (told : Option (List Context)) (e : Entry) (new : Shelves) → ClosesTo r old b s told e new → NothingLost old new → (c : Bin) (x : Subject) → Held r old c x → Held r new c x
+closes_held r old b s told e new closes none c x held = elim closes.either [
+  | inl m ↦ kept_held r old new b s told e (m.1 none) c x held
   | inr n ↦ stays_held r old new n.1 c x held
 ]
 
-closed_held : (r : Reader) (old : Shelves) (b : Bin) (s : Subject) (e : Entry) (new : Shelves) → ClosesTo r old b s e new → NothingLost old new → MayKeep b e.cacheability → Held r new b s
-closed_held r old b s e new closes none may = elim closes.either [
-  | inl m ↦ (e, (m.1 none).held)
+closed_held : (r : Reader) (old : Shelves) (b : Bin) (s : Subject) (told : Option (List Context)) (e : Entry) (new : Shelves) → ClosesTo r old b s told e new → NothingLost old new → MayKeep b e.cacheability → Held r new b s
+closed_held r old b s told e new closes none may = elim closes.either [
+  | inl m ↦ (e, held_of r old new b s told e (m.1 none))
   | inr n ↦ absurd (n.0 may)
 ]
 
@@ -73,10 +77,10 @@ goes_held : (r : Reader) (old : Shelves) (t : Went) (new : Shelves) → Goes r o
 goes_held r old Done new g none c x held = stays_held r old new g c x held
 goes_held r old (Found b s e rest) new (h, (mid, stays, g)) none c x held =
     goes_held r mid rest new g (lost_then old mid new (stays_rises old mid stays) (goes_rises r mid rest new g) none) c x (stays_held r old mid stays c x held)
-goes_held r old (Built b s e inner rest) new (h, (looked, filled, kept, stays, g, closes, k)) none c x held =
+goes_held r old (Built b s e inner rest) new (h, (told, looked, filled, kept, t, stays, g, closes, k)) none c x held =
     let n = unlost r old looked filled kept new (stays_rises old looked stays) (goes_rises r looked inner filled g) closes.rises (goes_rises r kept rest new k) none in
     goes_held r kept rest new k n.others c x
-    (closes_held r filled b s e kept closes n.closing c x
+    (closes_held r filled b s told e kept closes n.closing c x
     (goes_held r looked inner filled g n.inner c x (stays_held r old looked stays c x held)))
 
 all_more : (r : Reader) (a b : Shelves) (t : Went) → ((c : Bin) (x : Subject) → Held r a c x → Held r b c x) → AllHeld r a t → AllHeld r b t
@@ -90,10 +94,10 @@ all_held r old Done new g none = tt
 all_held r old (Found b s e rest) new (h, (mid, stays, g)) none =
     let n = lost_then old mid new (stays_rises old mid stays) (goes_rises r mid rest new g) none in
     (goes_held r mid rest new g n b s (stays_held r old mid stays b s (e, h)), all_held r mid rest new g n)
-all_held r old (Built b s e inner rest) new (h, (looked, filled, kept, stays, g, closes, k)) none =
+all_held r old (Built b s e inner rest) new (h, (told, looked, filled, kept, t, stays, g, closes, k)) none =
     let n = unlost r old looked filled kept new (stays_rises old looked stays) (goes_rises r looked inner filled g) closes.rises (goes_rises r kept rest new k) none in (
-      (λ may. goes_held r kept rest new k n.others b s (closed_held r filled b s e kept closes n.closing may)),
-      all_more r filled new inner (λ c x held. goes_held r kept rest new k n.others c x (closes_held r filled b s e kept closes n.closing c x held)) (all_held r looked inner filled g n.inner),
+      (λ may. goes_held r kept rest new k n.others b s (closed_held r filled b s told e kept closes n.closing may)),
+      all_more r filled new inner (λ c x held. goes_held r kept rest new k n.others c x (closes_held r filled b s told e kept closes n.closing c x held)) (all_held r looked inner filled g n.inner),
       all_held r kept rest new k n.others,
     )
 
@@ -108,8 +112,8 @@ alike_stays r a b c alike stays = record {
   back = λ d x h. alike.back d x (h.0, stays_back r b c stays d x h.0 h.1);
 }
 
-not_kept : (r : Reader) (old : Shelves) (b : Bin) (s : Subject) (e : Entry) (new : Shelves) → ClosesTo r old b s e new → (MayKeep b e.cacheability → ⊥) → StaysKept old new
-not_kept r old b s e new closes may_not = elim closes.either [
+not_kept : (r : Reader) (old : Shelves) (b : Bin) (s : Subject) (told : Option (List Context)) (e : Entry) (new : Shelves) → ClosesTo r old b s told e new → (MayKeep b e.cacheability → ⊥) → StaysKept old new
+not_kept r old b s told e new closes may_not = elim closes.either [
   | inl m ↦ absurd (may_not m.0)
   | inr n ↦ n.1
 ]
@@ -123,10 +127,10 @@ rest_of r first old Done new alike g just = record { rest = tt; alike = alike_st
 rest_of r first old (Found b s e rest) new alike (h, (mid, stays, g)) just =
     let others = rest_of r first mid rest new (alike_stays r first old mid alike stays) g just.1 in
     record { rest = (just.0 (alike.back b s (e, h)), others.rest); alike = others.alike }
-rest_of r first old (Built b s e inner rest) new alike (h, (looked, filled, kept, stays, g, closes, k)) just =
+rest_of r first old (Built b s e inner rest) new alike (h, (told, looked, filled, kept, t, stays, g, closes, k)) just =
     let may_not : MayKeep b e.cacheability → ⊥ = λ may. h (alike.there b s (just.0 may)) in
     let i = rest_of r first looked inner filled (alike_stays r first old looked alike stays) g just.1 in
-    let others = rest_of r first kept rest new (alike_stays r first filled kept i.alike (not_kept r filled b s e kept closes may_not)) k just.2 in
+    let others = rest_of r first kept rest new (alike_stays r first filled kept i.alike (not_kept r filled b s told e kept closes may_not)) k just.2 in
     record { rest = (may_not, i.rest, others.rest); alike = others.alike }
 
 -- what is told of a call

@@ -1,6 +1,6 @@
 -- What is kept for a reader, and what a look, a keep and a whole page do to it.
 -- https://www.drupal.org/docs/drupal-apis/cache-api/cache-api
-use Rattle.std.specs.Prelude.{ℕ, List, ◌≡◌, ◌≤◌, ◌<◌, ◌⊎◌, ◌+◌, min, Contains, Some, None, IfSome}
+use Rattle.std.specs.Prelude.{ℕ, List, ◌≡◌, ◌≤◌, ◌<◌, ◌⊎◌, ◌+◌, min, Contains, Option, Some, None, IfSome, option_map}
 use Rattle.std.specs.Arc.{arc_value}
 use Rattle.cacheability.specs.declared.context.Context.{Context}
 use Rattle.content_state.specs.Places.{SameMembers}
@@ -11,7 +11,7 @@ use Rattle.cache_entries.specs.declared.kept.Bin.{Bin}
 use Rattle.cache_entries.specs.Entries.{IsFresh}
 use Rattle.fragment_cache.specs.Bins.{Bins, Thing, Whole, Towards, shelf_of}
 use Rattle.element_entries.specs.declared.reader.Reader.{Reader}
-use Rattle.element_entries.specs.Keeping.{MayKeep}
+use Rattle.element_entries.specs.Keeping.{MayKeep, second_contexts}
 use Rattle.element_entries.specs.Keys.{visit, required, key_by}
 use Rattle.site_house.specs.House.{HouseView}
 use Rattle.kept_pages.specs.declared.looking.Seen.{Seen}
@@ -85,13 +85,20 @@ pub record SeenOnce (r : Reader) (old : Shelves) (b : Bin) (key : Key) (seen : S
   pub not_here : seen.entry ≡ None → (e : Entry) → StandsFresh r (things_in old b) key e → ⊥
   pub not_towards : seen.told ≡ None → (c : List Context) → Contains (things_in old b) (key, Towards c) → ⊥
 
--- a look at the first key, and at the second where a redirect gives it: it is held by what was seen, or isn't held
+-- what a redirect at the first key tells, if one stands there
+abbrev pub IsToldBy : Reader → Shelves → Bin → Subject → Option (List Context) → Type 0
+IsToldBy r shelves b s None = (c : List Context) → Contains (things_in shelves b) (key_by (visit r) s required, Towards c) → ⊥
+IsToldBy r shelves b s (Some c) = StandsAlone (things_in shelves b) (key_by (visit r) s required) c
+
+-- a look at the first key, and at the second where a redirect gives it: it is held by what was seen, or isn't held; and what the
+-- redirect told
 pub record SeenIn (r : Reader) (old : Shelves) (b : Bin) (s : Subject) (seen : Seen) (new : HouseView) : Type 0 where
   pub after : Shelves
   pub is : IsTold new after
   pub stays : StaysKept old after
   pub held : IfSome seen.entry (λ e. HeldBy r old b s (arc_value e))
   pub not_held : seen.entry ≡ None → Held r old b s → ⊥
+  pub told : IsToldBy r old b s (option_map arc_value seen.told)
 
 -- ---- a keep
 
@@ -107,44 +114,52 @@ pub record Puts (old : Shelves) (b : Bin) (key : Key) (thing : Thing) (new : Hou
   pub rises : Rises old after
   pub landed : NothingLost old after → Landed old b key thing after
 
--- an entry is held, and nothing under keys of anything else changed
-pub record IsHeldBy (r : Reader) (old : Shelves) (b : Bin) (s : Subject) (e : Entry) (new : Shelves) : Type 0 where
-  pub held : HeldBy r new b s e
+-- A fresh entry stands at the first key, or at the second one, behind the redirect to these contexts. Where they give the first
+-- key, it stands there in place of the redirect.
+abbrev pub StandsBy : Reader → List (Key × Thing) → Subject → Option (List Context) → Entry → Type 0
+StandsBy r things s None e = StandsFresh r things (key_by (visit r) s required) e
+StandsBy r things s (Some contexts) e =
+    StandsFresh r things (key_by (visit r) s contexts) e
+    × (Contains things (key_by (visit r) s required, Towards contexts) ⊎ (key_by (visit r) s required ≡ key_by (visit r) s contexts))
+
+-- An entry is held, behind a redirect that takes over what was told; and nothing under keys of anything else changed.
+pub record IsHeldBy (r : Reader) (old : Shelves) (b : Bin) (s : Subject) (told : Option (List Context)) (e : Entry) (new : Shelves) : Type 0 where
+  pub held : StandsBy r (things_in new b) s (second_contexts told e.cacheability.contexts) e
   pub others : (c : Bin) (p : Key × Thing) → Contains (things_in old c) p → Contains (things_in new c) p ⊎ ((c ≡ b) × (p.0.subject ≡ s))
 
 -- an entry was to be kept: where nothing was lost it is held
-pub record Offers (r : Reader) (old : Shelves) (b : Bin) (s : Subject) (e : Entry) (new : HouseView) : Type 0 where
+pub record Offers (r : Reader) (old : Shelves) (b : Bin) (s : Subject) (told : Option (List Context)) (e : Entry) (new : HouseView) : Type 0 where
   pub after : Shelves
   pub is : IsTold new after
   pub rises : Rises old after
-  pub kept : NothingLost old after → IsHeldBy r old b s e after
+  pub kept : NothingLost old after → IsHeldBy r old b s told e after
 
 -- an entry is offered where it may be kept, and else nothing happens
-abbrev pub KeepsOr : Reader → Shelves → Bin → Subject → Entry → Shelves → Type 0
-KeepsOr r old b s e new =
-    (MayKeep b e.cacheability × (NothingLost old new → IsHeldBy r old b s e new)) ⊎ ((MayKeep b e.cacheability → ⊥) × StaysKept old new)
+abbrev pub KeepsOr : Reader → Shelves → Bin → Subject → Option (List Context) → Entry → Shelves → Type 0
+KeepsOr r old b s told e new =
+    (MayKeep b e.cacheability × (NothingLost old new → IsHeldBy r old b s told e new)) ⊎ ((MayKeep b e.cacheability → ⊥) × StaysKept old new)
 
-pub record Closes (r : Reader) (old : Shelves) (b : Bin) (s : Subject) (e : Entry) (new : HouseView) : Type 0 where
+pub record Closes (r : Reader) (old : Shelves) (b : Bin) (s : Subject) (told : Option (List Context)) (e : Entry) (new : HouseView) : Type 0 where
   pub after : Shelves
   pub is : IsTold new after
   pub rises : Rises old after
-  pub either : KeepsOr r old b s e after
+  pub either : KeepsOr r old b s told e after
 
 -- ---- all that was needed
 
 -- a built entry is closed with
-pub record ClosesTo (r : Reader) (old : Shelves) (b : Bin) (s : Subject) (e : Entry) (new : Shelves) : Type 0 where
+pub record ClosesTo (r : Reader) (old : Shelves) (b : Bin) (s : Subject) (told : Option (List Context)) (e : Entry) (new : Shelves) : Type 0 where
   pub rises : Rises old new
-  pub either : KeepsOr r old b s e new
+  pub either : KeepsOr r old b s told e new
 
 -- What became of what is kept meanwhile: what was found was held then; what was built wasn't, and was offered once what stands
--- in its places was there.
+-- in its places was there, with what a redirect had told.
 abbrev pub Goes : Reader → Shelves → Went → Shelves → Type 0
 Goes r old Done new = StaysKept old new
 Goes r old (Found b s e rest) new = HeldBy r old b s e × ((mid : Shelves) × StaysKept old mid × Goes r mid rest new)
 Goes r old (Built b s e inner rest) new =
-    (Held r old b s → ⊥) × ((looked : Shelves) × (filled : Shelves) × (kept : Shelves) × StaysKept old looked × Goes r looked inner filled
-    × ClosesTo r filled b s e kept × Goes r kept rest new)
+    (Held r old b s → ⊥) × ((told : Option (List Context)) × (looked : Shelves) × (filled : Shelves) × (kept : Shelves) × IsToldBy r old b s told
+    × StaysKept old looked × Goes r looked inner filled × ClosesTo r filled b s told e kept × Goes r kept rest new)
 
 pub record GoesTo (r : Reader) (old : Shelves) (t : Went) (new : HouseView) : Type 0 where
   pub after : Shelves
@@ -160,13 +175,13 @@ pub record Tells (r : Reader) (Shape : Went → Type 0) (old new : HouseView) (b
   pub goes : (s : Shelves) → IsTold old s → GoesTo r s tree new
 
 -- an element was built of what this needed, and offered
-pub record BuildsTo (r : Reader) (old : Shelves) (inner : Went) (b : Bin) (s : Subject) (e : Entry) (new : HouseView) : Type 0 where
+pub record BuildsTo (r : Reader) (old : Shelves) (inner : Went) (b : Bin) (s : Subject) (told : Option (List Context)) (e : Entry) (new : HouseView) : Type 0 where
   pub filled : Shelves
   pub goes : Goes r old inner filled
-  pub closes : Closes r filled b s e new
+  pub closes : Closes r filled b s told e new
 
-pub record BuiltUp (r : Reader) (Inner : Went → Type 0) (b : Bin) (s : Subject) (e : Entry) (old new : HouseView) (built : ℕ) : Type 0 where
+pub record BuiltUp (r : Reader) (Inner : Went → Type 0) (b : Bin) (s : Subject) (told : Option (List Context)) (e : Entry) (old new : HouseView) (built : ℕ) : Type 0 where
   pub inner : Went
   pub of_places : Inner inner
   pub counted : built ≡ min (number_built (Built b s e inner Done)) 18446744073709551615
-  pub goes : (shelves : Shelves) → IsTold old shelves → BuildsTo r shelves inner b s e new
+  pub goes : (shelves : Shelves) → IsTold old shelves → BuildsTo r shelves inner b s told e new

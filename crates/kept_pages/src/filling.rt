@@ -1,6 +1,7 @@
 //! Elements whose places are filled in, with what is found, or else with what is built.
 ghost use Rattle.std.specs.Prelude.{◌≡◌, ◌∷◌, [], IfOk, IfSome, OnOk};
 ghost use Rattle.std.specs.Arc.{arc_value};
+ghost use Rattle.std.specs.Option.{option_copied};
 ghost use Rattle.html_out.specs.Segment.{part_of, parts_of};
 ghost use Rattle.content_state.specs.Places.{open_places};
 ghost use Rattle.cache_entries.specs.declared.key.Subject.TheVariants as subject_is;
@@ -60,7 +61,7 @@ fn keep_whole<H: House>(
     ensures steady { Steady (H.sees house.old) (H.sees house.new) }
     ensures here { IfOk result (λ child. IsHere meaning (subject_is.Fragment fragment.now) (visit reader.now) (arc_value child.entry)) }
     ensures built { IfOk result (λ child. child.built ≡ filled.built) }
-    ensures told { IfOk result (λ child. (shelves : Shelves) → IsTold (H.sees house.old) shelves → Closes reader.now shelves bin_is.Fragments (subject_is.Fragment fragment.now) (arc_value child.entry) (H.sees house.new)) }
+    ensures told { IfOk result (λ child. (shelves : Shelves) → IsTold (H.sees house.old) shelves → Closes reader.now shelves bin_is.Fragments (subject_is.Fragment fragment.now) (option_copied told.entry) (arc_value child.entry) (H.sees house.new)) }
 {
     let subject = Subject::Fragment(*fragment);
     keep_filled(alloc, house, reader, Bin::Fragments, &subject, filled, told)
@@ -105,7 +106,7 @@ fn built_fragment<H: House>(
     requires { Reads (H.sees house.old) reader.now }
     ensures steady { Steady (H.sees house.old) (H.sees house.new) }
     ensures here { IfOk result (λ child. IsHere meaning (subject_is.Fragment fragment.now) (visit reader.now) (arc_value child.entry)) }
-    ensures told { IfOk result (λ child. BuiltUp reader.now (InFragment (visit reader.now) fragment.now) bin_is.Fragments (subject_is.Fragment fragment.now) (arc_value child.entry) (H.sees house.old) (H.sees house.new) child.built) }
+    ensures told { IfOk result (λ child. BuiltUp reader.now (InFragment (visit reader.now) fragment.now) bin_is.Fragments (subject_is.Fragment fragment.now) (option_copied told.entry) (arc_value child.entry) (H.sees house.old) (H.sees house.new) child.built) }
 {
     let filled = fill(alloc, house, reader, element_of(fragment))?;
     keep_whole(alloc, house, reader, fragment, filled, told)

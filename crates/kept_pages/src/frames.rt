@@ -1,6 +1,7 @@
 //! Pages as they are kept for whoever views them: the places of lazy blocks are left open there.
 ghost use Rattle.std.specs.Prelude.{◌≡◌, ◌∷◌, [], IfOk, OnOk};
 ghost use Rattle.std.specs.Arc.{arc_value};
+ghost use Rattle.std.specs.Option.{option_copied};
 ghost use Rattle.html_out.specs.Segment.{part_of, parts_of};
 ghost use Rattle.content_state.specs.Plan.{Place};
 ghost use Rattle.content_state.specs.Places.{open_places};
@@ -64,7 +65,7 @@ fn built_frame<H: House>(
     requires asked { subject.now ≡ subject_is.Page reader.now.ask.now.path }
     ensures steady { Steady (H.sees house.old) (H.sees house.new) }
     ensures here { IfOk result (λ child. IsHere meaning (subject_is.Page reader.now.ask.now.path) (visit reader.now) (arc_value child.entry)) }
-    ensures told { IfOk result (λ child. BuiltUp reader.now (InFrame reader.now.ask.now.path (visit reader.now)) bin_is.Dynamic (subject_is.Page reader.now.ask.now.path) (arc_value child.entry) (H.sees house.old) (H.sees house.new) child.built) }
+    ensures told { IfOk result (λ child. BuiltUp reader.now (InFrame reader.now.ask.now.path (visit reader.now)) bin_is.Dynamic (subject_is.Page reader.now.ask.now.path) (option_copied told.entry) (arc_value child.entry) (H.sees house.old) (H.sees house.new) child.built) }
 {
     let filled = build_frame(alloc, house, reader)?;
     keep_filled(alloc, house, reader, Bin::Dynamic, subject, filled, told)

@@ -1,6 +1,7 @@
 //! Keeping what was built.
 ghost use Rattle.std.specs.Prelude.{◌≡◌, IfOk, OnOk};
 ghost use Rattle.std.specs.Arc.{arc_value};
+ghost use Rattle.std.specs.Option.{option_copied};
 ghost use Rattle.cache_entries.specs.Entries.{IsHere, IsClosed};
 ghost use Rattle.cache_entries.specs.Sound.{IsAskedFor};
 ghost use Rattle.fragment_cache.specs.Bins.{Whole, Towards};
@@ -58,7 +59,8 @@ fn keep_redirect<H: House>(
     Ok(())
 }
 
-/// Keeps an entry: under its first key, or, where it varies by more, under its second one, behind a redirect.
+/// Keeps an entry: under its first key, or, where it varies by more, under its second one, behind a redirect that takes over the
+/// contexts that one told.
 fn keep<H: House>(
     alloc: Global,
     house: &mut H,
@@ -71,7 +73,7 @@ fn keep<H: House>(
     requires reads { Reads (H.sees house.old) reader.now }
     requires made { IsMadeFor reader.now subject.now (arc_value entry.now) }
     ensures steady { Steady (H.sees house.old) (H.sees house.new) }
-    ensures told { OnOk result ((shelves : Shelves) → IsTold (H.sees house.old) shelves → Offers reader.now shelves bin subject.now (arc_value entry.now) (H.sees house.new)) }
+    ensures told { OnOk result ((shelves : Shelves) → IsTold (H.sees house.old) shelves → Offers reader.now shelves bin subject.now (option_copied told.entry) (arc_value entry.now) (H.sees house.new)) }
 {
     match redirect_to(alloc, told, &entry.cacheability.contexts)? {
         None => keep_at(
@@ -111,7 +113,7 @@ pub fn keep_if<H: House>(
     requires reads { Reads (H.sees house.old) reader.now }
     requires made { IsMadeFor reader.now subject.now (arc_value entry.now) }
     ensures steady { Steady (H.sees house.old) (H.sees house.new) }
-    ensures told { OnOk result ((shelves : Shelves) → IsTold (H.sees house.old) shelves → Closes reader.now shelves bin subject.now (arc_value entry.now) (H.sees house.new)) }
+    ensures told { OnOk result ((shelves : Shelves) → IsTold (H.sees house.old) shelves → Closes reader.now shelves bin subject.now (option_copied told.entry) (arc_value entry.now) (H.sees house.new)) }
 {
     if may_keep(bin, &entry.cacheability) {
         keep(alloc, house, reader, bin, subject, entry, told)
@@ -137,7 +139,7 @@ pub fn keep_filled<H: House>(
     ensures steady { Steady (H.sees house.old) (H.sees house.new) }
     ensures here { IfOk result (λ child. IsHere meaning subject.now (visit reader.now) (arc_value child.entry)) }
     ensures built { IfOk result (λ child. child.built ≡ filled.built) }
-    ensures told { IfOk result (λ child. (shelves : Shelves) → IsTold (H.sees house.old) shelves → Closes reader.now shelves bin subject.now (arc_value child.entry) (H.sees house.new)) }
+    ensures told { IfOk result (λ child. (shelves : Shelves) → IsTold (H.sees house.old) shelves → Closes reader.now shelves bin subject.now (option_copied told.entry) (arc_value child.entry) (H.sees house.new)) }
 {
     let Filled { joined, built } = filled;
     let entry = Arc::new(alloc, entry_of(alloc, reader, joined)?)?;

@@ -1,6 +1,7 @@
 //! Whole pages: what is kept of them for whoever views them, with what is lazy filled in.
 ghost use Rattle.std.specs.Prelude.{◌≡◌, IfOk, None};
 ghost use Rattle.std.specs.Arc.{arc_value};
+ghost use Rattle.std.specs.Option.{option_copied};
 ghost use Rattle.cache_entries.specs.declared.key.Subject.TheVariants as subject_is;
 ghost use Rattle.cache_entries.specs.declared.kept.Bin.TheVariants as bin_is;
 ghost use Rattle.cache_entries.specs.Entries.{IsHere};
@@ -62,7 +63,7 @@ fn built_target<H: House>(
     requires asked { subject.now ≡ subject_is.Target reader.now.ask.now.target }
     ensures steady { Steady (H.sees house.old) (H.sees house.new) }
     ensures here { IfOk result (λ child. IsHere meaning (subject_is.Target reader.now.ask.now.target) (visit reader.now) (arc_value child.entry)) }
-    ensures told { IfOk result (λ child. BuiltUp reader.now (OfWhole reader.now.ask.now.path (visit reader.now)) bin_is.Anonymous (subject_is.Target reader.now.ask.now.target) (arc_value child.entry) (H.sees house.old) (H.sees house.new) child.built) }
+    ensures told { IfOk result (λ child. BuiltUp reader.now (OfWhole reader.now.ask.now.path (visit reader.now)) bin_is.Anonymous (subject_is.Target reader.now.ask.now.target) (option_copied told.entry) (arc_value child.entry) (H.sees house.old) (H.sees house.new) child.built) }
 {
     let filled = whole_page(alloc, house, reader)?;
     keep_filled(alloc, house, reader, Bin::Anonymous, subject, filled, told)

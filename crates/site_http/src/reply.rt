@@ -11,6 +11,7 @@ use crate::shown::shown_page;
 use content_state::{Ask, State};
 use edit_replies::{bad_json_text, media_text};
 use http_heads::{CookieOut, Media, ReplyHead, reply_head};
+use kept_pages::Body;
 use site_house::House;
 use std::alloc::{AllocError, Global};
 
@@ -25,6 +26,18 @@ fn text_of(alloc: Global, head: &ReplyHead, body: &[u8]) -> Result<Vec<u8>, Allo
     let mut text = Vec::with_capacity(alloc, body.len().saturating_add(HEAD_ROOM))?;
     reply_head(alloc, &mut text, head)?;
     text.extend_from_slice(body)?;
+    Ok(text)
+}
+
+/// A head, and the body of a page, which is copied once, behind it.
+fn page_text(alloc: Global, head: &ReplyHead, body: &Body) -> Result<Vec<u8>, AllocError>
+    requires { IsTrue (is_reply_status head.now.status) }
+    ensures { IfOk result (λ v. v.items ≡ reply_text head.now body.now) }
+{
+    let room = usize::try_from(body.len()).unwrap_or(usize::MAX);
+    let mut text = Vec::with_capacity(alloc, room.saturating_add(HEAD_ROOM))?;
+    reply_head(alloc, &mut text, head)?;
+    body.append_to(&mut text)?;
     Ok(text)
 }
 
@@ -54,14 +67,14 @@ fn page_reply<H: House>(
     let head = ReplyHead {
         status: page.status,
         media: Media::Html,
-        length: Some(page.body.len() as u128),
+        length: Some(page.body.len()),
         location: None,
         cookie: CookieOut::Nothing,
         allow: false,
         state: Some(state.number()),
         close: closing,
     };
-    let text = text_of(alloc, &head, &page.body)?;
+    let text = page_text(alloc, &head, &page.body)?;
     Ok(Reply {
         text,
         built: page.built,

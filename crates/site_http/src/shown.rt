@@ -8,8 +8,7 @@ ghost use Rattle.site_house.specs.Bins.{IsSeenIn};
 ghost use Rattle.site_http.specs.Reply.{IsBuiltFor};
 
 use content_state::{Ask, State};
-use kept_pages::render_page;
-use renderer::Page;
+use kept_pages::{Page, render_page};
 use site_access::viewer_of;
 use site_house::House;
 use std::alloc::{AllocError, Global};
@@ -27,7 +26,7 @@ pub fn shown_page<H: House>(
     requires right { IsAsk ask.now }
     ensures moves { Moves (H.sees house.old) (H.sees house.new) }
     ensures stays { Stays (H.sees house.old) (H.sees house.new) }
-    ensures page { IfOk result (λ p. IsPage state.now.rows ask.now now p.status p.body.items) }
+    ensures page { IfOk result (λ p. IsPage state.now.rows ask.now now p.status p.body) }
     ensures status { IfOk result (λ p. IsTrue (is_reply_status p.status)) }
     ensures built_for { IfOk result (λ p. IsBuiltFor state.now ask.now now p.built) }
     ensures at_most { IfOk result (λ p. p.built ≤ min (page_count state.now.rows ask.now now) 18446744073709551615) }

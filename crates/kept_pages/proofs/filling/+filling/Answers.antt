@@ -1,5 +1,6 @@
 use Rattle.std.proofs.Common.{refl, subst}
 use Rattle.std.specs.Arc.{arc_value}
+use Rattle.std.specs.Option.{option_copied}
 use Rattle.std.proofs.lemmas.Result.{on_ok_weaker, IfOk-weaker}
 use Rattle.cache_entries.specs.declared.entry.Entry.{Entry}
 use Rattle.cache_entries.specs.declared.key.Subject.TheVariants as subject
@@ -13,6 +14,7 @@ use Rattle.kept_pages.specs.Held.{Tells}
 use Rattle.kept_pages.specs.Needed.{InFragment, NeededBelow, NeededFor}
 use Rattle.kept_pages.proofs.Counting.{built_up, counts_fragment, tells_built, tells_found, tells_fragment, begun_told, told_bytes, told_open, told_child, told_part}
 use Rattle.kept_pages.proofs.Entries.{steady_on}
+use Rattle.kept_pages.proofs.Shelves.{lent}
 use Rattle.kept_pages.proofs.Parts.{nothing_below, joins_bytes, joins_open, joins_child, joins_part, begun_whole, on_ok_any, if_ok_both}
 use Rattle.kept_pages.proofs.filling.+filling.Goals as goal
 
@@ -54,7 +56,7 @@ pub built_fragment-returns-clause-told : goal.built_fragment-returns-clause-told
 built_fragment-returns-clause-told g t c =
     if_ok_both c.keep_whole.result
     (λ child same closes.
-    built_up c.args.reader.now (InFragment (visit c.args.reader.now) c.args.fragment.now) bin.Fragments (subject.Fragment c.args.fragment.now) (arc_value child.entry) _ _ _ 1 c.in_ok-filled.filled.built child.built refl
+    built_up c.args.reader.now (InFragment (visit c.args.reader.now) c.args.fragment.now) bin.Fragments (subject.Fragment c.args.fragment.now) (option_copied c.args.told) (arc_value child.entry) _ _ _ 1 c.in_ok-filled.filled.built child.built refl
     (counts_fragment (subject.Fragment c.args.fragment.now) (arc_value child.entry)) same
     (subst (λ (e : Element). Tells c.args.reader.now (NeededFor c.args.reader.now.ask.now.path (visit c.args.reader.now) e) (g.H.House.sees c.args.house.now) (g.H.House.sees c.fill.new.house) 1 c.in_ok-filled.filled.built) c.element_of.ensures c.in_ok-filled.ensures.told) closes)
     c.keep_whole.ensures.built c.keep_whole.ensures.told
@@ -79,5 +81,6 @@ some_fragment-returns-clause-told g t c =
     IfOk-weaker c.built_fragment.result _ _
     (λ child built.
     tells_fragment c.args.reader.now (visit c.args.reader.now) c.args.fragment.now (arc_value child.entry) _ _ child.built
-    (tells_built c.args.reader.now (InFragment (visit c.args.reader.now) c.args.fragment.now) bin.Fragments (subject.Fragment c.args.fragment.now) (arc_value child.entry) c.in_ok-entry.field-0 _ _ _ child.built c.in-None.is c.in_ok-entry.ensures.told built))
+    (tells_built c.args.reader.now (InFragment (visit c.args.reader.now) c.args.fragment.now) bin.Fragments (subject.Fragment c.args.fragment.now) (arc_value child.entry) c.in_ok-entry.field-0 _ _ _ _ child.built c.in-None.is
+    (lent c.in_ok-entry.field-0.told c.as_deref.result c.as_deref.ensures.cases) c.in_ok-entry.ensures.told built))
     c.built_fragment.ensures.told

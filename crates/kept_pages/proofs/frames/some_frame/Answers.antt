@@ -5,6 +5,7 @@ use Rattle.cache_entries.specs.declared.kept.Bin.TheVariants as bin
 use Rattle.element_entries.specs.Keys.{visit}
 use Rattle.kept_pages.specs.Needed.{InFrame}
 use Rattle.kept_pages.proofs.Counting.{tells_built, tells_found}
+use Rattle.kept_pages.proofs.Shelves.{lent}
 use Rattle.kept_pages.proofs.frames.some_frame.Goals as goal
 
 pub returns-in-Some-clause-told : goal.returns-in-Some-clause-told
@@ -16,6 +17,7 @@ pub returns-clause-told : goal.returns-clause-told
 returns-clause-told g c =
     IfOk-weaker c.built_frame.result _ _
     (λ child built.
-    tells_built c.args.reader.now (InFrame c.args.reader.now.ask.now.path (visit c.args.reader.now)) bin.Dynamic (subject.Page c.args.reader.now.ask.now.path) (arc_value child.entry) c.in_ok-entry.field-0 _ _ _ child.built c.in-None.is
+    tells_built c.args.reader.now (InFrame c.args.reader.now.ask.now.path (visit c.args.reader.now)) bin.Dynamic (subject.Page c.args.reader.now.ask.now.path) (arc_value child.entry) c.in_ok-entry.field-0 _ _ _ _ child.built c.in-None.is
+    (lent c.in_ok-entry.field-0.told c.as_deref.result c.as_deref.ensures.cases)
     (rw c.in_ok-duplicate.ensures at (rw c.in_ok-key.ensures at c.in_ok-entry.ensures.told)) built)
     c.built_frame.ensures.told

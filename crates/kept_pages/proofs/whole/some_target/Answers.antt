@@ -5,6 +5,7 @@ use Rattle.cache_entries.specs.declared.kept.Bin.TheVariants as bin
 use Rattle.element_entries.specs.Keys.{visit}
 use Rattle.kept_pages.specs.Needed.{OfWhole}
 use Rattle.kept_pages.proofs.Counting.{tells_built, tells_found, tells_target}
+use Rattle.kept_pages.proofs.Shelves.{lent}
 use Rattle.kept_pages.proofs.whole.some_target.Goals as goal
 
 pub returns-in-Some-clause-told : goal.returns-in-Some-clause-told
@@ -18,6 +19,7 @@ returns-clause-told g c =
     IfOk-weaker c.built_target.result _ _
     (λ child built.
     tells_target c.args.reader.now (visit c.args.reader.now) (arc_value child.entry) _ _ child.built
-    (tells_built c.args.reader.now (OfWhole c.args.reader.now.ask.now.path (visit c.args.reader.now)) bin.Anonymous (subject.Target c.args.reader.now.ask.now.target) (arc_value child.entry) c.in_ok-entry.field-0 _ _ _ child.built c.in-None.is
+    (tells_built c.args.reader.now (OfWhole c.args.reader.now.ask.now.path (visit c.args.reader.now)) bin.Anonymous (subject.Target c.args.reader.now.ask.now.target) (arc_value child.entry) c.in_ok-entry.field-0 _ _ _ _ child.built c.in-None.is
+    (lent c.in_ok-entry.field-0.told c.as_deref.result c.as_deref.ensures.cases)
     (rw c.in_ok-duplicate.ensures at (rw c.in_ok-key.ensures at c.in_ok-entry.ensures.told)) built))
     c.built_target.ensures.told
