@@ -15,12 +15,15 @@ more_digits : (digits n : ℕ) → 10 ≤ n → last_digits (suc digits) n ≡ l
 unfolding last_digits
 more_digits digits n h = rw (le-ltb n 10 h, last_digits) refl
 
-pub either : (n : ℕ) → (n < 10) ⊎ (10 ≤ n)
-either n = go (nat_lt n 10) refl
+pub below : (n k : ℕ) → (n < k) ⊎ (k ≤ n)
+below n k = go (nat_lt n k) refl
   where
-    go : (b : Bool) → b ≡ nat_lt n 10 → (n < 10) ⊎ (10 ≤ n)
-    go true e = inl (ltb-true n 10 (sym e))
-    go false e = inr (ltb-false n 10 (sym e))
+    go : (b : Bool) → b ≡ nat_lt n k → (n < k) ⊎ (k ≤ n)
+    go true e = inl (ltb-true n k (sym e))
+    go false e = inr (ltb-false n k (sym e))
+
+pub either : (n : ℕ) → (n < 10) ⊎ (10 ≤ n)
+either n = below n 10
 
 -- what room there is past the digits doesn't matter
 same_digits : (f g n : ℕ) → n ≤ f → n ≤ g → last_digits (suc f) n ≡ last_digits (suc g) n

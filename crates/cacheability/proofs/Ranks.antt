@@ -213,7 +213,7 @@ by_ranks cmp rank less turned a b Less h n = sym (less a b h)
 by_ranks cmp rank less turned a b Equal h n = absurd (n refl)
 by_ranks cmp rank less turned a b Greater h n = ap ordering_reverse (sym (less b a h)) ∙ sym (turned a b)
 
-bytes_turned : (xs ys : List ℕ) → slice_cmp nat_cmp xs ys ≡ ordering_reverse (slice_cmp nat_cmp ys xs)
+pub bytes_turned : (xs ys : List ℕ) → slice_cmp nat_cmp xs ys ≡ ordering_reverse (slice_cmp nat_cmp ys xs)
 bytes_turned xs ys = nat_list_cmp_total.antisymm xs ys
 
 -- tags of different kinds are ordered by their kinds
