@@ -4,9 +4,12 @@
 ghost use Rattle.std.specs.Prelude.{◌≡◌, ◌≢◌, ◌↔◌, ◌+◌, [], length, IfOk, OnOk, OnErr, IsErrOf, IfErr, IsTrue};
 ghost use Rattle.tag_counts.specs.declared.BumpFault.TheVariants as bump_fault;
 
+mod key;
+
 use cacheability::Tag;
+use key::Key;
 use std::alloc::{AllocError, AllocFailed, Global};
-use std::collections::BTreeMap;
+use std::collections::HashMap;
 use std::marker::Model;
 
 /// The count of this tag is 18,446,744,073,709,551,615 and cannot be raised.
@@ -35,7 +38,7 @@ impl<T: Drop> From<AllocFailed<T>> for BumpFault {
 /// <https://www.drupal.org/docs/drupal-apis/cache-api/cache-tags>
 #[derive(Drop, Debug)]
 pub struct Counts {
-    map: BTreeMap<Tag, u64>,
+    table: HashMap<Key, u64>,
 }
 
 impl Model for Counts {
@@ -44,7 +47,9 @@ impl Model for Counts {
 
     ghost Value = { List (TagValue × ℕ) };
 
-    ghost view = { λ c. c.map.entries };
+    ghost use Rattle.tag_counts.specs.Counts.{in_order};
+
+    ghost view = { λ c. in_order c.table.entries };
 }
 
 impl Counts {
@@ -56,7 +61,7 @@ impl Counts {
         ensures { result ≡ [] }
     {
         Counts {
-            map: BTreeMap::new(alloc),
+            table: HashMap::new(alloc),
         }
     }
 
@@ -66,21 +71,21 @@ impl Counts {
         ensures same { result ≡ length self.now }
         ensures ordered { IsInOrder self.now }
     {
-        self.map.len()
+        self.table.len()
     }
 
     /// Whether no tag was invalidated.
     pub fn is_empty(&self) -> bool
         ensures { IsTrue result ↔ (self.now ≡ []) }
     {
-        self.map.is_empty()
+        self.len() == 0
     }
 
     /// The count of a tag.
     pub fn count(&self, tag: &Tag) -> u64
         ensures { result ≡ count_of self.now tag.now }
     {
-        match self.map.get(tag) {
+        match self.table.get(&Key(*tag)) {
             Some(count) => *count,
             None => 0,
         }
@@ -112,8 +117,10 @@ impl Counts {
         if count == u64::MAX {
             return Err(BumpFault::Full(CountFull(*tag)));
         }
-        self.map.insert(*tag, count + 1)?;
-        Ok(())
+        match self.set(tag, count + 1) {
+            Ok(()) => Ok(()),
+            Err(AllocError) => Err(BumpFault::OutOfMemory),
+        }
     }
 
     /// Sets the count of a tag. `Err` only where memory is wanting, and then all counts are as they were.
@@ -124,7 +131,7 @@ impl Counts {
         ensures ordered { OnOk result (IsInOrder self.new) }
         ensures err { OnErr result (self.new ≡ self.old) }
     {
-        self.map.insert(*tag, count)?;
+        self.table.insert(Key(*tag), count)?;
         Ok(())
     }
 
@@ -134,7 +141,7 @@ impl Counts {
         ensures ordered { IfOk result (λ copy. IsInOrder copy) }
     {
         Ok(Counts {
-            map: self.map.clone()?,
+            table: self.table.clone()?,
         })
     }
 }
