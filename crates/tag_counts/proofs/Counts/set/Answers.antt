@@ -1,5 +1,4 @@
 use Rattle.std.proofs.Common.{ap, sym, ◌∙◌}
-use Rattle.cacheability.specs.Tag.{tag_cmp}
 use Rattle.tag_counts.specs.Counts.{count_of, with_count, in_order}
 use Rattle.tag_counts.proofs.Tags.{not_at_other}
 use Rattle.tag_counts.proofs.InOrder.{put_in_order, sorted-in_order, count_put, count_put_other}
