@@ -16,6 +16,17 @@ pub trait Duplicate: Drop {
         ensures { IfOk result (λ copy. copy ≡ self.now) };
 }
 
+/// Copies of two values: a row of many parts asks half as often whether memory was wanting.
+fn copies<A: Duplicate, B: Duplicate>(
+    alloc: Global,
+    first: &A,
+    second: &B,
+) -> Result<(A, B), AllocError>
+    ensures { IfOk result (λ copies. (copies.0 ≡ first.now) × (copies.1 ≡ second.now)) }
+{
+    Ok((first.duplicate(alloc)?, second.duplicate(alloc)?))
+}
+
 impl Duplicate for u32 {
     fn duplicate(&self, _alloc: Global) -> Result<Self, AllocError> {
         Ok(*self)
@@ -120,15 +131,18 @@ impl Duplicate for Role {
 
 impl Duplicate for User {
     fn duplicate(&self, alloc: Global) -> Result<Self, AllocError> {
+        let (name, digest) = copies(alloc, &self.name, &self.digest)?;
+        let (salt, uuid) = copies(alloc, &self.salt, &self.uuid)?;
+        let (grants, roles) = copies(alloc, &self.grants, &self.roles)?;
         Ok(User {
             created: self.created,
-            digest: self.digest.duplicate(alloc)?,
-            grants: self.grants.duplicate(alloc)?,
-            name: self.name.duplicate(alloc)?,
-            roles: self.roles.duplicate(alloc)?,
-            salt: self.salt.duplicate(alloc)?,
+            digest,
+            grants,
+            name,
+            roles,
+            salt,
             status: self.status,
-            uuid: self.uuid.duplicate(alloc)?,
+            uuid,
         })
     }
 }
@@ -155,21 +169,25 @@ impl Duplicate for FieldValue {
 
 impl Duplicate for Node {
     fn duplicate(&self, alloc: Global) -> Result<Self, AllocError> {
+        let (title, uuid) = copies(alloc, &self.title, &self.uuid)?;
+        let (refs, terms) = copies(alloc, &self.refs, &self.terms)?;
+        let (path, grants) = copies(alloc, &self.path, &self.grants)?;
+        let fields = self.fields.duplicate(alloc)?;
         Ok(Node {
             changed: self.changed,
             created: self.created,
-            fields: self.fields.duplicate(alloc)?,
-            grants: self.grants.duplicate(alloc)?,
-            path: self.path.duplicate(alloc)?,
+            fields,
+            grants,
+            path,
             promote: self.promote,
-            refs: self.refs.duplicate(alloc)?,
+            refs,
             status: self.status,
             sticky: self.sticky,
-            terms: self.terms.duplicate(alloc)?,
-            title: self.title.duplicate(alloc)?,
+            terms,
+            title,
             node_type: self.node_type,
             uid: self.uid,
-            uuid: self.uuid.duplicate(alloc)?,
+            uuid,
             vid: self.vid,
         })
     }

@@ -1,5 +1,5 @@
 //! The rows that a new site begins with.
-ghost use Rattle.std.specs.Prelude.{◌≡◌, IfOk, IsTrue};
+ghost use Rattle.std.specs.Prelude.{◌≡◌, ◌++◌, ◌∷◌, List, [], IfOk, IsTrue};
 ghost use Rattle.content_rows.specs.LiteralName.{is_name};
 ghost use Rattle.content_rows.specs.StarterRows.{
   starter_site,
@@ -36,15 +36,32 @@ pub fn starter(alloc: Global) -> Result<Vec<(Cell, Row)>, AllocError>
 fn written(alloc: Global) -> Result<Vec<(Cell, Row)>, AllocError>
     ensures { IfOk result (λ v. v.items ≡ starter_rows) }
 {
-    let mut rows = Vec::with_capacity(alloc, 8)?;
-    rows.push((Cell::Site, site(alloc)?))?;
-    rows.push((Cell::Seq, seq()))?;
-    rows.push((Cell::NodeType(name(b"page")), page_type(alloc)?))?;
-    rows.push((Cell::Role(name(b"anonymous")), role(alloc, b"Anonymous")?))?;
-    rows.push((Cell::Role(name(b"authenticated")), role(alloc, b"Member")?))?;
-    rows.push((Cell::User(1), admin(alloc)?))?;
-    rows.push((Cell::Node(1), node(alloc)?))?;
-    rows.push((Cell::Listing(name(b"frontpage")), frontpage(alloc)?))?;
+    let page = Cell::NodeType(name(b"page"));
+    let anonymous = Cell::Role(name(b"anonymous"));
+    let member = Cell::Role(name(b"authenticated"));
+    let rows = Vec::with_capacity(alloc, 8);
+    let rows = with_row(rows, Cell::Site, site(alloc));
+    let rows = with_row(rows, Cell::Seq, Ok(seq()));
+    let rows = with_row(rows, page, page_type(alloc));
+    let rows = with_row(rows, anonymous, role(alloc, b"Anonymous"));
+    let rows = with_row(rows, member, role(alloc, b"Member"));
+    let rows = with_row(rows, Cell::User(1), admin(alloc));
+    let rows = with_row(rows, Cell::Node(1), node(alloc));
+    with_row(rows, Cell::Listing(name(b"frontpage")), frontpage(alloc))
+}
+
+/// Rows with a row more at their end. `Err` where memory is wanting, or was wanting before. What a
+/// row is doesn't matter here, so the proof doesn't see how one ends.
+fn with_row<C: Copy, R: Drop>(
+    rows: Result<Vec<(C, R)>, AllocError>,
+    cell: C,
+    row: Result<R, AllocError>,
+) -> Result<Vec<(C, R)>, AllocError>
+    ensures { (before : List (C × R)) (r : R) → IfOk rows (λ v. v.items ≡ before) → IfOk row (λ x. x ≡ r) → IfOk result (λ v. v.items ≡ before ++ (cell, r) ∷ []) }
+{
+    let row = row?;
+    let mut rows = rows?;
+    rows.push((cell, row))?;
     Ok(rows)
 }
 
@@ -59,13 +76,18 @@ fn name(bytes: &[u8]) -> Name
     }
 }
 
+/// The texts of these bytes of the code.
+fn texts(alloc: Global, first: &[u8], second: &[u8]) -> Result<(Text, Text), AllocError>
+    ensures { IfOk result (λ texts. (texts.0 ≡ first.now) × (texts.1 ≡ second.now)) }
+{
+    Ok((Text::copied(alloc, first)?, Text::copied(alloc, second)?))
+}
+
 fn site(alloc: Global) -> Result<Row, AllocError>
     ensures { IfOk result (λ r. r ≡ starter_site) }
 {
-    Ok(Row::Site(Site {
-        front: Text::copied(alloc, b"/node")?,
-        name: Text::copied(alloc, b"Site")?,
-    }))
+    let (front, name) = texts(alloc, b"/node", b"Site")?;
+    Ok(Row::Site(Site { front, name }))
 }
 
 fn seq() -> Row
@@ -81,10 +103,10 @@ fn seq() -> Row
 fn page_type(alloc: Global) -> Result<Row, AllocError>
     ensures { IfOk result (λ r. r ≡ starter_page_type) }
 {
-    let label = Text::copied(alloc, b"Page")?;
+    let (label, body_label) = texts(alloc, b"Page", b"Body")?;
     let body = FieldRow {
         edit: None,
-        label: Text::copied(alloc, b"Body")?,
+        label: body_label,
         name: name(b"body"),
         owner: false,
         teaser: true,
@@ -100,8 +122,8 @@ fn page_type(alloc: Global) -> Result<Row, AllocError>
 fn role(alloc: Global, label: &[u8]) -> Result<Row, AllocError>
     ensures { IfOk result (λ r. r ≡ starter_role label.now) }
 {
-    let label = Text::copied(alloc, label)?;
-    let permissions = Items::one(alloc, Text::copied(alloc, b"access content")?)?;
+    let (label, permission) = texts(alloc, label, b"access content")?;
+    let permissions = Items::one(alloc, permission)?;
     Ok(Row::Role(Role {
         admin: false,
         grants: Items::none(alloc),
@@ -113,8 +135,7 @@ fn role(alloc: Global, label: &[u8]) -> Result<Row, AllocError>
 fn admin(alloc: Global) -> Result<Row, AllocError>
     ensures { IfOk result (λ r. r ≡ starter_admin) }
 {
-    let name = Text::copied(alloc, b"admin")?;
-    let uuid = Text::copied(alloc, b"u-1")?;
+    let (name, uuid) = texts(alloc, b"admin", b"u-1")?;
     Ok(Row::User(User {
         created: 0,
         digest: None,
@@ -130,16 +151,16 @@ fn admin(alloc: Global) -> Result<Row, AllocError>
 fn node(alloc: Global) -> Result<Row, AllocError>
     ensures { IfOk result (λ r. r ≡ starter_node) }
 {
-    let title = Text::copied(alloc, b"First")?;
-    let uuid = Text::copied(alloc, b"n-1")?;
     let body = FieldValue {
         name: name(b"body"),
         value: Text::copied(alloc, b"Hello")?,
     };
+    let fields = Items::one(alloc, body)?;
+    let (title, uuid) = texts(alloc, b"First", b"n-1")?;
     Ok(Row::Node(Node {
         changed: 100,
         created: 100,
-        fields: Items::one(alloc, body)?,
+        fields,
         grants: Items::none(alloc),
         path: None,
         promote: true,
@@ -158,8 +179,7 @@ fn node(alloc: Global) -> Result<Row, AllocError>
 fn frontpage(alloc: Global) -> Result<Row, AllocError>
     ensures { IfOk result (λ r. r ≡ starter_frontpage) }
 {
-    let path = Text::copied(alloc, b"/node")?;
-    let title = Text::copied(alloc, b"Home")?;
+    let (path, title) = texts(alloc, b"/node", b"Home")?;
     Ok(Row::Listing(Listing {
         age: None,
         path: Some(path),

@@ -6,6 +6,7 @@ pub mod Made
 pub mod Matched
 pub mod Meets
 pub mod Named
+pub mod Placed
 pub mod RightRows
 pub mod SeenRows
 pub mod There

@@ -1,7 +1,10 @@
 //! The fixed forms of paths.
 ghost use Rattle.std.specs.Prelude.{◌≡◌, IfOk, Some, None};
 ghost use Rattle.std.specs.Str.{bytes_eq};
-ghost use Rattle.content_state.specs.Forms.{form_rows, form_found, named_as, named_by, IsFormOf};
+ghost use Rattle.matchit.specs.Router.{RouteOf};
+ghost use Rattle.matchit.specs.Rows.{RowsOf};
+ghost use Rattle.content_state.specs.Forms.{form_rows, form_found, named_as, named_by, with_route, IsFormOf};
+ghost use Rattle.content_state.specs.declared.forms.Form.{Form as FormValue};
 ghost use Rattle.content_state.specs.Route.{id_after};
 
 use content_rows::id_of;
@@ -124,11 +127,24 @@ fn named_as(form: Form, path: &[u8]) -> Option<Named>
 fn router_of_forms(alloc: Global) -> Result<Router<Form>, InsertError>
     ensures { IfOk result (λ router. router ≡ form_rows) }
 {
-    let mut router = Router::new(alloc);
-    router.insert("/node/{n}", Form::Node)?;
-    router.insert("/taxonomy/term/{t}", Form::Term)?;
-    router.insert("/user/{u}", Form::User)?;
-    router.insert("/user/login", Form::Login)?;
+    let router = Ok(Router::new(alloc));
+    let router = with_form(router, "/node/{n}", Form::Node);
+    let router = with_form(router, "/taxonomy/term/{t}", Form::Term);
+    let router = with_form(router, "/user/{u}", Form::User);
+    with_form(router, "/user/login", Form::Login)
+}
+
+/// A router with a route more. `Err` where a route was refused before, too.
+#[tactic(auto, using(crate::proofs::Placed::placed_where_taken))]
+fn with_form(
+    router: Result<Router<Form>, InsertError>,
+    route: &str,
+    form: Form,
+) -> Result<Router<Form>, InsertError>
+    ensures { (rows : RowsOf (RouteOf FormValue)) → IfOk router (λ r. r ≡ rows) → IfOk result (λ r. r ≡ with_route route.now form rows) }
+{
+    let mut router = router?;
+    router.insert(route, form)?;
     Ok(router)
 }
 

@@ -1,5 +1,5 @@
 //! Requests, drawn.
-ghost use Rattle.std.specs.Prelude.{◌≡◌, ◌≤◌, ◌+◌, ◌^◌, OnOk, IfOk, codes, length};
+ghost use Rattle.std.specs.Prelude.{◌≡◌, ◌≤◌, ◌+◌, ◌++◌, ◌^◌, ℕ, List, OnOk, IfOk, codes, length};
 ghost use Rattle.drill_input.specs.Asked.{and_by, and_edit, and_listing_page, and_node_page, and_rebuild, and_request, asked, cookie_line, get_text, get_with, patch_text, rebuild_text, title_body, version_of};
 ghost use Rattle.drill_input.specs.SiteDrawn.{numbered};
 
@@ -27,6 +27,15 @@ impl Model for Requests {
     ghost view = { λ r. record { text = r.text.items; edited = r.edited.items; seed = r.draws } };
 }
 
+/// A text with more bytes at its end. `Err` where memory is wanting, or was wanting before.
+fn with_bytes(text: Result<Vec<u8>, AllocError>, bytes: &[u8]) -> Result<Vec<u8>, AllocError>
+    ensures { (before : List ℕ) → IfOk text (λ t. t.items ≡ before) → IfOk result (λ t. t.items ≡ before ++ bytes.now) }
+{
+    let mut text = text?;
+    text.extend_from_slice(bytes)?;
+    Ok(text)
+}
+
 /// The line that says who asks.
 fn cookie_line(alloc: Global, viewer: u32) -> Result<Vec<u8>, AllocError>
     ensures { IfOk result (λ line. line.items ≡ cookie_line viewer) }
@@ -43,12 +52,11 @@ fn cookie_line(alloc: Global, viewer: u32) -> Result<Vec<u8>, AllocError>
 fn get_with(alloc: Global, target: &[u8], cookie: &[u8]) -> Result<Vec<u8>, AllocError>
     ensures { IfOk result (λ text. text.items ≡ get_with target.now cookie.now) }
 {
-    let mut text = Vec::from_slice(alloc, b"GET ")?;
-    text.extend_from_slice(target)?;
-    text.extend_from_slice(b" HTTP/1.1\r\nHost: a\r\n")?;
-    text.extend_from_slice(cookie)?;
-    text.extend_from_slice(b"\r\n")?;
-    Ok(text)
+    let text = Vec::from_slice(alloc, b"GET ");
+    let text = with_bytes(text, target);
+    let text = with_bytes(text, b" HTTP/1.1\r\nHost: a\r\n");
+    let text = with_bytes(text, cookie);
+    with_bytes(text, b"\r\n")
 }
 
 /// A request to see what a target shows.
@@ -74,11 +82,10 @@ fn title_body(alloc: Global, title: u32, version: u64) -> Result<Vec<u8>, AllocE
     ensures { IfOk result (λ body. body.items ≡ title_body title version) }
 {
     let digits = version.to_string(alloc)?;
-    let mut body = numbered(alloc, b"{\"title\":\"m", title)?;
-    body.extend_from_slice(b"\",\"vid\":")?;
-    body.extend_from_slice(digits.as_bytes())?;
-    body.extend_from_slice(b"}")?;
-    Ok(body)
+    let body = numbered(alloc, b"{\"title\":\"m", title);
+    let body = with_bytes(body, b"\",\"vid\":");
+    let body = with_bytes(body, digits.as_bytes());
+    with_bytes(body, b"}")
 }
 
 /// A request to edit a node.
@@ -87,16 +94,16 @@ fn patch_text(alloc: Global, node: u32, body: &[u8]) -> Result<Vec<u8>, AllocErr
     ensures { IfOk result (λ text. text.items ≡ patch_text node body.now) }
 {
     let digits = body.len().to_string(alloc)?;
-    let mut text = numbered(alloc, b"PATCH /node/", node)?;
-    text.extend_from_slice(b" HTTP/1.1\r\n")?;
-    text.extend_from_slice(
+    let text = numbered(alloc, b"PATCH /node/", node);
+    let text = with_bytes(text, b" HTTP/1.1\r\n");
+    let text = with_bytes(
+        text,
         b"Host: a\r\nCookie: SESS=abc\r\nX-CSRF-Token: ba7816bf8f01cfea414140de5dae2223\r\n",
-    )?;
-    text.extend_from_slice(b"Content-Type: application/json\r\nContent-Length: ")?;
-    text.extend_from_slice(digits.as_bytes())?;
-    text.extend_from_slice(b"\r\n\r\n")?;
-    text.extend_from_slice(body)?;
-    Ok(text)
+    );
+    let text = with_bytes(text, b"Content-Type: application/json\r\nContent-Length: ");
+    let text = with_bytes(text, digits.as_bytes());
+    let text = with_bytes(text, b"\r\n\r\n");
+    with_bytes(text, body)
 }
 
 /// A request to rebuild the caches.
@@ -104,12 +111,12 @@ fn patch_text(alloc: Global, node: u32, body: &[u8]) -> Result<Vec<u8>, AllocErr
 fn rebuild_text(alloc: Global) -> Result<Vec<u8>, AllocError>
     ensures { IfOk result (λ text. text.items ≡ rebuild_text) }
 {
-    let mut text = Vec::from_slice(alloc, b"POST /cache/rebuild HTTP/1.1\r\n")?;
-    text.extend_from_slice(
+    let text = Vec::from_slice(alloc, b"POST /cache/rebuild HTTP/1.1\r\n");
+    let text = with_bytes(
+        text,
         b"Host: a\r\nCookie: SESS=abc\r\nX-CSRF-Token: ba7816bf8f01cfea414140de5dae2223\r\n",
-    )?;
-    text.extend_from_slice(b"\r\n")?;
-    Ok(text)
+    );
+    with_bytes(text, b"\r\n")
 }
 
 /// The version of a node that these edits made.

@@ -1,7 +1,7 @@
 //! The rows of a site, drawn.
-ghost use Rattle.std.specs.Prelude.{◌≡◌, ◌≤◌, ◌<◌, ◌+◌, OnOk, IfOk};
+ghost use Rattle.std.specs.Prelude.{◌≡◌, ◌≤◌, ◌<◌, ◌+◌, ◌∷◌, [], OnOk, IfOk, codes};
 ghost use Rattle.drill_input.specs.Draws.{after};
-ghost use Rattle.drill_input.specs.SiteDrawn.{after_records, and_node, and_nodes, and_seq, and_user, and_users, begun, choices, node_row, records_drawn, session_row, site_drawn, user_row};
+ghost use Rattle.drill_input.specs.SiteDrawn.{after_records, and_node, and_nodes, and_seq, and_user, and_users, begun, choices, node_row, numbered, records_drawn, session_row, site_drawn, user_row};
 
 use crate::draws::Draws;
 use crate::words::{name_of, numbered};
@@ -83,6 +83,31 @@ fn draw_records(alloc: Global, draws: &mut Draws) -> Result<Items<GrantRow>, All
     Ok(Items::one(alloc, record)?)
 }
 
+/// Two words, each with a number: what a row is called, and its uuid.
+fn texts_of(
+    alloc: Global,
+    name: &[u8],
+    uuid: &[u8],
+    number: u32,
+) -> Result<(Text, Text), AllocError>
+    ensures { IfOk result (λ texts. (texts.0 ≡ numbered name.now number) × (texts.1 ≡ numbered uuid.now number)) }
+{
+    let name = numbered(alloc, name, number)?;
+    let uuid = numbered(alloc, uuid, number)?;
+    Ok((Text::from_vec(name), Text::from_vec(uuid)))
+}
+
+/// The fields of a node: the body of this number.
+fn fields_of(alloc: Global, body: u32) -> Result<Items<FieldValue>, AllocError>
+    ensures { IfOk result (λ fields. fields ≡ record { name = codes "body"; value = numbered (codes "b") body } ∷ []) }
+{
+    let body = FieldValue {
+        name: name_of(b"body"),
+        value: Text::from_vec(numbered(alloc, b"b", body)?),
+    };
+    Ok(Items::one(alloc, body)?)
+}
+
 /// A node that has these.
 fn node_row(
     alloc: Global,
@@ -93,16 +118,12 @@ fn node_row(
     requires { node ≤ 200 }
     ensures { IfOk result (λ row. row ≡ node_row node made records) }
 {
-    let title = Text::from_vec(numbered(alloc, b"n", node)?);
-    let uuid = Text::from_vec(numbered(alloc, b"n-", node)?);
-    let body = FieldValue {
-        name: name_of(b"body"),
-        value: Text::from_vec(numbered(alloc, b"b", made.body)?),
-    };
+    let fields = fields_of(alloc, made.body)?;
+    let (title, uuid) = texts_of(alloc, b"n", b"n-", node)?;
     Ok(Row::Node(Node {
         changed: u64::from(100 + node),
         created: u64::from(100 + node),
-        fields: Items::one(alloc, body)?,
+        fields,
         grants: records,
         path: None,
         promote: made.promote,
@@ -122,16 +143,16 @@ fn node_row(
 fn user_row(alloc: Global, user: u32, gid: u32) -> Result<Row, AllocError>
     ensures { IfOk result (λ row. row ≡ user_row user gid) }
 {
-    let name = Text::from_vec(numbered(alloc, b"u", user)?);
-    let uuid = Text::from_vec(numbered(alloc, b"u-", user)?);
     let grant = Grant {
         realm: name_of(b"club"),
         gid,
     };
+    let grants = Items::one(alloc, grant)?;
+    let (name, uuid) = texts_of(alloc, b"u", b"u-", user)?;
     Ok(Row::User(User {
         created: 0,
         digest: None,
-        grants: Items::one(alloc, grant)?,
+        grants,
         name,
         roles: Items::none(alloc),
         salt: Text::from_vec(Vec::new(alloc)),

@@ -82,6 +82,27 @@ fn copied(alloc: Global, value: Option<&[u8]>) -> Result<Option<Octets>, AllocEr
     }
 }
 
+/// Copies of two parts of a head.
+fn both_copied(alloc: Global, first: &[u8], second: &[u8]) -> Result<(Octets, Octets), AllocError>
+    ensures { IfOk result (λ copies. (copies.0 ≡ first.now) × (copies.1 ≡ second.now)) }
+{
+    Ok((
+        Octets::copied(alloc, first)?,
+        Octets::copied(alloc, second)?,
+    ))
+}
+
+/// Copies of what there is of two values.
+fn both_copied_if_any(
+    alloc: Global,
+    first: Option<&[u8]>,
+    second: Option<&[u8]>,
+) -> Result<(Option<Octets>, Option<Octets>), AllocError>
+    ensures { IfOk result (λ copies. (copies.0 ≡ option_map (λ v. v.now) first.entry) × (copies.1 ≡ option_map (λ v. v.now) second.entry)) }
+{
+    Ok((copied(alloc, first)?, copied(alloc, second)?))
+}
+
 /// The session that the cookies name.
 fn session_of(bytes: &[u8], rows: &[HeaderSpan]) -> Option<Name>
     requires { AreWithin bytes.now rows.now }
@@ -111,18 +132,26 @@ pub(crate) fn request_of(
         → IfOk result (λ r. IsRequestOf h r) }
     ensures body { IfOk result (λ r. r.body ≡ body.now) }
 {
-    let target = head.path.of(bytes);
     let session = session_of(bytes, rows);
+    let line = head.path.of(bytes);
+    let (method, body) = both_copied(alloc, head.method.of(bytes), body)?;
+    let (target, query) = both_copied(alloc, line, query_of(line))?;
+    let path = path_of(alloc, line)?;
+    let (content_type, csrf) = both_copied_if_any(
+        alloc,
+        content_type(bytes, rows),
+        csrf_token(bytes, rows),
+    )?;
     Ok(Request {
-        method: Octets::copied(alloc, head.method.of(bytes))?,
-        target: Octets::copied(alloc, target)?,
-        path: path_of(alloc, target)?,
-        query: Octets::copied(alloc, query_of(target))?,
+        method,
+        target,
+        path,
+        query,
         version: version_of(head.version),
         closes: closes(head.version, bytes, rows),
-        content_type: copied(alloc, content_type(bytes, rows))?,
-        csrf: copied(alloc, csrf_token(bytes, rows))?,
+        content_type,
+        csrf,
         session,
-        body: Octets::copied(alloc, body)?,
+        body,
     })
 }

@@ -2,21 +2,29 @@
 ghost use Rattle.row_kinds.specs.Look.{nothing_said};
 ghost use Rattle.row_kinds.specs.Rows.{grant_row_in, grant_row_data, field_in, field_data, type_in, type_data, term_in, term_data, node_in, node_data, IsTypedGrantRow, IsTypedField, IsTypedType, IsTypedNode};
 
-use crate::field::{Read, Write, both, put_at, read_at};
-use crate::texts::{put_texts_at, texts_at};
+use crate::field::{Read, Write, both, no_keys, object_of, read_at, with_key};
+use crate::texts::{texts_at, with_texts};
 use content_rows::{FieldRow, GrantRow, Node, NodeType, Term};
-use serde_json::{Map, Value};
+use serde_json::Value;
 use std::alloc::{AllocError, Global};
 
 impl Read for GrantRow {
     ghost of = { grant_row_in };
 
     fn read(alloc: Global, value: &Value) -> Result<Self, AllocError> {
+        let (delete, gid) = both(
+            read_at(alloc, value, "delete"),
+            read_at(alloc, value, "gid"),
+        )?;
+        let (realm, update) = both(
+            read_at(alloc, value, "realm"),
+            read_at(alloc, value, "update"),
+        )?;
         Ok(GrantRow {
-            delete: read_at(alloc, value, "delete")?,
-            gid: read_at(alloc, value, "gid")?,
-            realm: read_at(alloc, value, "realm")?,
-            update: read_at(alloc, value, "update")?,
+            delete,
+            gid,
+            realm,
+            update,
             view: read_at(alloc, value, "view")?,
         })
     }
@@ -28,13 +36,13 @@ impl Write for GrantRow {
     ghost typed = { IsTypedGrantRow };
 
     fn write(&self, alloc: Global) -> Result<Value, AllocError> {
-        let mut map = Map::new(alloc);
-        put_at(alloc, &mut map, "delete", &self.delete)?;
-        put_at(alloc, &mut map, "gid", &self.gid)?;
-        put_at(alloc, &mut map, "realm", &self.realm)?;
-        put_at(alloc, &mut map, "update", &self.update)?;
-        put_at(alloc, &mut map, "view", &self.view)?;
-        Ok(Value::Object(map))
+        let map = no_keys(alloc);
+        let map = with_key(alloc, map, "delete", &self.delete);
+        let map = with_key(alloc, map, "gid", &self.gid);
+        let map = with_key(alloc, map, "realm", &self.realm);
+        let map = with_key(alloc, map, "update", &self.update);
+        let map = with_key(alloc, map, "view", &self.view);
+        object_of(map)
     }
 }
 
@@ -42,13 +50,22 @@ impl Read for FieldRow {
     ghost of = { field_in };
 
     fn read(alloc: Global, value: &Value) -> Result<Self, AllocError> {
+        let (owner, teaser) = both(
+            read_at(alloc, value, "owner"),
+            read_at(alloc, value, "teaser"),
+        )?;
+        let (label, name) = both(
+            read_at(alloc, value, "label"),
+            read_at(alloc, value, "name"),
+        )?;
+        let (edit, view) = both(read_at(alloc, value, "edit"), read_at(alloc, value, "view"))?;
         Ok(FieldRow {
-            edit: read_at(alloc, value, "edit")?,
-            label: read_at(alloc, value, "label")?,
-            name: read_at(alloc, value, "name")?,
-            owner: read_at(alloc, value, "owner")?,
-            teaser: read_at(alloc, value, "teaser")?,
-            view: read_at(alloc, value, "view")?,
+            edit,
+            label,
+            name,
+            owner,
+            teaser,
+            view,
         })
     }
 }
@@ -59,14 +76,14 @@ impl Write for FieldRow {
     ghost typed = { IsTypedField };
 
     fn write(&self, alloc: Global) -> Result<Value, AllocError> {
-        let mut map = Map::new(alloc);
-        put_at(alloc, &mut map, "edit", &self.edit)?;
-        put_at(alloc, &mut map, "label", &self.label)?;
-        put_at(alloc, &mut map, "name", &self.name)?;
-        put_at(alloc, &mut map, "owner", &self.owner)?;
-        put_at(alloc, &mut map, "teaser", &self.teaser)?;
-        put_at(alloc, &mut map, "view", &self.view)?;
-        Ok(Value::Object(map))
+        let map = no_keys(alloc);
+        let map = with_key(alloc, map, "edit", &self.edit);
+        let map = with_key(alloc, map, "label", &self.label);
+        let map = with_key(alloc, map, "name", &self.name);
+        let map = with_key(alloc, map, "owner", &self.owner);
+        let map = with_key(alloc, map, "teaser", &self.teaser);
+        let map = with_key(alloc, map, "view", &self.view);
+        object_of(map)
     }
 }
 
@@ -74,10 +91,14 @@ impl Read for NodeType {
     ghost of = { type_in };
 
     fn read(alloc: Global, value: &Value) -> Result<Self, AllocError> {
+        let (label, submitted) = both(
+            read_at(alloc, value, "label"),
+            read_at(alloc, value, "submitted"),
+        )?;
         Ok(NodeType {
             fields: read_at(alloc, value, "fields")?,
-            label: read_at(alloc, value, "label")?,
-            submitted: read_at(alloc, value, "submitted")?,
+            label,
+            submitted,
         })
     }
 }
@@ -88,11 +109,11 @@ impl Write for NodeType {
     ghost typed = { IsTypedType };
 
     fn write(&self, alloc: Global) -> Result<Value, AllocError> {
-        let mut map = Map::new(alloc);
-        put_at(alloc, &mut map, "fields", &self.fields)?;
-        put_at(alloc, &mut map, "label", &self.label)?;
-        put_at(alloc, &mut map, "submitted", &self.submitted)?;
-        Ok(Value::Object(map))
+        let map = no_keys(alloc);
+        let map = with_key(alloc, map, "fields", &self.fields);
+        let map = with_key(alloc, map, "label", &self.label);
+        let map = with_key(alloc, map, "submitted", &self.submitted);
+        object_of(map)
     }
 }
 
@@ -100,11 +121,19 @@ impl Read for Term {
     ghost of = { term_in };
 
     fn read(alloc: Global, value: &Value) -> Result<Self, AllocError> {
+        let (status, uuid) = both(
+            read_at(alloc, value, "status"),
+            read_at(alloc, value, "uuid"),
+        )?;
+        let (description, name) = both(
+            read_at(alloc, value, "description"),
+            read_at(alloc, value, "name"),
+        )?;
         Ok(Term {
-            description: read_at(alloc, value, "description")?,
-            name: read_at(alloc, value, "name")?,
-            status: read_at(alloc, value, "status")?,
-            uuid: read_at(alloc, value, "uuid")?,
+            description,
+            name,
+            status,
+            uuid,
         })
     }
 }
@@ -115,12 +144,12 @@ impl Write for Term {
     ghost typed = { nothing_said };
 
     fn write(&self, alloc: Global) -> Result<Value, AllocError> {
-        let mut map = Map::new(alloc);
-        put_at(alloc, &mut map, "description", &self.description)?;
-        put_at(alloc, &mut map, "name", &self.name)?;
-        put_at(alloc, &mut map, "status", &self.status)?;
-        put_at(alloc, &mut map, "uuid", &self.uuid)?;
-        Ok(Value::Object(map))
+        let map = no_keys(alloc);
+        let map = with_key(alloc, map, "description", &self.description);
+        let map = with_key(alloc, map, "name", &self.name);
+        let map = with_key(alloc, map, "status", &self.status);
+        let map = with_key(alloc, map, "uuid", &self.uuid);
+        object_of(map)
     }
 }
 
@@ -179,22 +208,22 @@ impl Write for Node {
     ghost typed = { IsTypedNode };
 
     fn write(&self, alloc: Global) -> Result<Value, AllocError> {
-        let mut map = Map::new(alloc);
-        put_at(alloc, &mut map, "changed", &self.changed)?;
-        put_at(alloc, &mut map, "created", &self.created)?;
-        put_texts_at(alloc, &mut map, "fields", &self.fields)?;
-        put_at(alloc, &mut map, "grants", &self.grants)?;
-        put_at(alloc, &mut map, "path", &self.path)?;
-        put_at(alloc, &mut map, "promote", &self.promote)?;
-        put_at(alloc, &mut map, "refs", &self.refs)?;
-        put_at(alloc, &mut map, "status", &self.status)?;
-        put_at(alloc, &mut map, "sticky", &self.sticky)?;
-        put_at(alloc, &mut map, "terms", &self.terms)?;
-        put_at(alloc, &mut map, "title", &self.title)?;
-        put_at(alloc, &mut map, "type", &self.node_type)?;
-        put_at(alloc, &mut map, "uid", &self.uid)?;
-        put_at(alloc, &mut map, "uuid", &self.uuid)?;
-        put_at(alloc, &mut map, "vid", &self.vid)?;
-        Ok(Value::Object(map))
+        let map = no_keys(alloc);
+        let map = with_key(alloc, map, "changed", &self.changed);
+        let map = with_key(alloc, map, "created", &self.created);
+        let map = with_texts(alloc, map, "fields", &self.fields);
+        let map = with_key(alloc, map, "grants", &self.grants);
+        let map = with_key(alloc, map, "path", &self.path);
+        let map = with_key(alloc, map, "promote", &self.promote);
+        let map = with_key(alloc, map, "refs", &self.refs);
+        let map = with_key(alloc, map, "status", &self.status);
+        let map = with_key(alloc, map, "sticky", &self.sticky);
+        let map = with_key(alloc, map, "terms", &self.terms);
+        let map = with_key(alloc, map, "title", &self.title);
+        let map = with_key(alloc, map, "type", &self.node_type);
+        let map = with_key(alloc, map, "uid", &self.uid);
+        let map = with_key(alloc, map, "uuid", &self.uuid);
+        let map = with_key(alloc, map, "vid", &self.vid);
+        object_of(map)
     }
 }

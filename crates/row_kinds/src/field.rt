@@ -1,7 +1,7 @@
 //! Values that stand in JSON: what is read of every value, and how each is written.
-ghost use Rattle.std.specs.Prelude.{◌≡◌, Ok, IfOk, OnOk, IsTrue};
+ghost use Rattle.std.specs.Prelude.{◌≡◌, Ok, IfOk, OnOk, IsOk, IsTrue};
 ghost use Rattle.std.specs.List.{AllByRecursion};
-ghost use Rattle.serde_json.specs.Data.{boolean, array, put};
+ghost use Rattle.serde_json.specs.Data.{Members, no_members, boolean, array, object, put};
 ghost use Rattle.serde_json.specs.View.{view, items_view, members_view, number_view};
 ghost use Rattle.content_rows.specs.LiteralName.{is_name};
 ghost use Rattle.json_keys.specs.Checked.{read_checked};
@@ -97,6 +97,37 @@ pub fn put_at<T: Write>(
 {
     let written = value.write(alloc)?;
     serde_json::put(map, alloc, key, written)
+}
+
+/// An object with no key yet, onto which a row is written.
+pub(crate) fn no_keys(alloc: Global) -> Result<Map<String, Value>, AllocError>
+    ensures { IfOk result (λ m. members_view m.entries ≡ no_members) }
+{
+    Ok(Map::new(alloc))
+}
+
+/// An object with a value more, at a key. `Err` where memory is wanting, or was wanting before: so
+/// who writes a row asks once, at its end.
+pub(crate) fn with_key<T: Write>(
+    alloc: Global,
+    map: Result<Map<String, Value>, AllocError>,
+    key: &str,
+    value: &T,
+) -> Result<Map<String, Value>, AllocError>
+    ensures written { (ms : Members) → IfOk map (λ m. members_view m.entries ≡ ms) → IfOk result (λ m. members_view m.entries ≡ put key.now (T.shown value.now) ms) }
+    ensures of_type { OnOk result (IsOk map × T.typed value.now) }
+{
+    let mut map = map?;
+    put_at(alloc, &mut map, key, value)?;
+    Ok(map)
+}
+
+/// The object that was written.
+pub(crate) fn object_of(map: Result<Map<String, Value>, AllocError>) -> Result<Value, AllocError>
+    ensures written { (ms : Members) → IfOk map (λ m. members_view m.entries ≡ ms) → IfOk result (λ v. view v ≡ object ms) }
+    ensures of_type { OnOk result (IsOk map) }
+{
+    Ok(Value::Object(map?))
 }
 
 /// What an object says by a table of keys, or the first rule that it breaks.

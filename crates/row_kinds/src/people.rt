@@ -2,19 +2,17 @@
 ghost use Rattle.row_kinds.specs.Look.{nothing_said};
 ghost use Rattle.row_kinds.specs.Rows.{grant_in, grant_data, role_in, role_data, user_in, user_data, session_in, session_data, IsTypedGrant, IsTypedRole, IsTypedUser};
 
-use crate::field::{Read, Write, both, put_at, read_at};
+use crate::field::{Read, Write, both, no_keys, object_of, read_at, with_key};
 use content_rows::{Grant, Role, Session, User};
-use serde_json::{Map, Value};
+use serde_json::Value;
 use std::alloc::{AllocError, Global};
 
 impl Read for Grant {
     ghost of = { grant_in };
 
     fn read(alloc: Global, value: &Value) -> Result<Self, AllocError> {
-        Ok(Grant {
-            gid: read_at(alloc, value, "gid")?,
-            realm: read_at(alloc, value, "realm")?,
-        })
+        let (gid, realm) = both(read_at(alloc, value, "gid"), read_at(alloc, value, "realm"))?;
+        Ok(Grant { gid, realm })
     }
 }
 
@@ -24,10 +22,10 @@ impl Write for Grant {
     ghost typed = { IsTypedGrant };
 
     fn write(&self, alloc: Global) -> Result<Value, AllocError> {
-        let mut map = Map::new(alloc);
-        put_at(alloc, &mut map, "gid", &self.gid)?;
-        put_at(alloc, &mut map, "realm", &self.realm)?;
-        Ok(Value::Object(map))
+        let map = no_keys(alloc);
+        let map = with_key(alloc, map, "gid", &self.gid);
+        let map = with_key(alloc, map, "realm", &self.realm);
+        object_of(map)
     }
 }
 
@@ -35,11 +33,19 @@ impl Read for Role {
     ghost of = { role_in };
 
     fn read(alloc: Global, value: &Value) -> Result<Self, AllocError> {
+        let (admin, label) = both(
+            read_at(alloc, value, "admin"),
+            read_at(alloc, value, "label"),
+        )?;
+        let (grants, permissions) = both(
+            read_at(alloc, value, "grants"),
+            read_at(alloc, value, "permissions"),
+        )?;
         Ok(Role {
-            admin: read_at(alloc, value, "admin")?,
-            grants: read_at(alloc, value, "grants")?,
-            label: read_at(alloc, value, "label")?,
-            permissions: read_at(alloc, value, "permissions")?,
+            admin,
+            grants,
+            label,
+            permissions,
         })
     }
 }
@@ -50,12 +56,12 @@ impl Write for Role {
     ghost typed = { IsTypedRole };
 
     fn write(&self, alloc: Global) -> Result<Value, AllocError> {
-        let mut map = Map::new(alloc);
-        put_at(alloc, &mut map, "admin", &self.admin)?;
-        put_at(alloc, &mut map, "grants", &self.grants)?;
-        put_at(alloc, &mut map, "label", &self.label)?;
-        put_at(alloc, &mut map, "permissions", &self.permissions)?;
-        Ok(Value::Object(map))
+        let map = no_keys(alloc);
+        let map = with_key(alloc, map, "admin", &self.admin);
+        let map = with_key(alloc, map, "grants", &self.grants);
+        let map = with_key(alloc, map, "label", &self.label);
+        let map = with_key(alloc, map, "permissions", &self.permissions);
+        object_of(map)
     }
 }
 
@@ -95,16 +101,16 @@ impl Write for User {
     ghost typed = { IsTypedUser };
 
     fn write(&self, alloc: Global) -> Result<Value, AllocError> {
-        let mut map = Map::new(alloc);
-        put_at(alloc, &mut map, "created", &self.created)?;
-        put_at(alloc, &mut map, "digest", &self.digest)?;
-        put_at(alloc, &mut map, "grants", &self.grants)?;
-        put_at(alloc, &mut map, "name", &self.name)?;
-        put_at(alloc, &mut map, "roles", &self.roles)?;
-        put_at(alloc, &mut map, "salt", &self.salt)?;
-        put_at(alloc, &mut map, "status", &self.status)?;
-        put_at(alloc, &mut map, "uuid", &self.uuid)?;
-        Ok(Value::Object(map))
+        let map = no_keys(alloc);
+        let map = with_key(alloc, map, "created", &self.created);
+        let map = with_key(alloc, map, "digest", &self.digest);
+        let map = with_key(alloc, map, "grants", &self.grants);
+        let map = with_key(alloc, map, "name", &self.name);
+        let map = with_key(alloc, map, "roles", &self.roles);
+        let map = with_key(alloc, map, "salt", &self.salt);
+        let map = with_key(alloc, map, "status", &self.status);
+        let map = with_key(alloc, map, "uuid", &self.uuid);
+        object_of(map)
     }
 }
 
@@ -112,10 +118,11 @@ impl Read for Session {
     ghost of = { session_in };
 
     fn read(alloc: Global, value: &Value) -> Result<Self, AllocError> {
-        Ok(Session {
-            expires: read_at(alloc, value, "expires")?,
-            uid: read_at(alloc, value, "uid")?,
-        })
+        let (expires, uid) = both(
+            read_at(alloc, value, "expires"),
+            read_at(alloc, value, "uid"),
+        )?;
+        Ok(Session { expires, uid })
     }
 }
 
@@ -125,9 +132,9 @@ impl Write for Session {
     ghost typed = { nothing_said };
 
     fn write(&self, alloc: Global) -> Result<Value, AllocError> {
-        let mut map = Map::new(alloc);
-        put_at(alloc, &mut map, "expires", &self.expires)?;
-        put_at(alloc, &mut map, "uid", &self.uid)?;
-        Ok(Value::Object(map))
+        let map = no_keys(alloc);
+        let map = with_key(alloc, map, "expires", &self.expires);
+        let map = with_key(alloc, map, "uid", &self.uid);
+        object_of(map)
     }
 }

@@ -2,21 +2,26 @@
 ghost use Rattle.row_kinds.specs.Look.{nothing_said};
 ghost use Rattle.row_kinds.specs.Rows.{link_in, link_data, site_in, site_data, seq_in, seq_data, menu_in, menu_data, listing_in, listing_data, block_in, block_data, IsTypedLink, IsTypedSeq, IsTypedMenu, IsTypedListing, IsTypedBlock};
 
-use crate::field::{Read, Write, both, put_at, read_at};
+use crate::field::{Read, Write, both, no_keys, object_of, read_at, with_key};
 use content_rows::{Block, Link, Listing, Menu, Seq, Site};
-use serde_json::{Map, Value};
+use serde_json::Value;
 use std::alloc::{AllocError, Global};
 
 impl Read for Link {
     ghost of = { link_in };
 
     fn read(alloc: Global, value: &Value) -> Result<Self, AllocError> {
+        let (id, weight) = both(read_at(alloc, value, "id"), read_at(alloc, value, "weight"))?;
+        let (path, title) = both(
+            read_at(alloc, value, "path"),
+            read_at(alloc, value, "title"),
+        )?;
         Ok(Link {
-            id: read_at(alloc, value, "id")?,
+            id,
             parent: read_at(alloc, value, "parent")?,
-            path: read_at(alloc, value, "path")?,
-            title: read_at(alloc, value, "title")?,
-            weight: read_at(alloc, value, "weight")?,
+            path,
+            title,
+            weight,
         })
     }
 }
@@ -27,13 +32,13 @@ impl Write for Link {
     ghost typed = { IsTypedLink };
 
     fn write(&self, alloc: Global) -> Result<Value, AllocError> {
-        let mut map = Map::new(alloc);
-        put_at(alloc, &mut map, "id", &self.id)?;
-        put_at(alloc, &mut map, "parent", &self.parent)?;
-        put_at(alloc, &mut map, "path", &self.path)?;
-        put_at(alloc, &mut map, "title", &self.title)?;
-        put_at(alloc, &mut map, "weight", &self.weight)?;
-        Ok(Value::Object(map))
+        let map = no_keys(alloc);
+        let map = with_key(alloc, map, "id", &self.id);
+        let map = with_key(alloc, map, "parent", &self.parent);
+        let map = with_key(alloc, map, "path", &self.path);
+        let map = with_key(alloc, map, "title", &self.title);
+        let map = with_key(alloc, map, "weight", &self.weight);
+        object_of(map)
     }
 }
 
@@ -41,10 +46,11 @@ impl Read for Site {
     ghost of = { site_in };
 
     fn read(alloc: Global, value: &Value) -> Result<Self, AllocError> {
-        Ok(Site {
-            front: read_at(alloc, value, "front")?,
-            name: read_at(alloc, value, "name")?,
-        })
+        let (front, name) = both(
+            read_at(alloc, value, "front"),
+            read_at(alloc, value, "name"),
+        )?;
+        Ok(Site { front, name })
     }
 }
 
@@ -54,10 +60,10 @@ impl Write for Site {
     ghost typed = { nothing_said };
 
     fn write(&self, alloc: Global) -> Result<Value, AllocError> {
-        let mut map = Map::new(alloc);
-        put_at(alloc, &mut map, "front", &self.front)?;
-        put_at(alloc, &mut map, "name", &self.name)?;
-        Ok(Value::Object(map))
+        let map = no_keys(alloc);
+        let map = with_key(alloc, map, "front", &self.front);
+        let map = with_key(alloc, map, "name", &self.name);
+        object_of(map)
     }
 }
 
@@ -65,9 +71,10 @@ impl Read for Seq {
     ghost of = { seq_in };
 
     fn read(alloc: Global, value: &Value) -> Result<Self, AllocError> {
+        let (node, term) = both(read_at(alloc, value, "node"), read_at(alloc, value, "term"))?;
         Ok(Seq {
-            node: read_at(alloc, value, "node")?,
-            term: read_at(alloc, value, "term")?,
+            node,
+            term,
             user: read_at(alloc, value, "user")?,
         })
     }
@@ -79,11 +86,11 @@ impl Write for Seq {
     ghost typed = { IsTypedSeq };
 
     fn write(&self, alloc: Global) -> Result<Value, AllocError> {
-        let mut map = Map::new(alloc);
-        put_at(alloc, &mut map, "node", &self.node)?;
-        put_at(alloc, &mut map, "term", &self.term)?;
-        put_at(alloc, &mut map, "user", &self.user)?;
-        Ok(Value::Object(map))
+        let map = no_keys(alloc);
+        let map = with_key(alloc, map, "node", &self.node);
+        let map = with_key(alloc, map, "term", &self.term);
+        let map = with_key(alloc, map, "user", &self.user);
+        object_of(map)
     }
 }
 
@@ -91,10 +98,11 @@ impl Read for Menu {
     ghost of = { menu_in };
 
     fn read(alloc: Global, value: &Value) -> Result<Self, AllocError> {
-        Ok(Menu {
-            label: read_at(alloc, value, "label")?,
-            links: read_at(alloc, value, "links")?,
-        })
+        let (label, links) = both(
+            read_at(alloc, value, "label"),
+            read_at(alloc, value, "links"),
+        )?;
+        Ok(Menu { label, links })
     }
 }
 
@@ -104,10 +112,10 @@ impl Write for Menu {
     ghost typed = { IsTypedMenu };
 
     fn write(&self, alloc: Global) -> Result<Value, AllocError> {
-        let mut map = Map::new(alloc);
-        put_at(alloc, &mut map, "label", &self.label)?;
-        put_at(alloc, &mut map, "links", &self.links)?;
-        Ok(Value::Object(map))
+        let map = no_keys(alloc);
+        let map = with_key(alloc, map, "label", &self.label);
+        let map = with_key(alloc, map, "links", &self.links);
+        object_of(map)
     }
 }
 
@@ -115,13 +123,25 @@ impl Read for Listing {
     ghost of = { listing_in };
 
     fn read(alloc: Global, value: &Value) -> Result<Self, AllocError> {
+        let (age, promoted) = both(
+            read_at(alloc, value, "age"),
+            read_at(alloc, value, "promoted"),
+        )?;
+        let (recent, term) = both(
+            read_at(alloc, value, "recent"),
+            read_at(alloc, value, "term"),
+        )?;
+        let (path, title) = both(
+            read_at(alloc, value, "path"),
+            read_at(alloc, value, "title"),
+        )?;
         Ok(Listing {
-            age: read_at(alloc, value, "age")?,
-            path: read_at(alloc, value, "path")?,
-            promoted: read_at(alloc, value, "promoted")?,
-            recent: read_at(alloc, value, "recent")?,
-            term: read_at(alloc, value, "term")?,
-            title: read_at(alloc, value, "title")?,
+            age,
+            path,
+            promoted,
+            recent,
+            term,
+            title,
             types: read_at(alloc, value, "types")?,
         })
     }
@@ -133,15 +153,15 @@ impl Write for Listing {
     ghost typed = { IsTypedListing };
 
     fn write(&self, alloc: Global) -> Result<Value, AllocError> {
-        let mut map = Map::new(alloc);
-        put_at(alloc, &mut map, "age", &self.age)?;
-        put_at(alloc, &mut map, "path", &self.path)?;
-        put_at(alloc, &mut map, "promoted", &self.promoted)?;
-        put_at(alloc, &mut map, "recent", &self.recent)?;
-        put_at(alloc, &mut map, "term", &self.term)?;
-        put_at(alloc, &mut map, "title", &self.title)?;
-        put_at(alloc, &mut map, "types", &self.types)?;
-        Ok(Value::Object(map))
+        let map = no_keys(alloc);
+        let map = with_key(alloc, map, "age", &self.age);
+        let map = with_key(alloc, map, "path", &self.path);
+        let map = with_key(alloc, map, "promoted", &self.promoted);
+        let map = with_key(alloc, map, "recent", &self.recent);
+        let map = with_key(alloc, map, "term", &self.term);
+        let map = with_key(alloc, map, "title", &self.title);
+        let map = with_key(alloc, map, "types", &self.types);
+        object_of(map)
     }
 }
 
@@ -184,17 +204,17 @@ impl Write for Block {
     ghost typed = { IsTypedBlock };
 
     fn write(&self, alloc: Global) -> Result<Value, AllocError> {
-        let mut map = Map::new(alloc);
-        put_at(alloc, &mut map, "age", &self.age)?;
-        put_at(alloc, &mut map, "hide", &self.hide)?;
-        put_at(alloc, &mut map, "kind", &self.kind)?;
-        put_at(alloc, &mut map, "label", &self.label)?;
-        put_at(alloc, &mut map, "name", &self.name)?;
-        put_at(alloc, &mut map, "paths", &self.paths)?;
-        put_at(alloc, &mut map, "region", &self.region)?;
-        put_at(alloc, &mut map, "roles", &self.roles)?;
-        put_at(alloc, &mut map, "text", &self.text)?;
-        put_at(alloc, &mut map, "weight", &self.weight)?;
-        Ok(Value::Object(map))
+        let map = no_keys(alloc);
+        let map = with_key(alloc, map, "age", &self.age);
+        let map = with_key(alloc, map, "hide", &self.hide);
+        let map = with_key(alloc, map, "kind", &self.kind);
+        let map = with_key(alloc, map, "label", &self.label);
+        let map = with_key(alloc, map, "name", &self.name);
+        let map = with_key(alloc, map, "paths", &self.paths);
+        let map = with_key(alloc, map, "region", &self.region);
+        let map = with_key(alloc, map, "roles", &self.roles);
+        let map = with_key(alloc, map, "text", &self.text);
+        let map = with_key(alloc, map, "weight", &self.weight);
+        object_of(map)
     }
 }

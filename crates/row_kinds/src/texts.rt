@@ -1,7 +1,7 @@
 //! Texts by machine names, as the fields of a node are.
-ghost use Rattle.std.specs.Prelude.{◌≡◌, IfOk, OnOk};
+ghost use Rattle.std.specs.Prelude.{◌≡◌, IfOk, OnOk, IsOk};
 ghost use Rattle.std.specs.List.{AllByRecursion};
-ghost use Rattle.serde_json.specs.Data.{object, put};
+ghost use Rattle.serde_json.specs.Data.{Members, object, put};
 ghost use Rattle.serde_json.specs.View.{view, members_view};
 ghost use Rattle.json_keys.specs.Fault.{members_in};
 ghost use Rattle.row_kinds.specs.Look.{value_at, texts_in, texts_data, IsTypedText, IsNameText};
@@ -37,18 +37,21 @@ fn read_texts(alloc: Global, members: &Map<String, Value>) -> Result<Items<Field
     Ok(Items::from_vec(read))
 }
 
-/// Writes texts by their names at a key.
-pub(crate) fn put_texts_at(
+/// An object with texts by their names at a key more. `Err` where memory is wanting, or was wanting
+/// before.
+pub(crate) fn with_texts(
     alloc: Global,
-    map: &mut Map<String, Value>,
+    map: Result<Map<String, Value>, AllocError>,
     key: &str,
     texts: &Items<FieldValue>,
-) -> Result<(), AllocError>
-    ensures written { OnOk result (members_view map.new.entries ≡ put key.now (object (texts_data texts.now)) (members_view map.old.entries)) }
-    ensures of_type { OnOk result (AllByRecursion IsTypedText texts.now) }
+) -> Result<Map<String, Value>, AllocError>
+    ensures written { (ms : Members) → IfOk map (λ m. members_view m.entries ≡ ms) → IfOk result (λ m. members_view m.entries ≡ put key.now (object (texts_data texts.now)) ms) }
+    ensures of_type { OnOk result (IsOk map × AllByRecursion IsTypedText texts.now) }
 {
+    let mut map = map?;
     let written = write_texts(alloc, texts.as_slice())?;
-    serde_json::put(map, alloc, key, Value::Object(written))
+    serde_json::put(&mut map, alloc, key, Value::Object(written))?;
+    Ok(map)
 }
 
 /// Writes texts by their names.

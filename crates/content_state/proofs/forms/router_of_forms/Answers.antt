@@ -1,13 +1,11 @@
-use Rattle.std.proofs.Common.{refl}
-use Rattle.matchit.proofs.OnLiterals.{matchit_on_literals}
 use Rattle.content_state.specs.Forms.{form_rows}
 use Rattle.content_state.proofs.forms.router_of_forms.Goals as goal
 
 pub returns : goal.returns
-unfolding matchit_on_literals form_rows
+unfolding form_rows
 returns c =
-    let a = c.in_ok-insert.ensures in
-    let b = c.in_ok-insert-2.ensures in
-    let d = c.in_ok-insert-3.ensures in
-    let e = c.in_ok-insert-4.ensures in
-    rw (e.1, d.1, b.1, a.1, c.new-router.ensures) (refl {a = form_rows})
+    c.with_form.ensures _
+    (c.with_form-router-3.ensures _
+    (c.with_form-router-2.ensures _
+    (c.with_form-router.ensures _
+    c.new.ensures)))
