@@ -162,7 +162,12 @@ fn a_sink_in_memory(rt: HostRuntime) {
 // Whether a clock shows these moments, one after another.
 fn shows(mut clock: ListClock, moments: &[u64]) -> bool {
     sendable(&clock);
-    moments.iter().all(|moment| clock.now() == *moment)
+    for moment in moments {
+        if clock.now() != *moment {
+            return false;
+        }
+    }
+    true
 }
 
 #[test]
@@ -174,7 +179,12 @@ fn lists_of_moments(rt: HostRuntime) {
 
 // Whether these words are drawn, one after another.
 fn draws(mut entropy: ListEntropy, words: &[u64]) -> bool {
-    words.iter().all(|word| entropy.word() == *word)
+    for word in words {
+        if entropy.word() != *word {
+            return false;
+        }
+    }
+    true
 }
 
 #[test]

@@ -6,10 +6,9 @@ use http_heads::{
     parse, parse_in, reply_head,
 };
 use std::alloc::{AllocError, Global};
-use std::test::Fail;
 
 /// What bytes begin with, without the request itself.
-#[derive(Clone, Copy, Debug, PartialEq, Eq)]
+#[derive(Clone, Copy, PartialEq, Eq)]
 enum Seen {
     Whole(usize),
     More,
@@ -29,18 +28,6 @@ fn seen_in(alloc: Global, bytes: &[u8], room: &mut HeadRoom) -> Result<Seen, All
     let seen = seen_of(&parsed);
     drop(parsed);
     Ok(seen)
-}
-
-/// Whether bytes begin with that, each of them.
-fn are_seen(alloc: Global, table: &[(&[u8], Seen)]) -> Result<bool, AllocError> {
-    let mut room = HeadRoom::new(alloc)?;
-    for (bytes, want) in table {
-        let seen = seen_in(alloc, bytes, &mut room)?;
-        if seen != *want {
-            return Ok(false);
-        }
-    }
-    Ok(true)
 }
 
 /// Adds a piece to bytes, so often.
@@ -65,159 +52,137 @@ fn repeated(
     Ok(bytes)
 }
 
-/// Requests that are whole, and the bytes that each takes.
-#[test]
-fn whole_requests(rt: HostRuntime) -> Result<(), Fail> {
-    let table: [(&[u8], Seen); 5] = [
-        (b"GET /node/1 HTTP/1.1\r\nHost: a\r\n\r\n", Seen::Whole(33)),
-        (b"GET / HTTP/1.0\n\n", Seen::Whole(16)),
-        (b"\r\n\n\r\nGET / HTTP/1.1\r\n\r\n", Seen::Whole(23)),
-        (
-            b"GET / HTTP/1.1\r\n\r\nGET / HTTP/1.1\r\n\r\n",
-            Seen::Whole(18),
-        ),
-        (
-            b"GET / HTTP/1.1\r\nContent-Length: 0000000002\r\n\r\nab",
-            Seen::Whole(48),
-        ),
-    ];
-    assert!(rt; are_seen(rt.alloc(), &table)?);
-    Ok(())
-}
-
-/// Bytes that more may make a request of.
-#[test]
-fn parts_of_requests(rt: HostRuntime) -> Result<(), Fail> {
-    let table: [(&[u8], Seen); 5] = [
-        (b"", Seen::More),
-        (b"GET /\xff\xfe", Seen::More),
-        (
-            b"GET / HTTP/1.1\r\nContent-Length: 1048576\r\n\r\n",
-            Seen::More,
-        ),
-        (
-            b"POST /node HTTP/1.1\r\nHost: a\r\nContent-Type: application/json\r\nContent-Length: 120\r\n\r\n",
-            Seen::More,
-        ),
-        (
-            b"POST /node HTTP/1.1\r\nHost: a\r\nContent-Type: application/json\r\nContent-Length: 120\r\n\r\n{\"fields\":{\"body\":\"Hi\"},\"title\":\"Nine\",\"",
-            Seen::More,
-        ),
-    ];
-    assert!(rt; are_seen(rt.alloc(), &table)?);
-    Ok(())
-}
-
-/// Bytes that nothing makes a request of.
-#[test]
-fn bytes_of_no_request(rt: HostRuntime) -> Result<(), Fail> {
-    let table: [(&[u8], Seen); 4] = [
-        (
-            b"GET http://a/ HTTP/1.1\r\nHost: a\r\n\r\n",
-            Seen::Refused(400),
-        ),
-        (b"\0\0", Seen::Refused(400)),
-        (b"GET / HTTP/2.0\r\n", Seen::Refused(400)),
-        (b"GET /\xff\xfe HTTP/1.1\r\n\r\n", Seen::Refused(400)),
-    ];
-    assert!(rt; are_seen(rt.alloc(), &table)?);
-    Ok(())
-}
-
-/// Lengths of bodies that are ill-formed, given twice or too great.
-#[test]
-fn lengths_that_are_refused(rt: HostRuntime) -> Result<(), Fail> {
-    let table: [(&[u8], Seen); 8] = [
-        (
-            b"GET / HTTP/1.1\r\nContent-Length: 1\r\ncontent-length: 1\r\n\r\n",
-            Seen::Refused(400),
-        ),
-        (
-            b"GET / HTTP/1.1\r\nContent-Length: 1048577\r\n\r\n",
-            Seen::Refused(413),
-        ),
-        (
-            b"GET x HTTP/1.1\r\nContent-Length: 1048577\r\n\r\n",
-            Seen::Refused(413),
-        ),
-        (
-            b"GET / HTTP/1.1\r\nContent-Length: 9999999999\r\n\r\n",
-            Seen::Refused(413),
-        ),
-        (
-            b"GET / HTTP/1.1\r\nContent-Length: 00000000002\r\n\r\n",
-            Seen::Refused(400),
-        ),
-        (
-            b"GET / HTTP/1.1\r\nContent-Length: +2\r\n\r\n",
-            Seen::Refused(400),
-        ),
-        (
-            b"GET / HTTP/1.1\r\nContent-Length:\r\n\r\n",
-            Seen::Refused(400),
-        ),
-        (
-            b"POST / HTTP/1.1\r\nTransfer-Encoding: chunked\r\nContent-Length: x\r\n\r\n",
-            Seen::Refused(501),
-        ),
-    ];
-    assert!(rt; are_seen(rt.alloc(), &table)?);
-    Ok(())
-}
+/// What bytes begin with.
+const BEGINNINGS: [(&[u8], Seen); 22] = [
+    // requests that are whole, and the bytes that each takes
+    (b"GET /node/1 HTTP/1.1\r\nHost: a\r\n\r\n", Seen::Whole(33)),
+    (b"GET / HTTP/1.0\n\n", Seen::Whole(16)),
+    (b"\r\n\n\r\nGET / HTTP/1.1\r\n\r\n", Seen::Whole(23)),
+    (
+        b"GET / HTTP/1.1\r\n\r\nGET / HTTP/1.1\r\n\r\n",
+        Seen::Whole(18),
+    ),
+    (
+        b"GET / HTTP/1.1\r\nContent-Length: 0000000002\r\n\r\nab",
+        Seen::Whole(48),
+    ),
+    // bytes that more may make a request of
+    (b"", Seen::More),
+    (b"GET /\xff\xfe", Seen::More),
+    (
+        b"GET / HTTP/1.1\r\nContent-Length: 1048576\r\n\r\n",
+        Seen::More,
+    ),
+    (
+        b"POST /node HTTP/1.1\r\nHost: a\r\nContent-Type: application/json\r\nContent-Length: 120\r\n\r\n",
+        Seen::More,
+    ),
+    (
+        b"POST /node HTTP/1.1\r\nHost: a\r\nContent-Type: application/json\r\nContent-Length: 120\r\n\r\n{\"fields\":{\"body\":\"Hi\"},\"title\":\"Nine\",\"",
+        Seen::More,
+    ),
+    // bytes that nothing makes a request of
+    (
+        b"GET http://a/ HTTP/1.1\r\nHost: a\r\n\r\n",
+        Seen::Refused(400),
+    ),
+    (b"\0\0", Seen::Refused(400)),
+    (b"GET / HTTP/2.0\r\n", Seen::Refused(400)),
+    (b"GET /\xff\xfe HTTP/1.1\r\n\r\n", Seen::Refused(400)),
+    // lengths of bodies that are ill-formed, given twice or too great
+    (
+        b"GET / HTTP/1.1\r\nContent-Length: 1\r\ncontent-length: 1\r\n\r\n",
+        Seen::Refused(400),
+    ),
+    (
+        b"GET / HTTP/1.1\r\nContent-Length: 1048577\r\n\r\n",
+        Seen::Refused(413),
+    ),
+    (
+        b"GET x HTTP/1.1\r\nContent-Length: 1048577\r\n\r\n",
+        Seen::Refused(413),
+    ),
+    (
+        b"GET / HTTP/1.1\r\nContent-Length: 9999999999\r\n\r\n",
+        Seen::Refused(413),
+    ),
+    (
+        b"GET / HTTP/1.1\r\nContent-Length: 00000000002\r\n\r\n",
+        Seen::Refused(400),
+    ),
+    (
+        b"GET / HTTP/1.1\r\nContent-Length: +2\r\n\r\n",
+        Seen::Refused(400),
+    ),
+    (
+        b"GET / HTTP/1.1\r\nContent-Length:\r\n\r\n",
+        Seen::Refused(400),
+    ),
+    (
+        b"POST / HTTP/1.1\r\nTransfer-Encoding: chunked\r\nContent-Length: x\r\n\r\n",
+        Seen::Refused(501),
+    ),
+];
 
 #[test]
-fn limits(rt: HostRuntime) -> Result<(), Fail> {
-    let alloc = rt.alloc();
-    let line: &[u8] = b"GET / HTTP/1.1\r\n";
-    let field: &[u8] = b"GET / HTTP/1.1\r\nA: ";
-    // a start, a piece and how often, an end
-    let table: [(&[u8], &[u8], usize, &[u8], Seen); 8] = [
-        (line, b"A:\n", 64, b"\r\n", Seen::Whole(210)),
-        (line, b"A:\n", 65, b"\r\n", Seen::Refused(431)),
-        (
-            line,
-            b"A:\n",
-            65,
-            b"Transfer-Encoding: b\r\n\r\n",
-            Seen::Refused(431),
-        ),
-        (field, b"b", 16_361, b"\r\n\r\n", Seen::Whole(16_384)),
-        (field, b"b", 16_362, b"\r\n\r\n", Seen::Refused(431)),
-        (field, b"b", 16_364, b"", Seen::More),
-        (field, b"b", 16_365, b"", Seen::Refused(431)),
-        (b"GET /", b"\xff", 16_379, b" ", Seen::Refused(431)),
-    ];
-    let mut room = HeadRoom::new(alloc)?;
-    for (start, piece, count, end, want) in &table {
-        let bytes = repeated(alloc, start, piece, *count, end)?;
-        let seen = seen_in(alloc, &bytes, &mut room)?;
-        assert!(rt; seen == *want);
+fn beginnings(rt: HostRuntime) {
+    let mut room = HeadRoom::new(rt.alloc()).expect(&rt, "memory");
+    for (bytes, seen) in &BEGINNINGS {
+        assert!(rt; seen_in(rt.alloc(), bytes, &mut room) == Ok(*seen));
     }
-    Ok(())
 }
+
+const LINE: &[u8] = b"GET / HTTP/1.1\r\n";
+
+const FIELD: &[u8] = b"GET / HTTP/1.1\r\nA: ";
+
+/// A start, a piece and how often, an end, and what these begin with.
+const LIMITS: [(&[u8], &[u8], usize, &[u8], Seen); 8] = [
+    (LINE, b"A:\n", 64, b"\r\n", Seen::Whole(210)),
+    (LINE, b"A:\n", 65, b"\r\n", Seen::Refused(431)),
+    (
+        LINE,
+        b"A:\n",
+        65,
+        b"Transfer-Encoding: b\r\n\r\n",
+        Seen::Refused(431),
+    ),
+    (FIELD, b"b", 16_361, b"\r\n\r\n", Seen::Whole(16_384)),
+    (FIELD, b"b", 16_362, b"\r\n\r\n", Seen::Refused(431)),
+    (FIELD, b"b", 16_364, b"", Seen::More),
+    (FIELD, b"b", 16_365, b"", Seen::Refused(431)),
+    (b"GET /", b"\xff", 16_379, b" ", Seen::Refused(431)),
+];
 
 #[test]
-fn every_cutting_of_a_request(rt: HostRuntime) -> Result<(), Fail> {
-    let alloc = rt.alloc();
-    let bytes: &[u8] =
-        b"POST /user/logout HTTP/1.1\r\nHost: a\r\nContent-Length: 4\r\nCookie: SESS=abc\r\n\r\nwxyz";
-    let mut room = HeadRoom::new(alloc)?;
-    assert!(rt; bytes.len() == 80);
-    for (at, _) in bytes.iter().enumerate() {
-        let seen = seen_in(alloc, &bytes[..at], &mut room)?;
-        assert!(rt; seen == Seen::More);
+fn limits(rt: HostRuntime) {
+    let mut room = HeadRoom::new(rt.alloc()).expect(&rt, "memory");
+    for (start, piece, count, end, seen) in &LIMITS {
+        let bytes = repeated(rt.alloc(), start, piece, *count, end).expect(&rt, "memory");
+        assert!(rt; seen_in(rt.alloc(), &bytes, &mut room) == Ok(*seen));
     }
-    let seen = seen_in(alloc, bytes, &mut room)?;
-    assert!(rt; seen == Seen::Whole(80));
-    Ok(())
 }
 
-/// The request that bytes begin with, and its length.
-fn request_in(alloc: Global, bytes: &[u8]) -> Result<Option<(Request, usize)>, AllocError> {
-    Ok(match parse(alloc, bytes)? {
-        Parsed::Whole(request, size) => Some((request, size)),
+const CUT: &[u8] =
+    b"POST /user/logout HTTP/1.1\r\nHost: a\r\nContent-Length: 4\r\nCookie: SESS=abc\r\n\r\nwxyz";
+
+#[test]
+fn every_cutting_of_a_request(rt: HostRuntime) {
+    let mut room = HeadRoom::new(rt.alloc()).expect(&rt, "memory");
+    assert!(rt; CUT.len() == 80);
+    for at in 0..80 {
+        let bytes = CUT.get(..at).unwrap_or(CUT);
+        assert!(rt; seen_in(rt.alloc(), bytes, &mut room) == Ok(Seen::More));
+    }
+    assert!(rt; seen_in(rt.alloc(), CUT, &mut room) == Ok(Seen::Whole(80)));
+}
+
+/// The whole request that was found, and its length.
+fn request_in(parsed: &Parsed) -> Option<(&Request, usize)> {
+    match parsed {
+        Parsed::Whole(request, size) => Some((request, *size)),
         Parsed::More | Parsed::Refused(_) => None,
-    })
+    }
 }
 
 /// Whether a field is there and is that.
@@ -244,25 +209,21 @@ fn has_parts(request: &Request) -> bool {
 
 /// Whether bytes begin with that request, and more bytes follow it, so many.
 fn begin_with_it(alloc: Global, bytes: &[u8], more: usize) -> Result<bool, AllocError> {
-    Ok(match request_in(alloc, bytes)? {
-        Some((request, size)) => size.saturating_add(more) == bytes.len() && has_parts(&request),
+    let parsed = parse(alloc, bytes)?;
+    Ok(match request_in(&parsed) {
+        Some((request, size)) => size.saturating_add(more) == bytes.len() && has_parts(request),
         None => false,
     })
 }
 
-#[test]
-fn the_parts_of_a_request(rt: HostRuntime) -> Result<(), Fail> {
-    let bytes: &[u8] =
-        b"PATCH /a%20b?c=%41&d? HTTP/1.1\r\nContent-Type: \t text/plain \r\ncontent-type: x\r\nX-CSRF-Token: t1\r\nx-csrf-token: t2\r\nContent-Length: 2\r\n\r\nhi and more";
-    assert!(rt; begin_with_it(rt.alloc(), bytes, 9)?);
-    Ok(())
-}
+const PARTS: &[u8] =
+    b"PATCH /a%20b?c=%41&d? HTTP/1.1\r\nContent-Type: \t text/plain \r\ncontent-type: x\r\nX-CSRF-Token: t1\r\nx-csrf-token: t2\r\nContent-Length: 2\r\n\r\nhi and more";
 
 #[test]
-fn the_bytes_of_a_text(rt: HostRuntime) -> Result<(), Fail> {
-    let text = Octets::copied(rt.alloc(), b"hi")?;
+fn the_parts_of_a_request(rt: HostRuntime) {
+    assert!(rt; begin_with_it(rt.alloc(), PARTS, 9) == Ok(true));
+    let text = Octets::copied(rt.alloc(), b"hi").expect(&rt, "memory");
     assert!(rt; text.into_vec().as_slice() == b"hi".as_slice());
-    Ok(())
 }
 
 /// Whether a request for `/` with this version and these fields closes or not, and has this session, empty for none.
@@ -275,7 +236,8 @@ fn closes_with(
     let mut bytes = Vec::from_slice(alloc, b"GET / HTTP/")?;
     bytes.extend_from_slice(fields)?;
     bytes.extend_from_slice(b"\r\n")?;
-    Ok(match request_in(alloc, &bytes)? {
+    let parsed = parse(alloc, &bytes)?;
+    Ok(match request_in(&parsed) {
         Some((request, _)) => request.closes == closes && is_session(&request.session, session),
         None => false,
     })
@@ -289,44 +251,38 @@ fn is_session(found: &Option<Name>, session: &[u8]) -> bool {
     }
 }
 
-#[test]
-fn closing(rt: HostRuntime) -> Result<(), Fail> {
-    // the version and the fields; whether the request closes
-    let table: [(&[u8], bool); 5] = [
-        (b"1.1\r\n", false),
-        (b"1.0\r\n", true),
-        (b"1.1\r\nConnection: keep-alive, Close\r\n", true),
-        (
-            b"1.1\r\nconnection: keep-alive\r\nCONNECTION:close\r\n",
-            true,
-        ),
-        (b"1.1\r\nConnection: closed, un close\r\n", false),
-    ];
-    for (fields, closes) in &table {
-        assert!(rt; closes_with(rt.alloc(), fields, *closes, b"")?);
-    }
-    Ok(())
-}
+/// The version and the fields; whether the request closes; the session, empty for none.
+const FIELDS: [(&[u8], bool, &[u8]); 15] = [
+    (b"1.1\r\n", false, b""),
+    (b"1.0\r\n", true, b""),
+    (b"1.1\r\nConnection: keep-alive, Close\r\n", true, b""),
+    (
+        b"1.1\r\nconnection: keep-alive\r\nCONNECTION:close\r\n",
+        true,
+        b"",
+    ),
+    (b"1.1\r\nConnection: closed, un close\r\n", false, b""),
+    (b"1.1\r\nCookie: SESS=abc\r\n", false, b"abc"),
+    (b"1.1\r\ncookie: a=b; SESS=abc\r\n", false, b"abc"),
+    (
+        b"1.1\r\nCookie: a=b;\tSESS=abc \t;SESS=x\r\n",
+        false,
+        b"abc",
+    ),
+    (b"1.1\r\nCookie: SESS=ABC; SESS=abc\r\n", false, b""),
+    (b"1.1\r\nCookie: SESS=-\r\nCookie: SESS=abc\r\n", false, b""),
+    (b"1.1\r\nCookie: a=b\r\nCookie: SESS=abc\r\n", false, b"abc"),
+    (b"1.1\r\nCookie: sess=abc; SESSION=abc\r\n", false, b""),
+    (b"1.1\r\nCookie: SESS =abc\r\n", false, b""),
+    (b"1.1\r\nCookie: SESS=\r\n", false, b""),
+    (b"1.1\r\nX-Cookie: SESS=abc\r\n", false, b""),
+];
 
 #[test]
-fn sessions(rt: HostRuntime) -> Result<(), Fail> {
-    // the version and the fields; the session, empty for none
-    let table: [(&[u8], &[u8]); 10] = [
-        (b"1.1\r\nCookie: SESS=abc\r\n", b"abc"),
-        (b"1.1\r\ncookie: a=b; SESS=abc\r\n", b"abc"),
-        (b"1.1\r\nCookie: a=b;\tSESS=abc \t;SESS=x\r\n", b"abc"),
-        (b"1.1\r\nCookie: SESS=ABC; SESS=abc\r\n", b""),
-        (b"1.1\r\nCookie: SESS=-\r\nCookie: SESS=abc\r\n", b""),
-        (b"1.1\r\nCookie: a=b\r\nCookie: SESS=abc\r\n", b"abc"),
-        (b"1.1\r\nCookie: sess=abc; SESSION=abc\r\n", b""),
-        (b"1.1\r\nCookie: SESS =abc\r\n", b""),
-        (b"1.1\r\nCookie: SESS=\r\n", b""),
-        (b"1.1\r\nX-Cookie: SESS=abc\r\n", b""),
-    ];
-    for (fields, session) in &table {
-        assert!(rt; closes_with(rt.alloc(), fields, false, session)?);
+fn closing_and_sessions(rt: HostRuntime) {
+    for (fields, closes, session) in &FIELDS {
+        assert!(rt; closes_with(rt.alloc(), fields, *closes, session) == Ok(true));
     }
-    Ok(())
 }
 
 /// The head of a reply in JSON with no more fields.
@@ -343,13 +299,19 @@ fn plain(status: u16) -> ReplyHead {
     }
 }
 
-/// Whether a head's status is one that replies have, and the head is these bytes, after what stood there before.
-fn is_written(alloc: Global, head: &ReplyHead, want: &[u8]) -> Result<bool, AllocError> {
+/// A head, after what stood there before; `Err` also where its status is none that replies have.
+fn written(alloc: Global, head: &ReplyHead) -> Result<Vec<u8>, AllocError> {
     if !is_reply_status(head.status) {
-        return Ok(false);
+        return Err(AllocError);
     }
     let mut out = Vec::from_slice(alloc, b"before")?;
     reply_head(alloc, &mut out, head)?;
+    Ok(out)
+}
+
+/// Whether a head is these bytes.
+fn is_written(alloc: Global, head: &ReplyHead, want: &[u8]) -> Result<bool, AllocError> {
+    let out = written(alloc, head)?;
     Ok(match out.as_slice().strip_prefix(b"before") {
         Some(written) => written == want,
         None => false,
@@ -357,8 +319,7 @@ fn is_written(alloc: Global, head: &ReplyHead, want: &[u8]) -> Result<bool, Allo
 }
 
 #[test]
-fn heads_of_replies(rt: HostRuntime) -> Result<(), Fail> {
-    let alloc = rt.alloc();
+fn heads_of_replies(rt: HostRuntime) {
     let token = Name::new(b"00000000000000030000000000000004").expect(&rt, "a name");
     let table: [(ReplyHead, &[u8]); 5] = [
         (
@@ -406,49 +367,43 @@ fn heads_of_replies(rt: HostRuntime) -> Result<(), Fail> {
         ),
     ];
     for (head, want) in &table {
-        assert!(rt; is_written(alloc, head, want)?);
+        assert!(rt; is_written(rt.alloc(), head, want) == Ok(true));
     }
-    Ok(())
 }
 
-/// Whether a status is one that replies have, and this phrase follows it in a head.
+/// Whether this phrase follows a status in a head.
 fn has_phrase(alloc: Global, status: u16, phrase: &[u8]) -> Result<bool, AllocError> {
-    let head = plain(status);
-    if !is_reply_status(head.status) {
-        return Ok(false);
-    }
-    let mut out = Vec::new(alloc);
-    reply_head(alloc, &mut out, &head)?;
+    let out = written(alloc, &plain(status))?;
     let end: &[u8] = b"\r\nContent-Type: application/json\r\n\r\n";
-    let tail = out.as_slice().split_at(13.min(out.len())).1;
+    let tail = out.as_slice().split_at(19.min(out.len())).1;
     Ok(match tail.strip_suffix(end) {
         Some(between) => between == phrase,
         None => false,
     })
 }
 
+const PHRASES: [(u16, &[u8]); 15] = [
+    (200, b"OK"),
+    (201, b"Created"),
+    (303, b"See Other"),
+    (400, b"Bad Request"),
+    (403, b"Forbidden"),
+    (404, b"Not Found"),
+    (405, b"Method Not Allowed"),
+    (409, b"Conflict"),
+    (413, b"Payload Too Large"),
+    (415, b"Unsupported Media Type"),
+    (422, b"Unprocessable Entity"),
+    (431, b"Request Header Fields Too Large"),
+    (501, b"Not Implemented"),
+    (503, b"Service Unavailable"),
+    (507, b"Insufficient Storage"),
+];
+
 #[test]
-fn phrases(rt: HostRuntime) -> Result<(), Fail> {
-    let table: [(u16, &[u8]); 15] = [
-        (200, b"OK"),
-        (201, b"Created"),
-        (303, b"See Other"),
-        (400, b"Bad Request"),
-        (403, b"Forbidden"),
-        (404, b"Not Found"),
-        (405, b"Method Not Allowed"),
-        (409, b"Conflict"),
-        (413, b"Payload Too Large"),
-        (415, b"Unsupported Media Type"),
-        (422, b"Unprocessable Entity"),
-        (431, b"Request Header Fields Too Large"),
-        (501, b"Not Implemented"),
-        (503, b"Service Unavailable"),
-        (507, b"Insufficient Storage"),
-    ];
-    for (status, phrase) in &table {
-        assert!(rt; has_phrase(rt.alloc(), *status, phrase)?);
+fn phrases(rt: HostRuntime) {
+    for (status, phrase) in &PHRASES {
+        assert!(rt; has_phrase(rt.alloc(), *status, phrase) == Ok(true));
     }
     assert!(rt; !is_reply_status(204));
-    Ok(())
 }
