@@ -1,15 +1,16 @@
 //! Contexts that are left out beside others that say more.
-ghost use Rattle.std.specs.Prelude.{◌≡◌, ℕ, IfOk, OnOk};
+ghost use Rattle.std.specs.Prelude.{◌≡◌, ◌++◌, ℕ, IfOk, OnOk, map};
 ghost use Rattle.cacheability.specs.InOrder.{union};
 ghost use Rattle.cacheability.specs.Tag.{tag_cmp};
 ghost use Rattle.cacheability.specs.declared.context.Context.TheVariants as context_is;
+ghost use Rattle.cacheability.specs.declared.tag.Tag.TheVariants as tag_is;
 ghost use Rattle.content_state.specs.declared.ask.Ask.{Ask};
 ghost use Rattle.content_state.specs.Context.{dropped_tags};
 ghost use Rattle.cache_contexts.specs.Values.{visit_on};
 ghost use Rattle.cache_contexts.specs.LeftOut.{LeavesOut, AreCovered};
 ghost use Rattle.cache_contexts.specs.Optimised.{has, is_redundant, visit_by, taken_in, optimised};
 
-use cacheability::{Cacheability, Context, OrderedSet, Tag};
+use cacheability::{Cacheability, Context, Name, OrderedSet, Tag};
 use content_state::{State, Viewer};
 use std::alloc::{AllocError, Global};
 use user_roles::role_names;
@@ -121,12 +122,19 @@ fn viewer_tags(alloc: Global, state: &State, viewer: &Viewer) -> Result<Vec<Tag>
 {
     let (user, _) = state.user(viewer.uid);
     let roles = role_names(alloc, viewer.uid, user)?;
-    let mut tags = Vec::with_capacity(alloc, 1)?;
-    tags.push(Tag::User(viewer.uid))?;
-    'roles: for &role in roles.as_slice() {
+    let mut tags = Vec::from_slice(alloc, &[Tag::User(viewer.uid)])?;
+    add_roles(&mut tags, roles.as_slice())?;
+    Ok(tags)
+}
+
+/// Adds the tags of these roles.
+fn add_roles(tags: &mut Vec<Tag>, roles: &[Name]) -> Result<(), AllocError>
+    ensures { OnOk result (tags.new.items ≡ tags.old.items ++ map tag_is.Role roles.now) }
+{
+    'roles: for &role in roles {
         tags.push(Tag::Role(role))?;
     }
-    Ok(tags)
+    Ok(())
 }
 
 /// Adds each of these tags that is not there yet.

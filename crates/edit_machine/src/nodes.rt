@@ -1,12 +1,16 @@
 //! Edits of nodes.
-ghost use Rattle.std.specs.Prelude.{ℕ, ◌≡◌, ◌≢◌, IfOk, Some, None, [], unwrap_or, is_none};
+ghost use Rattle.std.specs.Prelude.{ℕ, ◌≡◌, ◌≢◌, ◌==◌, ◌∷◌, IfOk, Ok, Some, None, [], codes, unwrap_or, is_none};
 ghost use Rattle.std.specs.List.{list_any};
 ghost use Rattle.std.specs.Option.{option_copied};
 ghost use Rattle.content_state.specs.Rows.{seq_of, node_of, term_of};
 ghost use Rattle.site_access.specs.Account.{IsAccountOf, OnRows};
-ghost use Rattle.site_commands.specs.Causes.{told, of_target};
+ghost use Rattle.json_keys.specs.declared.rule.Rule.TheVariants as rule;
+ghost use Rattle.site_commands.specs.Causes.{told, of_target, breaks};
 ghost use Rattle.site_commands.specs.Nodes.{
+  absent_refs,
+  absent_terms,
   absent_uid,
+  stale,
   path_taken,
   id_in,
   new_node,
@@ -193,21 +197,30 @@ fn new_node(
 ) -> Result<Node, AllocError>
     ensures { IfOk result (λ node. node ≡ new_node new.now name.now viewer.now now) }
 {
+    let lists = both(
+        both(new.fields.duplicate(alloc), new.grants.duplicate(alloc)),
+        both(new.refs.duplicate(alloc), new.terms.duplicate(alloc)),
+    );
+    let texts = both(new.title.duplicate(alloc), new.uuid.duplicate(alloc));
+    let (((fields, grants), (refs, terms)), ((title, uuid), path)) = both(
+        lists,
+        both(texts, new.path.duplicate(alloc)),
+    )?;
     Ok(Node {
         changed: now,
         created: new.created.unwrap_or(now),
-        fields: new.fields.duplicate(alloc)?,
-        grants: new.grants.duplicate(alloc)?,
+        fields,
+        grants,
         promote: new.promote.unwrap_or(true),
-        refs: new.refs.duplicate(alloc)?,
+        refs,
         status: new.status.unwrap_or(true),
         sticky: new.sticky,
-        terms: new.terms.duplicate(alloc)?,
-        title: new.title.duplicate(alloc)?,
+        terms,
+        title,
         node_type: *name,
         uid: new.uid.unwrap_or(viewer.uid),
-        uuid: new.uuid.duplicate(alloc)?,
-        path: new.path.duplicate(alloc)?,
+        uuid,
+        path,
         vid: 1,
     })
 }
@@ -318,15 +331,45 @@ fn change_refusal(
     if has_unknown_change(node_type, patch.fields.as_slice()) {
         return Ok(Some(broken(alloc, b"fields", Rule::Unknown)?));
     }
-    if has_absent_node(state, all_sent(&patch.refs)) {
+    named_refusal(alloc, state, nid, node, patch)
+}
+
+/// What refuses a change that names a node, a term or a user: it is absent; and where nothing does, what refuses the new version.
+/// `Err` only where memory is wanting.
+fn named_refusal(
+    alloc: Global,
+    state: &State,
+    nid: u32,
+    node: &Node,
+    patch: &NodePatch,
+) -> Result<Option<Refusal>, AllocError>
+    ensures cause { IfOk result (λ cause. cause ≡ first_cause (absent_refs state.now.rows (unwrap_or patch.now.refs []) ∷ absent_terms state.now.rows (unwrap_or patch.now.terms []) ∷ absent_uid state.now.rows patch.now.uid ∷ breaks (codes "vid") rule.Full (node.now.vid == 4_294_967_295) ∷ stale patch.now.vid node.now.vid ∷ path_taken state.now.rows (Cell.Node nid) (unwrap_or patch.now.path node.now.path) ∷ [])) }
+    ensures left { IfOk result (λ cause. cause ≡ None → node.now.vid ≢ 4_294_967_295) }
+{
+    if sends_absent_node(state, &patch.refs) {
         return Ok(Some(broken(alloc, b"refs", Rule::Absent)?));
     }
-    if has_absent_term(state, all_sent(&patch.terms)) {
+    if sends_absent_term(state, &patch.terms) {
         return Ok(Some(broken(alloc, b"terms", Rule::Absent)?));
     }
     if let Some(refusal) = absent_uid(alloc, state, patch.uid)? {
         return Ok(Some(refusal));
     }
+    version_refusal(alloc, state, nid, node, patch)
+}
+
+/// What refuses a new version of a node: none is left, the change was made of another one, or its path is taken. `Err` only where
+/// memory is wanting.
+fn version_refusal(
+    alloc: Global,
+    state: &State,
+    nid: u32,
+    node: &Node,
+    patch: &NodePatch,
+) -> Result<Option<Refusal>, AllocError>
+    ensures cause { IfOk result (λ cause. cause ≡ first_cause (breaks (codes "vid") rule.Full (node.now.vid == 4_294_967_295) ∷ stale patch.now.vid node.now.vid ∷ path_taken state.now.rows (Cell.Node nid) (unwrap_or patch.now.path node.now.path) ∷ [])) }
+    ensures left { IfOk result (λ cause. cause ≡ None → node.now.vid ≢ 4_294_967_295) }
+{
     if node.vid == u32::MAX {
         return Ok(Some(broken(alloc, b"vid", Rule::Full)?));
     }
@@ -341,21 +384,40 @@ fn patched_node(alloc: Global, node: &Node, patch: &NodePatch, now: u64) -> Resu
     requires { node.now.vid ≢ 4_294_967_295 }
     ensures { IfOk result (λ changed. changed ≡ patched_node node.now patch.now now) }
 {
+    let lists = both(
+        both(
+            changed_values(alloc, &node.fields, &patch.fields),
+            sent_copy(alloc, &patch.grants, &node.grants),
+        ),
+        both(
+            sent_copy(alloc, &patch.refs, &node.refs),
+            sent_copy(alloc, &patch.terms, &node.terms),
+        ),
+    );
+    let texts = both(
+        sent_copy(alloc, &patch.title, &node.title),
+        node.uuid.duplicate(alloc),
+    );
+    let path = sent_copy(alloc, &patch.path, &node.path);
+    let (((fields, grants), (refs, terms)), ((title, uuid), path)) = both(
+        lists,
+        both(texts, path),
+    )?;
     Ok(Node {
         changed: now,
         created: patch.created.unwrap_or(node.created),
-        fields: changed_values(alloc, &node.fields, &patch.fields)?,
-        grants: sent_or(&patch.grants, &node.grants).duplicate(alloc)?,
+        fields,
+        grants,
         promote: patch.promote.unwrap_or(node.promote),
-        refs: sent_or(&patch.refs, &node.refs).duplicate(alloc)?,
+        refs,
         status: patch.status.unwrap_or(node.status),
         sticky: patch.sticky.unwrap_or(node.sticky),
-        terms: sent_or(&patch.terms, &node.terms).duplicate(alloc)?,
-        title: sent_or(&patch.title, &node.title).duplicate(alloc)?,
+        terms,
+        title,
         node_type: node.node_type,
         uid: patch.uid.unwrap_or(node.uid),
-        uuid: node.uuid.duplicate(alloc)?,
-        path: sent_or(&patch.path, &node.path).duplicate(alloc)?,
+        uuid,
+        path,
         vid: node.vid + 1,
     })
 }
@@ -399,11 +461,31 @@ fn is_absent_node(state: &State, nid: u32) -> bool
     state.node(nid).0.is_none()
 }
 
+/// Whether one of the nodes that are sent is not there.
+fn sends_absent_node(state: &State, sent: &Option<Items<u32>>) -> bool
+    ensures { result ≡ list_any (λ nid. is_none (node_of state.now.rows nid)) (unwrap_or sent.now []) }
+{
+    match sent {
+        Some(nids) => has_absent_node(state, nids.as_slice()),
+        None => false,
+    }
+}
+
 /// Whether one of these terms is not there.
 fn has_absent_term(state: &State, tids: &[u32]) -> bool
     ensures { result ≡ list_any (λ tid. is_none (term_of state.now.rows tid)) tids.now }
 {
     tids.iter().any(|tid| is_absent_term(state, *tid))
+}
+
+/// Whether one of the terms that are sent is not there.
+fn sends_absent_term(state: &State, sent: &Option<Items<u32>>) -> bool
+    ensures { result ≡ list_any (λ tid. is_none (term_of state.now.rows tid)) (unwrap_or sent.now []) }
+{
+    match sent {
+        Some(tids) => has_absent_term(state, tids.as_slice()),
+        None => false,
+    }
 }
 
 /// Whether a term is not there.
@@ -462,12 +544,19 @@ pub fn sent_or<'a, T>(sent: &'a Option<T>, kept: &'a T) -> &'a T
     }
 }
 
-/// The members of a list that is sent; none where it isn't.
-fn all_sent(sent: &Option<Items<u32>>) -> &[u32]
-    ensures { result.now ≡ unwrap_or sent.now [] }
+/// A copy of what is sent, else of what is kept. `Err` only where memory is wanting.
+pub fn sent_copy<T: Duplicate>(alloc: Global, sent: &Option<T>, kept: &T) -> Result<T, AllocError>
+    ensures { IfOk result (λ copy. copy ≡ unwrap_or sent.now kept.now) }
 {
-    match sent {
-        Some(sent) => sent.as_slice(),
-        None => &[],
-    }
+    sent_or(sent, kept).duplicate(alloc)
+}
+
+/// Both of two values. `Err` where memory was wanting for one of them.
+pub fn both<A: Drop, B: Drop>(
+    first: Result<A, AllocError>,
+    second: Result<B, AllocError>,
+) -> Result<(A, B), AllocError>
+    ensures { IfOk result (λ values. (first ≡ Ok values.0) × (second ≡ Ok values.1)) }
+{
+    Ok((first?, second?))
 }

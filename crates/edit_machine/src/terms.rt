@@ -6,7 +6,7 @@ ghost use Rattle.site_commands.specs.Causes.{told, of_target};
 ghost use Rattle.site_commands.specs.Terms.{new_term, create_right, create_term, patched_term, change_term, remove_term};
 
 use crate::causes::{accepted, broken, broken_body, creation, is_last, needs, removal, setting};
-use crate::nodes::{id_in, sent_or};
+use crate::nodes::{both, id_in, sent_copy};
 use crate::permission;
 use content_rows::{Cell, Duplicate, Row, Seq, Term};
 use content_state::{State, Unique};
@@ -69,11 +69,13 @@ fn create_right(
 fn new_term(alloc: Global, new: &NewTerm) -> Result<Term, AllocError>
     ensures { IfOk result (λ term. term ≡ new_term new.now) }
 {
+    let texts = both(new.description.duplicate(alloc), new.name.duplicate(alloc));
+    let ((description, name), uuid) = both(texts, new.uuid.duplicate(alloc))?;
     Ok(Term {
-        description: new.description.duplicate(alloc)?,
-        name: new.name.duplicate(alloc)?,
+        description,
+        name,
         status: new.status.unwrap_or(true),
-        uuid: new.uuid.duplicate(alloc)?,
+        uuid,
     })
 }
 
@@ -112,11 +114,16 @@ pub fn change_term(
 fn patched_term(alloc: Global, term: &Term, patch: &TermPatch) -> Result<Term, AllocError>
     ensures { IfOk result (λ changed. changed ≡ patched_term term.now patch.now) }
 {
+    let texts = both(
+        sent_copy(alloc, &patch.description, &term.description),
+        sent_copy(alloc, &patch.name, &term.name),
+    );
+    let ((description, name), uuid) = both(texts, term.uuid.duplicate(alloc))?;
     Ok(Term {
-        description: sent_or(&patch.description, &term.description).duplicate(alloc)?,
-        name: sent_or(&patch.name, &term.name).duplicate(alloc)?,
+        description,
+        name,
         status: patch.status.unwrap_or(term.status),
-        uuid: term.uuid.duplicate(alloc)?,
+        uuid,
     })
 }
 

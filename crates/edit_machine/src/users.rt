@@ -20,7 +20,7 @@ ghost use Rattle.valid_edits.specs.Holders.{holder};
 ghost use Rattle.edit_machine.specs.First.{first_cause};
 
 use crate::causes::{accepted, broken, broken_body, creation, is_last, key_needs, needs, setting};
-use crate::nodes::{id_in, sent_or};
+use crate::nodes::{both, id_in, sent_copy, sent_or};
 use crate::permission;
 use cacheability::Name;
 use content_rows::{Cell, Duplicate, Row, Seq, Text, User};
@@ -93,15 +93,22 @@ fn create_right(
 fn new_user(alloc: Global, new: &NewUser, salt: &Option<Name>, now: u64) -> Result<User, AllocError>
     ensures { IfOk result (λ user. user ≡ new_user new.now salt.now now) }
 {
+    let lists = both(new.grants.duplicate(alloc), new.roles.duplicate(alloc));
+    let texts = both(new.name.duplicate(alloc), new.uuid.duplicate(alloc));
+    let secrets = both(
+        salt_of(alloc, salt, &new.pass, b""),
+        digest_of(alloc, salt, &new.pass, &None),
+    );
+    let ((grants, roles), ((name, uuid), (salt, digest))) = both(lists, both(texts, secrets))?;
     Ok(User {
         created: now,
-        grants: new.grants.duplicate(alloc)?,
-        name: new.name.duplicate(alloc)?,
-        roles: new.roles.duplicate(alloc)?,
-        salt: salt_of(alloc, salt, &new.pass, b"")?,
+        grants,
+        name,
+        roles,
+        salt,
         status: new.status.unwrap_or(true),
-        uuid: new.uuid.duplicate(alloc)?,
-        digest: digest_of(alloc, salt, &new.pass, &None)?,
+        uuid,
+        digest,
     })
 }
 
@@ -177,15 +184,28 @@ fn patched_user(
 ) -> Result<User, AllocError>
     ensures { IfOk result (λ changed. changed ≡ patched_user user.now patch.now salt.now) }
 {
+    let lists = both(
+        sent_copy(alloc, &patch.grants, &user.grants),
+        sent_copy(alloc, &patch.roles, &user.roles),
+    );
+    let texts = both(
+        sent_copy(alloc, &patch.name, &user.name),
+        user.uuid.duplicate(alloc),
+    );
+    let secrets = both(
+        salt_of(alloc, salt, &patch.pass, user.salt.as_slice()),
+        digest_of(alloc, salt, &patch.pass, &user.digest),
+    );
+    let ((grants, roles), ((name, uuid), (salt, digest))) = both(lists, both(texts, secrets))?;
     Ok(User {
         created: user.created,
-        grants: sent_or(&patch.grants, &user.grants).duplicate(alloc)?,
-        name: sent_or(&patch.name, &user.name).duplicate(alloc)?,
-        roles: sent_or(&patch.roles, &user.roles).duplicate(alloc)?,
-        salt: salt_of(alloc, salt, &patch.pass, user.salt.as_slice())?,
+        grants,
+        name,
+        roles,
+        salt,
         status: patch.status.unwrap_or(user.status),
-        uuid: user.uuid.duplicate(alloc)?,
-        digest: digest_of(alloc, salt, &patch.pass, &user.digest)?,
+        uuid,
+        digest,
     })
 }
 

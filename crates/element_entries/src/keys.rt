@@ -1,5 +1,5 @@
 //! Under which keys elements are kept.
-ghost use Rattle.std.specs.Prelude.{◌≡◌, IfOk, IfSome, map};
+ghost use Rattle.std.specs.Prelude.{◌≡◌, ◌++◌, IfOk, IfSome, OnOk, map};
 ghost use Rattle.std.specs.List.{position};
 ghost use Rattle.std.specs.Str.{bytes_eq};
 ghost use Rattle.cacheability.specs.Context.{context_text};
@@ -70,11 +70,27 @@ pub fn values_where_known(
     ensures { IfOk result (λ found. found ≡ map (valued (visit reader.now)) contexts.now) }
 {
     let mut known = known.into_vec();
-    let mut found = Vec::with_capacity(alloc, contexts.len())?;
-    'contexts: for &context in contexts {
-        found.push(value_where_known(alloc, reader, context, &mut known)?)?;
-    }
+    let mut found = Vec::new(alloc);
+    add_values(alloc, reader, contexts, &mut known, &mut found)?;
     Ok(Items::from_vec(found))
+}
+
+/// Adds the values that contexts have for a reader, in their order: those that are known are taken out. `Err` only where memory is
+/// wanting.
+fn add_values(
+    alloc: Global,
+    reader: &Reader<'_>,
+    contexts: &[Context],
+    known: &mut Vec<ContextValue>,
+    found: &mut Vec<ContextValue>,
+) -> Result<(), AllocError>
+    requires { AreValued (visit reader.now) known.old.items }
+    ensures { OnOk result (found.new.items ≡ found.old.items ++ map (valued (visit reader.now)) contexts.now) }
+{
+    'contexts: for &context in contexts {
+        found.push(value_where_known(alloc, reader, context, known)?)?;
+    }
+    Ok(())
 }
 
 /// The value of a context for a reader: taken out of those that are known, or found.
