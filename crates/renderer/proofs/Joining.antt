@@ -69,6 +69,19 @@ pub fills_bytes : (fill : Filling) (v : Visit) (needs : Needs) (bs : List ℕ) �
 fills_bytes fill v needs [] = (refl, refl)
 fills_bytes fill v needs (b ∷ bs) = (bytes bs, refl, fills_bytes fill v needs bs)
 
+-- numbers alone: where a visit's records are known too, `omega` reads these through
+no_later : (new old : ℕ) → new ≡ old → new ≤ old
+no_later new old is = omega arith
+
+least_first : (new old child : ℕ) → new ≡ min old child → new ≤ old
+least_first new old child is = omega arith
+
+least_second : (new old child : ℕ) → new ≡ min old child → new ≤ child
+least_second new old child is = omega arith
+
+within_both : (moment new old child : ℕ) → new ≡ min old child → moment ≤ child → moment ≤ old → moment ≤ new
+within_both moment new old child is below above = omega arith
+
 -- counts up to the greatest u64
 min_zero : (t : ℕ) → min t 18446744073709551615 ≡ min (t + 0) 18446744073709551615
 min_zero t = omega arith
@@ -128,7 +141,7 @@ pub keeps_same : (old new : Filled) → new.cacheability ≡ old.cacheability �
 keeps_same old new cacheability last = record {
   tags = λ t h. subst (λ c. Contains c.tags t) (sym cacheability) h;
   contexts = λ x h. subst (λ c. Contains c.contexts x) (sym cacheability) h;
-  last = omega arith;
+  last = no_later new.last old.last last;
 }
 
 same_with_none : (old new : Filled) → new.libraries ≡ old.libraries → SameMembers new.libraries.items (old.libraries.items ++ [])
@@ -144,7 +157,7 @@ joins_bytes fill counts v bs old new a = subst (λ p. Joins fill counts v p old 
   appended = a.appended;
   libraries = same_with_none old new a.libraries;
   kept = keeps_same old new a.cacheability a.last;
-  not_over = λ h. (let last = a.last in omega arith);
+  not_over = λ h. subst (λ n. v.moment ≤ n) (sym a.last) h;
   status = a.status;
   fills = fills_bytes fill v (needs_of new) bs;
   counted = λ count is. a.built ∙ is ∙ min_zero count
@@ -159,7 +172,7 @@ joins_open fill counts v h old new stays count a = record {
   appended = a.appended;
   libraries = same_with_none old new a.libraries;
   kept = keeps_same old new a.cacheability a.last;
-  not_over = λ x. (let last = a.last in omega arith);
+  not_over = λ x. subst (λ n. v.moment ≤ n) (sym a.last) x;
   status = a.status;
   fills = subst (λ o. FillsPlace o v (needs_of new) h (Fills fill v (needs_of new) []) (Place h ∷ []) []) (sym stays) (record { rest = []; shown_is = refl; follows = (refl, refl) });
   counted = λ total is. a.built ∙ is ∙ min_zero total
@@ -174,8 +187,8 @@ joins_child fill counts v h p count child old new stands count_is whole takes = 
   appended = ap pieces_of takes.appended ∙ pieces_of-append old.segments child.segments;
   libraries = subst (λ l. SameMembers l (old.libraries.items ++ made.attached)) (sym takes.libraries)
       (same_after old.libraries.items child.libraries.items made.attached (record { there = made.same.back; back = made.same.there }));
-  kept = record { tags = λ t g. (takes.tags t).1 (inl g); contexts = λ c g. (takes.contexts c).1 (inl g); last = (let last = takes.last in omega arith) };
-  not_over = λ x. (let last = takes.last in let child_last = whole.not_over in omega arith);
+  kept = record { tags = λ t g. (takes.tags t).1 (inl g); contexts = λ c g. (takes.contexts c).1 (inl g); last = least_first new.last old.last child.last takes.last };
+  not_over = λ x. within_both v.moment new.last old.last child.last takes.last whole.not_over x;
   status = takes.status;
   fills = subst (λ o. FillsPlace o v (needs_of new) h (Fills fill v (needs_of new) []) (pieces_of child.segments) made.attached) (sym stands) (record {
     own = pieces_of child.segments;
@@ -186,7 +199,7 @@ joins_child fill counts v h p count child old new stands count_is whole takes = 
     shown_is = sym (append-nil (pieces_of child.segments));
     attached_is = sym (append-nil made.attached);
     made = Made-kept p v child.status (pieces_of child.segments) made.attached (needs_of child) (needs_of new)
-        (record { tags = λ t g. (takes.tags t).1 (inr g); contexts = λ c g. (takes.contexts c).1 (inr g); last = (let last = takes.last in omega arith) }) made.made;
+        (record { tags = λ t g. (takes.tags t).1 (inr g); contexts = λ c g. (takes.contexts c).1 (inr g); last = least_second new.last old.last child.last takes.last }) made.made;
     follows = (refl, refl);
   });
   counted = λ total is. total_of new.built old.built child.built total count takes.built is whole.counted
@@ -224,7 +237,7 @@ whole_of fill counts v p b old new builds segments libraries cacheability last s
     same = same_trans makes.attached (b.libraries ++ joins.attached) new.libraries.items makes.same
         (subst (λ l. SameMembers (l ++ joins.attached) new.libraries.items) libraries (record { there = joins.libraries.back; back = joins.libraries.there }));
   };
-  not_over = joins.not_over (let same = last in let over = builds.not_over in omega arith);
+  not_over = joins.not_over (subst (λ n. v.moment ≤ n) (sym last) builds.not_over);
   counted = joins.counted 1 one ∙ ap (λ l. min (1 + sum_by counts l) 18446744073709551615) builds.places;
 }
   where

@@ -17,6 +17,7 @@ use Rattle.site_drill.specs.Drill.{IsAnswered, moments_to}
 use Rattle.site_drill.specs.Replies.{AllAnswered, AreReplies, requests_of, whole}
 use Rattle.site_drill.specs.Tally.{built_in}
 use Rattle.site_drill.specs.declared.figures.Figures.{Figures}
+use Rattle.site_drill.proofs.Underway.{inner}
 
 -- no answer was that the keeper failed, since it never did
 no_keepers : {k k' f f' : ℕ} → f ≡ 0 → f' ≡ f → k ≡ 0 → (k' ≡ k) ⊎ CountRose f f' → k' ≡ 0
@@ -54,9 +55,6 @@ pub record Served (site : State) (requests left given : List ℕ) (words : Optio
       (around (Some requests) (Some []) (Some []) (Some []) (Some []) house.handed house.keepers)
       (around (Some left) (Some given) words (Some points) (Some written) house-after.handed house-after.keepers)
       (history_of house-after) (newest (history_of house))
-
-inner : {A : Type 0} {x y : A} → Some x ≡ Some y → x ≡ y
-inner same = cc
 
 abbrev history : State → List Commit → ℕ → History
 history base log pass = record { base = base; log = log; pass = pass }

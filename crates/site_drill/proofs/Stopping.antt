@@ -16,10 +16,7 @@ use Rattle.site_drill.specs.Replies.{Exchange, requests_of}
 use Rattle.site_drill.specs.Stops.{AreNoRequests, NotAnswered, ReadsOtherwise, StopsAt, stop_of}
 use Rattle.site_drill.specs.declared.served.Stop.{Stop}
 use Rattle.site_drill.specs.declared.served.Stop.TheVariants as stop
-use Rattle.site_drill.proofs.Underway.{Underway}
-
-inner : {A : Type 0} {x y : A} → Some x ≡ Some y → x ≡ y
-inner same = cc
+use Rattle.site_drill.proofs.Underway.{Underway, inner}
 
 asks_not_empty : Asks ≡ Empty → ⊥
 asks_not_empty same = cc
@@ -58,6 +55,25 @@ reads_so k index here bytes requests end limit same otherwise reads = record {
   otherwise = otherwise;
 }
 
+-- counts alone: where a turn is known too, `omega` reads it through
+one_less : (index : ℕ) → index < 1000 → suc (1000 - (index + 1)) ≡ 1000 - index
+one_less index few = omega arith
+
+none_left : (index more : ℕ) → 900 ≤ index → suc more ≡ 900 - index → ⊥
+none_left index more late all = absurd (omega arith)
+
+some_left : (index : ℕ) → index < 900 → 900 - index ≡ 0 → ⊥
+some_left index few none = absurd (omega arith)
+
+few_yet : (index : ℕ) → index < 900 → index < 1000
+few_yet index few = omega arith
+
+still_to_come : (all done rest count : ℕ) → all ≡ 900 → all ≡ done + rest → done ≡ count → rest ≡ 900 - count
+still_to_come all done rest count all_is parts done_is = omega arith
+
+at_the_end : (count : ℕ) → count ≤ 900 → 900 ≤ count → 900 ≡ count
+at_the_end count few late = omega arith
+
 -- the input ended before the last of them
 ends_early : {now new : Around} {index size : ℕ} {buffer : List ℕ} (left left-after : List ℕ) → index < 1000 → now.left ≡ Some left → new.left ≡ Some left-after → Ends now new buffer size → (900 - index ≡ 0 → size ≡ 0 → ⊥) → ReadsOtherwise (1000 - index) (900 - index) (buffer ++ left)
 ends_early {now} {new} {index} {size} {buffer} left left-after few was is e early =
@@ -65,7 +81,7 @@ ends_early {now} {new} {index} {size} {buffer} left left-after few was is e earl
     let source : Some left ≡ before e.more (Some left-after) = sym was ∙ e.source ∙ ap (before e.more) is in
     let nothing : left-after ≡ [] = nothing_after left-after new.left is e.nothing in
     let same : buffer ++ e.more ≡ buffer ++ left = sym (append-nil (buffer ++ e.more)) ∙ ap (λ (l : List ℕ). (buffer ++ e.more) ++ l) (sym nothing) ∙ in_pieces buffer left left-after e.more source in
-    reads_so k index (buffer ++ e.more) (buffer ++ left) [] (ending (buffer ++ e.more)) (omega arith) same
+    reads_so k index (buffer ++ e.more) (buffer ++ left) [] (ending (buffer ++ e.more)) (one_less index few) same
     (λ none empty. early (sym none) (e.size_is ∙ sym (ends_empty (buffer ++ e.more) empty)))
     (reads_part k (buffer ++ e.more) e.parses)
 
@@ -74,7 +90,7 @@ asks_to_close : {now new : Around} {history : History} {index low : ℕ} {buffer
 asks_to_close {now} {new} {history} {index} {low} {buffer} {buffer'} left left-after few was is t =
     let k = 1000 - (index + 1) in
     let source : Some left ≡ before t.more (Some left-after) = sym was ∙ t.source ∙ ap (before t.more) is in
-    reads_so k index ((buffer ++ t.more) ++ left-after) (buffer ++ left) (t.request ∷ []) Asks (omega arith) (in_pieces buffer left left-after t.more source)
+    reads_so k index ((buffer ++ t.more) ++ left-after) (buffer ++ left) (t.request ∷ []) Asks (one_less index few) (in_pieces buffer left left-after t.more source)
     (λ all empty. asks_not_empty empty)
     (reads_closing k (buffer ++ t.more) left-after t.request t.size t.parses t.closes_is)
 
@@ -83,7 +99,7 @@ is_refused : {now new : Around} {index code : ℕ} {buffer : List ℕ} (left lef
 is_refused {now} {new} {index} {code} {buffer} left left-after few was is r =
     let k = 1000 - (index + 1) in
     let source : Some left ≡ before r.more (Some left-after) = sym was ∙ r.source ∙ ap (before r.more) is in
-    reads_so k index ((buffer ++ r.more) ++ left-after) (buffer ++ left) [] (Code code) (omega arith) (in_pieces buffer left left-after r.more source)
+    reads_so k index ((buffer ++ r.more) ++ left-after) (buffer ++ left) [] (Code code) (one_less index few) (in_pieces buffer left left-after r.more source)
     (λ all empty. code_not_empty code empty)
     (reads_refused k (buffer ++ r.more) left-after code r.parses)
 
@@ -93,8 +109,8 @@ one_more {now} {new} {history} {index} {low} {buffer} {buffer'} left left-after 
     let k = 1000 - (index + 1) in
     let source : Some left ≡ before t.more (Some left-after) = sym was ∙ t.source ∙ ap (before t.more) is in
     let (later, end, reads) = reads_some k (drop t.size (buffer ++ t.more) ++ left-after) in
-    reads_so k index ((buffer ++ t.more) ++ left-after) (buffer ++ left) (t.request ∷ later) end (omega arith) (in_pieces buffer left left-after t.more source)
-    (λ all empty. absurd (omega (arith, all, late)))
+    reads_so k index ((buffer ++ t.more) ++ left-after) (buffer ++ left) (t.request ∷ later) end (one_less index few) (in_pieces buffer left left-after t.more source)
+    (λ all empty. none_left index (length later) late all)
     (reads_next k (buffer ++ t.more) left-after t.request t.size later end t.parses t.closes_is reads)
 
 some_none : {why : Stop} → Some why ≡ None → ⊥
@@ -136,11 +152,11 @@ turn_stops now new history index low buffer buffer' ended.WriteFault why left le
 -- a turn that ended where another request was to come
 pub early_stops : (now new : Around) (history : History) (index low : ℕ) (buffer buffer' : List ℕ) (end : Ended) (found : Option Stop) (why : Stop) (left left-after : List ℕ) → found ≡ stop_of end → why ≡ unwrap_or found stop.Unanswered → index < 900 → now.left ≡ Some left → new.left ≡ Some left-after → TurnReads (Some end) 0 0 → Turned (Some end) now new history 1000 index low buffer buffer' → StopsAt why (1000 - index) (900 - index) (buffer ++ left)
 early_stops now new history index low buffer buffer' end (Some other) why left left-after found_is why_is few was is counts turned =
-    turn_stops now new history index low buffer buffer' end why left left-after (ap Some why_is ∙ found_is) (omega (arith, few)) was is counts turned
+    turn_stops now new history index low buffer buffer' end why left left-after (ap Some why_is ∙ found_is) (few_yet index few) was is counts turned
 early_stops now new history index low buffer buffer' end None why left left-after found_is why_is few was is counts turned =
     let closed : end ≡ ended.Closed = closed_only end (sym found_is) in
     let ends : Ends now new buffer 0 = subst (λ (e : Ended). Turned (Some e) now new history 1000 index low buffer buffer') closed turned in
-    unanswered why (ap Some why_is) (ends_early left left-after (omega (arith, few)) was is ends (λ none empty. absurd (omega (arith, none, few))))
+    unanswered why (ap Some why_is) (ends_early left left-after (few_yet index few) was is ends (λ none empty. some_left index few none))
 
 -- the whole of the bytes reads as it was read, and in no other way
 whole_otherwise : {old now : Around} {history : History} {low count pages seen : ℕ} {buffer : List ℕ} (left-before left : List ℕ) → old.left ≡ Some left-before → now.left ≡ Some left → Underway old now history low count pages seen buffer → ReadsOtherwise (1000 - count) (900 - count) (buffer ++ left) → AreNoRequests left-before
@@ -150,7 +166,9 @@ whole_otherwise {old} {now} {history} {low} {count} {pages} {seen} {buffer} left
     subst (λ (l : List ℕ). Reads 1000 l (requests_of u.exchanges ++ r.requests) r.end) (sym (taken_first left-before left u.taken source)) (u.reads left r.requests r.end r.reads) in
     let same = reads_once 1000 left-before requests (requests_of u.exchanges ++ r.requests) Empty r.end whole reads in
     r.otherwise
-    (omega (arith, count_is, ap length same.same_requests, length-append (requests_of u.exchanges) r.requests, length-map u.exchanges (λ (e : Exchange). e.request), u.count_is))
+    (still_to_come (length requests) (length (requests_of u.exchanges)) (length r.requests) count count_is
+    (ap length same.same_requests ∙ length-append (requests_of u.exchanges) r.requests)
+    (length-map u.exchanges (λ (e : Exchange). e.request) ∙ u.count_is))
     (sym same.same_end)
 
 -- why the requests still to come were not all answered is why not all were
@@ -161,5 +179,5 @@ stops_in stop.OutOfMemory left-before left was is u r = tt
 -- the same after all of them
 pub last_stops : {old now : Around} {history : History} {low count pages seen : ℕ} {buffer : List ℕ} (why : Stop) (left-before left : List ℕ) → old.left ≡ Some left-before → now.left ≡ Some left → count ≤ 900 → 900 ≤ count → Underway old now history low count pages seen buffer → StopsAt why (1000 - 900) (900 - 900) (buffer ++ left) → NotAnswered why left-before
 last_stops {old} {now} {history} {low} {count} {pages} {seen} {buffer} why left-before left was is few late u r =
-    let all : 900 ≡ count = omega (arith, few, late) in
+    let all = at_the_end count few late in
     stops_in why left-before left was is u (subst (λ (n : ℕ). StopsAt why (1000 - n) (900 - n) (buffer ++ left)) all r)

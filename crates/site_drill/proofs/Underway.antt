@@ -1,10 +1,10 @@
 -- A drill on its way: so many requests are answered.
-use Rattle.std.proofs.Common.{◌≡◌, ◌∙◌, ◌++◌, ◌+◌, ◌-◌, ◌<◌, ◌≤◌, List, [], ◌∷◌, ℕ, zero, suc, Bool, true, false, Some, length, drop, Option, ap, sym, refl, subst, arith, rules, length-append, append_assoc}
+use Rattle.std.proofs.Common.{◌≡◌, ◌∙◌, ◌++◌, ◌+◌, ◌-◌, ◌<◌, ◌≤◌, List, [], ◌∷◌, ℕ, suc, Bool, true, false, Some, length, drop, Option, ap, sym, refl, subst, arith, length-append, append_assoc}
 use Rattle.std.specs.Prelude.{All}
 use Rattle.std.specs.List.{count_by}
 use Rattle.std.proofs.Math.Seq.{drop-append_seam}
 use Rattle.std.proofs.lemmas.List.{append-nil}
-use Rattle.std.proofs.lemmas.List.Elements.{All-append}
+use Rattle.std.proofs.lemmas.List.Elements.{All-append, All-cons, All-nil}
 use Rattle.http_heads.specs.declared.request.Request.{Request}
 use Rattle.http_heads.specs.Requests.{End, Empty, ending, Reads}
 use Rattle.http_heads.proofs.Laws.{reads_next, reads_part}
@@ -23,6 +23,19 @@ use Rattle.site_drill.specs.Replies.{AllAnswered, AreReplies, Exchange, NoneWant
 use Rattle.site_drill.specs.Steps.{TookReply, pages_with}
 use Rattle.site_drill.proofs.Counts.{count_no, count_yes}
 use Rattle.site_drill.proofs.Exchanges.{replies_grow, replies_more, requests_more, whole_more}
+
+pub inner : {A : Type 0} {x y : A} → Some x ≡ Some y → x ≡ y
+inner same = cc
+
+-- counts alone: where a reply is known too, `omega` reads it through
+same_as : (count number : ℕ) → number ≡ count → count ≡ 0 + number
+same_as count number is = omega arith
+
+no_more : (count : ℕ) → count ≤ count
+no_more count = omega arith
+
+one_of : (limit count : ℕ) → count < limit → suc (limit - (count + 1)) ≡ limit - count
+one_of limit count few = omega arith
 
 -- so many requests are answered, of whose replies so many show a page, and these bytes stand in the buffer
 pub record Underway (old now : Around) (history : History) (low count pages seen : ℕ) (buffer : List ℕ) : Type 0 where
@@ -45,10 +58,10 @@ begun old history = record {
   count_is = refl;
   reads = λ more others end r. r;
   replies = tt;
-  not_above = omega arith;
-  within = omega arith;
+  not_above = no_more (newest history);
+  within = no_more (newest history);
   pages_is = refl;
-  none_wanting = search rules;
+  none_wanting = All-nil (λ (e : Exchange). is_wanting e.story.text ≡ false);
 }
 
 -- the same in what a house that moved has seen
@@ -71,7 +84,7 @@ carried {old} {now} {house} {house'} {low} {count} {pages} {seen} {buffer} m u =
 -- the requests of what was taken and of one piece more
 reads_on : (limit count : ℕ) (taken buffer more : List ℕ) (done : List Request) → count < limit → ((m : List ℕ) (others : List Request) (end : End) → Reads (limit - count) (buffer ++ m) others end → Reads limit (taken ++ m) (done ++ others) end) → (m : List ℕ) (others : List Request) (end : End) → Reads (suc (limit - (count + 1))) ((buffer ++ more) ++ m) others end → Reads limit ((taken ++ more) ++ m) (done ++ others) end
 reads_on limit count taken buffer more done few reads m others end r =
-    let left : suc (limit - (count + 1)) ≡ limit - count = omega arith in
+    let left = one_of limit count few in
     subst (λ (l : List ℕ). Reads limit l (done ++ others) end) (sym (append_assoc taken more m))
     (reads (more ++ m) others end
     (subst (λ (l : List ℕ). Reads (limit - count) l others end) (append_assoc buffer more m)
@@ -80,7 +93,7 @@ reads_on limit count taken buffer more done few reads m others end r =
 -- and where nothing follows
 reads_end : (limit count : ℕ) (taken buffer more : List ℕ) (done : List Request) → count < limit → ((m : List ℕ) (others : List Request) (end : End) → Reads (limit - count) (buffer ++ m) others end → Reads limit (taken ++ m) (done ++ others) end) → (others : List Request) (end : End) → Reads (suc (limit - (count + 1))) (buffer ++ more) others end → Reads limit (taken ++ more) (done ++ others) end
 reads_end limit count taken buffer more done few reads others end r =
-    let left : suc (limit - (count + 1)) ≡ limit - count = omega arith in
+    let left = one_of limit count few in
     reads more others end (subst (λ (k : ℕ). Reads k (buffer ++ more) others end) left r)
 
 pub pages_few : (pages count : ℕ) (page : Bool) → pages ≤ count → pages_with pages page ≤ count + 1
@@ -93,8 +106,7 @@ pages_more pages exchanges one false is page = is ∙ sym (count_no is_page exch
 
 -- what holds of one member holds of all of a list of it alone
 all_one : (P : Exchange → Type 0) (one : Exchange) → P one → All P (one ∷ [])
-all_one P one here zero d few = here
-all_one P one here (suc k) d few = absurd (omega arith)
+all_one P one here = All-cons P one [] here (All-nil P)
 
 goes_on : {old now new : Around} {history : History} {low count pages seen : ℕ} {page : Bool} {buffer buffer' : List ℕ} → count < 1000 → Underway old now history low count pages seen buffer → TookReply page now new history count seen buffer buffer' → Underway old new history low (count + 1) (pages_with pages page) (newest history) buffer'
 goes_on {old} {now} {new} {history} {low} {count} {pages} {seen} {page} {buffer} {buffer'} few u t =
@@ -102,8 +114,7 @@ goes_on {old} {now} {new} {history} {low} {count} {pages} {seen} {page} {buffer}
     let r = a.replied in
     let one : Exchange = record { request = a.request; story = r.story } in
     let k = 1000 - (count + 1) in
-    let count_is = u.count_is in
-    let here : count ≡ 0 + length u.exchanges = omega arith in
+    let here : count ≡ 0 + length u.exchanges = same_as count (length u.exchanges) u.count_is in
     record {
       taken = u.taken ++ a.more;
       exchanges = u.exchanges ++ one ∷ [];
@@ -118,7 +129,7 @@ goes_on {old} {now} {new} {history} {low} {count} {pages} {seen} {page} {buffer}
           (subst (λ (i : ℕ). IsText history (whole low u.exchanges).high a.request (closes_after 1000 i a.request) r.story) here
           (text_lower history seen (whole low u.exchanges).high a.request (closes_after 1000 count a.request) r.story u.not_above r.text));
       not_above = subst (λ (s : Story). s.high ≤ newest history) (sym (whole_more low u.exchanges one)) r.not_above;
-      within = omega arith;
+      within = no_more (newest history);
       pages_is = pages_more pages u.exchanges one page u.pages_is t.page_is;
       none_wanting = All-append (λ (e : Exchange). is_wanting e.story.text ≡ false) u.exchanges (one ∷ []) u.none_wanting (all_one (λ (e : Exchange). is_wanting e.story.text ≡ false) one t.not_wanting);
     }
@@ -155,7 +166,7 @@ pub took_reply : (page wanting : Bool) (old new : Around) (history : History) (i
     → TookOne old new history 1000 index low buffer buffer' false → TookReply page old new history index low buffer buffer'
 took_reply page wanting old new history index low buffer buffer' before after text old_is new_is text_is page_is wanting_is none took =
     let sink : Some after ≡ Some (before ++ took.replied.story.text) = sym new_is ∙ took.replied.gave.sink ∙ ap (λ (o : Option (List ℕ)). told o took.replied.story.text) old_is in
-    let all : after ≡ before ++ took.replied.story.text = cc in
+    let all = inner sink in
     let same : text ≡ took.replied.story.text = text_is ∙ ap (λ (l : List ℕ). drop (length before) l) all ∙ drop-append_seam before took.replied.story.text in
     record {
       took = took;

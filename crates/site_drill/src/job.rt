@@ -73,7 +73,6 @@ struct Devices {
 }
 
 /// The moments of the requests.
-#[tactic(auto, using(crate::proofs::Moments::no_moment, crate::proofs::Moments::next_moment))]
 fn moments(alloc: Global) -> Result<Vec<u64>, AllocError>
     ensures { IfOk result (λ moments. moments.items ≡ moments_to 900) }
 {
