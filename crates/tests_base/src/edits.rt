@@ -1,8 +1,8 @@
 //! What edits make of the rows that a site begins with.
 
-use crate::starting::rows;
-use cacheability::{Name, Tag};
-use content_rows::{Cell, Items, Row, Site, Term, Text};
+use crate::starting::{name, no_text, rows, text};
+use cacheability::Tag;
+use content_rows::{Cell, Items, Row, Site, Term};
 use content_state::{Commit, State, Write};
 use state_commits::apply;
 use std::alloc::{AllocError, Global};
@@ -10,64 +10,58 @@ use std::process::Abort;
 use std::sync::Arc;
 use tag_counts::Counts;
 
-fn name(rt: &impl Abort, bytes: &[u8]) -> Name {
-    Name::new(bytes).expect(rt, "a name")
-}
-
 // The state that a site begins with.
 fn begun(alloc: Global) -> Result<State, AllocError> {
     let rows = rows(alloc)?;
     State::new(alloc, rows, Counts::new(alloc), 0)
 }
 
-fn settings(alloc: Global) -> Result<Row, AllocError> {
-    Ok(Row::Site(Site {
-        front: Text::copied(alloc, b"/node")?,
-        name: Text::copied(alloc, b"Renamed")?,
-    }))
+fn settings(rt: &impl Abort, alloc: Global) -> Row {
+    Row::Site(Site {
+        front: text(rt, alloc, b"/node"),
+        name: text(rt, alloc, b"Renamed"),
+    })
 }
 
-fn term(alloc: Global) -> Result<Row, AllocError> {
-    let name = Text::copied(alloc, b"Fruit")?;
-    let uuid = Text::copied(alloc, b"t-1")?;
-    Ok(Row::Term(Term {
-        description: Text::from_vec(Vec::new(alloc)),
-        name,
+fn term(rt: &impl Abort, alloc: Global) -> Row {
+    Row::Term(Term {
+        description: no_text(alloc),
+        name: text(rt, alloc, b"Fruit"),
         status: true,
-        uuid,
-    }))
+        uuid: text(rt, alloc, b"t-1"),
+    })
 }
 
-fn write(alloc: Global, cell: Cell, row: Row) -> Result<Write, AllocError> {
-    Ok(Write {
+fn write(rt: &impl Abort, alloc: Global, cell: Cell, row: Row) -> Write {
+    Write {
         cell,
-        row: Some(Arc::new(alloc, row)?),
-    })
+        row: Some(Arc::new(alloc, row).expect(rt, "memory")),
+    }
 }
 
-fn commit(alloc: Global, writes: Vec<Write>, extra: &[Tag]) -> Result<Commit, AllocError> {
-    Ok(Commit {
+fn commit(rt: &impl Abort, alloc: Global, writes: Vec<Write>, extra: &[Tag]) -> Commit {
+    Commit {
         writes: Items::from_vec(writes),
-        extra: Items::from_vec(Vec::from_slice(alloc, extra)?),
+        extra: Items::from_vec(Vec::from_slice(alloc, extra).expect(rt, "memory")),
         pass: 1,
-    })
+    }
 }
 
 // A term is set, the settings are replaced, and the first node is removed; a tag of its own is named twice.
-fn three_writes(alloc: Global) -> Result<Commit, AllocError> {
-    let mut writes = Vec::with_capacity(alloc, 3)?;
-    writes.push(write(alloc, Cell::Term(1), term(alloc)?)?)?;
-    writes.push(write(alloc, Cell::Site, settings(alloc)?)?)?;
-    writes.push(Write {
+fn three_writes(rt: &impl Abort, alloc: Global) -> Commit {
+    let fruit = write(rt, alloc, Cell::Term(1), term(rt, alloc));
+    let renamed = write(rt, alloc, Cell::Site, settings(rt, alloc));
+    let removed = Write {
         cell: Cell::Node(1),
         row: None,
-    })?;
-    commit(alloc, writes, &[Tag::Rendered, Tag::Rendered])
+    };
+    let writes = vec![in alloc; fruit, renamed, removed].expect(rt, "memory");
+    commit(rt, alloc, writes, &[Tag::Rendered, Tag::Rendered])
 }
 
 // The settings' tag is invalidated by itself.
-fn no_writes(alloc: Global) -> Result<Commit, AllocError> {
-    commit(alloc, Vec::new(alloc), &[Tag::Site])
+fn no_writes(rt: &impl Abort, alloc: Global) -> Commit {
+    commit(rt, alloc, Vec::new(alloc), &[Tag::Site])
 }
 
 fn applied(rt: &impl Abort, alloc: Global, state: &State, commit: &Commit) -> Arc<State> {
@@ -77,7 +71,12 @@ fn applied(rt: &impl Abort, alloc: Global, state: &State, commit: &Commit) -> Ar
 
 // Whether each of these tags has this count.
 fn have_count(counts: &Counts, tags: &[Tag], count: u64) -> bool {
-    tags.iter().all(|tag| counts.count(tag) == count)
+    for tag in tags {
+        if counts.count(tag) != count {
+            return false;
+        }
+    }
+    true
 }
 
 // Whether a state has the term and the new settings.
@@ -101,37 +100,32 @@ fn is_begun(state: &State) -> bool {
     state.node(1).0.is_some() && state.counts().is_empty()
 }
 
-#[test]
-fn one_edit_of_three_writes(rt: HostRuntime) {
-    let alloc = rt.alloc();
-    let before = begun(alloc).expect(&rt, "memory");
-    let commit = three_writes(alloc).expect(&rt, "memory");
-    let after = applied(&rt, alloc, &before, &commit);
-    assert!(rt; is_edited(&after));
-    assert!(rt; is_begun(&before));
-}
-
-#[test]
-fn counts_of_two_edits(rt: HostRuntime) {
-    let alloc = rt.alloc();
-    let before = begun(alloc).expect(&rt, "memory");
-    let writes = three_writes(alloc).expect(&rt, "memory");
-    let first = applied(&rt, alloc, &before, &writes);
-    let again = no_writes(alloc).expect(&rt, "memory");
-    let second = applied(&rt, alloc, &first, &again);
+// Whether the counts after the three writes, and those after the settings' tag too, are right.
+fn counts_are_right(rt: &impl Abort, first: &Counts, second: &Counts) -> bool {
     let once = [
         Tag::Term(1),
         Tag::TermList,
         Tag::NotFound,
         Tag::Node(1),
         Tag::NodeList,
-        Tag::NodeListOf(name(&rt, b"page")),
+        Tag::NodeListOf(name(rt, b"page")),
         Tag::Rendered,
     ];
-    assert!(rt; have_count(first.counts(), once.as_slice(), 1));
-    assert!(rt; have_count(second.counts(), once.as_slice(), 1));
-    assert!(rt; first.counts().len() == 8);
-    assert!(rt; second.counts().len() == 8);
-    assert!(rt; first.counts().count(&Tag::Site) == 1);
-    assert!(rt; second.counts().count(&Tag::Site) == 2);
+    have_count(first, once.as_slice(), 1)
+        && have_count(second, once.as_slice(), 1)
+        && first.len() == 8
+        && second.len() == 8
+        && first.count(&Tag::Site) == 1
+        && second.count(&Tag::Site) == 2
+}
+
+#[test]
+fn two_edits(rt: HostRuntime) {
+    let alloc = rt.alloc();
+    let before = begun(alloc).expect(&rt, "memory");
+    let first = applied(&rt, alloc, &before, &three_writes(&rt, alloc));
+    assert!(rt; is_edited(&first));
+    assert!(rt; is_begun(&before));
+    let second = applied(&rt, alloc, &first, &no_writes(&rt, alloc));
+    assert!(rt; counts_are_right(&rt, first.counts(), second.counts()));
 }

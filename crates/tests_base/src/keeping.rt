@@ -1,5 +1,4 @@
 //! What a keeper in memory holds as it is made, once a batch is kept, and where calls fail.
-ghost use Rattle.std.specs.Prelude.{IfOk};
 ghost use Rattle.content_state.specs.SiteRules.{AreValidRows};
 ghost use Rattle.site_keeper.specs.Keeper.{held_of, with_batch};
 
@@ -8,29 +7,28 @@ use cacheability::Tag;
 use content_rows::{Cell, Items, Row, Seq};
 use content_state::{Commit, Write};
 use site_keeper::{Batch, Fail, Keeper, KeeperFault, MemoryKeeper, Stored};
-use std::alloc::{AllocError, Global};
+use std::alloc::Global;
+use std::process::Abort;
 use std::sync::Arc;
 use tag_counts::Counts;
 
 fn sendable<T: Send + Sync>(_: &T) {}
 
 // A site as it begins.
-fn stored(alloc: Global) -> Result<Stored, AllocError>
-    ensures { IfOk result (λ stored. AreValidRows stored.rows) }
+fn stored(rt: &impl Abort, alloc: Global) -> Stored
+    ensures { AreValidRows result.rows }
 {
-    let rows = rows(alloc)?;
-    if !rows.are_right() {
-        return Err(AllocError);
-    }
-    Ok(Stored {
+    let rows = rows(alloc).expect(rt, "memory");
+    assert!(rt; rows.are_right());
+    Stored {
         rows,
         counts: Counts::new(alloc),
         head: 0,
-    })
+    }
 }
 
 // An edit by which the next node is 3, and the user 1 is gone.
-fn commit(alloc: Global) -> Result<Commit, AllocError> {
+fn commit(rt: &impl Abort, alloc: Global) -> Commit {
     let seq = Row::Seq(Seq {
         node: 3,
         term: 1,
@@ -38,40 +36,38 @@ fn commit(alloc: Global) -> Result<Commit, AllocError> {
     });
     let next = Write {
         cell: Cell::Seq,
-        row: Some(Arc::new(alloc, seq)?),
+        row: Some(Arc::new(alloc, seq).expect(rt, "memory")),
     };
     let gone = Write {
         cell: Cell::User(1),
         row: None,
     };
-    Ok(Commit {
-        writes: Items::from_vec(vec![in alloc; next, gone]?),
+    Commit {
+        writes: Items::from_vec(vec![in alloc; next, gone].expect(rt, "memory")),
         extra: Items::none(alloc),
         pass: 1,
-    })
+    }
 }
 
 // Its batch. A keeper sets whatever count it is given.
-fn batch(alloc: Global) -> Result<Batch, AllocError> {
-    let commit = Arc::new(alloc, commit(alloc)?)?;
-    Ok(Batch {
-        commit,
-        counts: Items::one(alloc, (Tag::NodeList, 5))?,
+fn batch(rt: &impl Abort, alloc: Global) -> Batch {
+    Batch {
+        commit: Arc::new(alloc, commit(rt, alloc)).expect(rt, "memory"),
+        counts: Items::one(alloc, (Tag::NodeList, 5)).expect(rt, "memory"),
         head: 1,
-    })
+    }
 }
 
 // A keeper whose calls with these numbers are to fail, and the batch.
-fn keeper(alloc: Global, fails: &[Fail]) -> Result<(MemoryKeeper, Batch), AllocError>
-    ensures { IfOk result (λ both. AreValidRows (with_batch (held_of both.0.kept) both.1).rows) }
+fn keeper(rt: &impl Abort, alloc: Global, fails: &[Fail]) -> (MemoryKeeper, Batch)
+    ensures { AreValidRows (with_batch (held_of result.0.kept) result.1).rows }
 {
-    let stored = stored(alloc)?;
-    let batch = batch(alloc)?;
-    if !stored.is_right_with(alloc, &batch)? {
-        return Err(AllocError);
-    }
-    let fails = Vec::from_slice(alloc, fails)?;
-    Ok((MemoryKeeper::new(alloc, stored, fails), batch))
+    let stored = stored(rt, alloc);
+    let batch = batch(rt, alloc);
+    let right = stored.is_right_with(alloc, &batch).expect(rt, "memory");
+    assert!(rt; right);
+    let fails = Vec::from_slice(alloc, fails).expect(rt, "memory");
+    (MemoryKeeper::new(alloc, stored, fails), batch)
 }
 
 // The id of the next node.
@@ -92,22 +88,6 @@ fn is_as(stored: &Stored, kept: bool) -> bool {
         && stored.head == head
 }
 
-#[test]
-fn a_batch_is_kept(rt: HostRuntime) {
-    let alloc = rt.alloc();
-    let (mut keeper, batch) = keeper(alloc, &[]).expect(&rt, "memory");
-    sendable(&keeper);
-    sendable(&batch);
-    let first = keeper.load(alloc).expect(&rt, "it doesn't fail");
-    assert!(rt; is_as(&first, false));
-    assert!(rt; keeper.head(alloc) == Ok(0));
-    assert!(rt; keeper.apply(alloc, &batch) == Ok(()));
-    assert!(rt; keeper.head(alloc) == Ok(1));
-    let then = keeper.load(alloc).expect(&rt, "it doesn't fail");
-    assert!(rt; is_as(&then, true));
-    assert!(rt; keeper.faults() == 0);
-}
-
 // What a keeper holds: all of the batch, or nothing of it; `None` where that can't be read, or is neither.
 fn held<K: Keeper>(alloc: Global, keeper: &mut K) -> Option<bool> {
     let Ok(stored) = keeper.load(alloc) else {
@@ -122,42 +102,60 @@ fn held<K: Keeper>(alloc: Global, keeper: &mut K) -> Option<bool> {
     }
 }
 
+#[test]
+fn a_batch_is_kept(rt: HostRuntime) {
+    let alloc = rt.alloc();
+    let (mut keeper, batch) = keeper(&rt, alloc, &[]);
+    sendable(&keeper);
+    sendable(&batch);
+    let first = keeper.load(alloc).expect(&rt, "it doesn't fail");
+    assert!(rt; is_as(&first, false));
+    assert!(rt; keeper.head(alloc) == Ok(0));
+    assert!(rt; keeper.apply(alloc, &batch) == Ok(()));
+    assert!(rt; keeper.head(alloc) == Ok(1));
+    let then = keeper.load(alloc).expect(&rt, "it doesn't fail");
+    assert!(rt; is_as(&then, true));
+    assert!(rt; keeper.faults() == 0);
+}
+
 // Whether a keeper whose first call fails tells that of an edit, and holds what it is to keep then, with this head.
-fn fails_once(alloc: Global, kept: bool, head: u64) -> Result<bool, AllocError> {
-    let (mut keeper, batch) = keeper(alloc, &[Fail { call: 1, kept }])?;
+fn fails_once(rt: &impl Abort, alloc: Global, kept: bool, head: u64) -> bool {
+    let (mut keeper, batch) = keeper(rt, alloc, &[Fail { call: 1, kept }]);
     let applied = keeper.apply(alloc, &batch);
     drop(batch);
-    Ok(
-        applied == Err(KeeperFault::Failed)
-            && keeper.faults() == 1
-            && keeper.head(alloc) == Ok(head)
-            && held(alloc, &mut keeper) == Some(kept)
-            && keeper.faults() == 1,
-    )
+    applied == Err(KeeperFault::Failed)
+        && keeper.faults() == 1
+        && keeper.head(alloc) == Ok(head)
+        && held(alloc, &mut keeper) == Some(kept)
+        && keeper.faults() == 1
 }
 
 #[test]
 fn an_apply_fails(rt: HostRuntime) {
     for (kept, head) in [(true, 1), (false, 0)] {
-        assert!(rt; fails_once(rt.alloc(), kept, head) == Ok(true));
+        assert!(rt; fails_once(&rt, rt.alloc(), kept, head));
     }
 }
 
-// Whether a keeper tells nothing at its first and its third call, and begins with nothing of the batch.
-fn fails_twice(alloc: Global) -> Result<bool, AllocError> {
-    let fails = [1, 3].map(|call| Fail { call, kept: false });
-    let (mut keeper, batch) = keeper(alloc, &fails)?;
-    drop(batch);
-    Ok(
-        held(alloc, &mut keeper) == None
-            && keeper.head(alloc) == Ok(0)
-            && keeper.head(alloc) == Err(KeeperFault::Failed)
-            && held(alloc, &mut keeper) == Some(false)
-            && keeper.faults() == 2,
-    )
-}
-
+// A keeper tells nothing at its first and its third call, and begins with nothing of the batch.
 #[test]
 fn other_calls_fail(rt: HostRuntime) {
-    assert!(rt; fails_twice(rt.alloc()) == Ok(true));
+    let alloc = rt.alloc();
+    let fails = [
+        Fail {
+            call: 1,
+            kept: false,
+        },
+        Fail {
+            call: 3,
+            kept: false,
+        },
+    ];
+    let (mut keeper, batch) = keeper(&rt, alloc, &fails);
+    drop(batch);
+    assert!(rt; held(alloc, &mut keeper).is_none());
+    assert!(rt; keeper.head(alloc) == Ok(0));
+    assert!(rt; keeper.head(alloc) == Err(KeeperFault::Failed));
+    assert!(rt; held(alloc, &mut keeper) == Some(false));
+    assert!(rt; keeper.faults() == 2);
 }

@@ -1,8 +1,11 @@
 //! Digests that Python's hashlib gave, and what is checked against them.
 
-use content_rows::{Items, Text, User};
+use crate::starting;
+use crate::starting::text;
+use content_rows::User;
 use site_passwords::{check_pass, make_pass};
-use std::alloc::{AllocError, Global};
+use std::alloc::Global;
+use std::process::Abort;
 
 const SALT: &[u8] = b"00000000000000010000000000000002";
 
@@ -11,36 +14,25 @@ const DIGEST: &[u8] = b"7f597846a282e0f4fd2827f0d3fa47363f762044678a8d92d2a30f6d
 
 const UNSALTED: &[u8] = b"8798bca71b5739c968fd153b3e0ccace92c58f961b71ee4a3be8719f0f9c7cba";
 
-fn optional(alloc: Global, bytes: Option<&[u8]>) -> Result<Option<Text>, AllocError> {
-    match bytes {
-        Some(bytes) => Ok(Some(Text::copied(alloc, bytes)?)),
-        None => Ok(None),
-    }
-}
-
-/// A user with this digest and this salt.
-fn user(alloc: Global, digest: Option<&[u8]>, salt: &[u8]) -> Result<User, AllocError> {
-    let salt = Text::copied(alloc, salt)?;
-    let digest = optional(alloc, digest)?;
-    Ok(User {
-        created: 0,
+/// A user with this digest, if any, and this salt.
+fn user(rt: &impl Abort, alloc: Global, digest: Option<&[u8]>, salt: &[u8]) -> User {
+    let digest = match digest {
+        Some(digest) => Some(text(rt, alloc, digest)),
+        None => None,
+    };
+    User {
         digest,
-        grants: Items::none(alloc),
-        name: Text::from_vec(Vec::new(alloc)),
-        roles: Items::none(alloc),
-        salt,
-        status: true,
-        uuid: Text::from_vec(Vec::new(alloc)),
-    })
+        salt: text(rt, alloc, salt),
+        ..starting::user(alloc)
+    }
 }
 
 #[test]
 fn digests(rt: HostRuntime) {
-    let cases: [(&[u8], &[u8]); 2] = [(SALT, DIGEST), (b"", UNSALTED)];
-    for (salt, wanted) in cases {
+    for (salt, wanted) in [(SALT, DIGEST), (b"", UNSALTED)] {
         let digest = make_pass(rt.alloc(), salt, b"pw").expect(&rt, "memory");
         assert!(rt; digest.as_slice() == wanted);
-        let user = user(rt.alloc(), Some(wanted), salt).expect(&rt, "memory");
+        let user = user(&rt, rt.alloc(), Some(wanted), salt);
         assert!(rt; check_pass(&user, b"pw"));
         assert!(rt; !check_pass(&user, b"pW"));
         assert!(rt; !check_pass(&user, b""));
@@ -49,9 +41,8 @@ fn digests(rt: HostRuntime) {
 
 #[test]
 fn users_whom_no_password_lets_in(rt: HostRuntime) {
-    let cases: [(Option<&[u8]>, &[u8]); 2] = [(None, SALT), (Some(UNSALTED), SALT)];
-    for (digest, salt) in cases {
-        let user = user(rt.alloc(), digest, salt).expect(&rt, "memory");
+    for digest in [None, Some(UNSALTED)] {
+        let user = user(&rt, rt.alloc(), digest, SALT);
         assert!(rt; !check_pass(&user, b"pw"));
         assert!(rt; !check_pass(&user, b""));
     }

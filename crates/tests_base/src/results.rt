@@ -1,28 +1,24 @@
 //! All pairs of results under both combinations, and the texts of reasons.
 
+use crate::starting::name;
 use access_result::{AccessResult, PermissionText, Reason, Verdict};
-use cacheability::{Cacheability, Name, Op, Tag};
-use std::alloc::{AllocError, Global};
-
-/// What was looked at, of the node of this number.
-fn looked_at(alloc: Global, nid: u32) -> Result<Cacheability, AllocError> {
-    let mut cacheability = Cacheability::new(alloc);
-    cacheability.add_tag(Tag::Node(nid))?;
-    Ok(cacheability)
-}
+use cacheability::{Cacheability, Op, Tag};
+use std::alloc::Global;
+use std::process::Abort;
 
 /// A result that looked at the node of this number.
-fn decided(alloc: Global, verdict: Verdict, nid: u32) -> Result<AccessResult, AllocError> {
-    let cacheability = looked_at(alloc, nid)?;
+fn decided(rt: &impl Abort, alloc: Global, verdict: Verdict, nid: u32) -> AccessResult {
+    let mut cacheability = Cacheability::new(alloc);
+    cacheability.add_tag(Tag::Node(nid)).expect(rt, "memory");
     let reason = match verdict {
         Verdict::Allowed => None,
         _ => Some(Reason::Grant(Op::View, nid)),
     };
-    Ok(AccessResult {
+    AccessResult {
         verdict,
         reason,
         cacheability,
-    })
+    }
 }
 
 /// The node that a reason names, 0 where it names none.
@@ -44,78 +40,72 @@ fn told(of: &AccessResult) -> (Verdict, u32, usize) {
 
 /// What both combinations of two verdicts, the left of node 1 and the right of node 2, tell.
 fn combined(
+    rt: &impl Abort,
     alloc: Global,
     left: Verdict,
     right: Verdict,
-) -> Result<[(Verdict, u32, usize); 2], AllocError> {
-    let left = decided(alloc, left, 1)?;
-    let right = decided(alloc, right, 2)?;
-    let either = left.or_if(alloc, &right)?;
-    let both = left.and_if(alloc, &right)?.duplicate(alloc)?;
-    Ok([told(&either), told(&both)])
+) -> [(Verdict, u32, usize); 2] {
+    let left = decided(rt, alloc, left, 1);
+    let right = decided(rt, alloc, right, 2);
+    let either = left.or_if(alloc, &right).expect(rt, "memory");
+    let both = left.and_if(alloc, &right).expect(rt, "memory");
+    let copy = both.duplicate(alloc).expect(rt, "memory");
+    [told(&either), told(&copy)]
 }
+
+const A: Verdict = Verdict::Allowed;
+
+const N: Verdict = Verdict::Neutral;
+
+const F: Verdict = Verdict::Forbidden;
+
+/// Left and right; what `or_if` tells, and what `and_if` tells.
+const COMBINATIONS: [(Verdict, Verdict, [(Verdict, u32, usize); 2]); 9] = [
+    (A, A, [(A, 0, 2), (A, 0, 2)]),
+    (A, N, [(A, 0, 2), (N, 2, 2)]),
+    (A, F, [(F, 2, 2), (F, 2, 2)]),
+    (N, A, [(A, 0, 2), (N, 1, 2)]),
+    (N, N, [(N, 1, 2), (N, 1, 2)]),
+    (N, F, [(F, 2, 2), (F, 2, 2)]),
+    (F, A, [(F, 1, 1), (F, 1, 1)]),
+    (F, N, [(F, 1, 1), (F, 1, 1)]),
+    (F, F, [(F, 1, 1), (F, 1, 1)]),
+];
 
 #[test]
 fn combinations(rt: HostRuntime) {
-    let a = Verdict::Allowed;
-    let n = Verdict::Neutral;
-    let f = Verdict::Forbidden;
-    // left, right; what `or_if` tells, and what `and_if` tells
-    let table = [
-        (a, a, [(a, 0, 2), (a, 0, 2)]),
-        (a, n, [(a, 0, 2), (n, 2, 2)]),
-        (a, f, [(f, 2, 2), (f, 2, 2)]),
-        (n, a, [(a, 0, 2), (n, 1, 2)]),
-        (n, n, [(n, 1, 2), (n, 1, 2)]),
-        (n, f, [(f, 2, 2), (f, 2, 2)]),
-        (f, a, [(f, 1, 1), (f, 1, 1)]),
-        (f, n, [(f, 1, 1), (f, 1, 1)]),
-        (f, f, [(f, 1, 1), (f, 1, 1)]),
-    ];
-    for (left, right, wanted) in table {
-        assert!(rt; combined(rt.alloc(), left, right) == Ok(wanted));
+    for (left, right, wanted) in &COMBINATIONS {
+        assert!(rt; combined(&rt, rt.alloc(), *left, *right) == *wanted);
     }
 }
 
 #[test]
 fn allowed_alone_gives_access(rt: HostRuntime) {
-    for (verdict, allowed) in [
-        (Verdict::Allowed, true),
-        (Verdict::Neutral, false),
-        (Verdict::Forbidden, false),
-    ] {
-        let result = decided(rt.alloc(), verdict, 1).expect(&rt, "memory");
+    for (verdict, allowed) in [(A, true), (N, false), (F, false)] {
+        let result = decided(&rt, rt.alloc(), verdict, 1);
         assert!(rt; result.allowed() == allowed);
     }
 }
 
 /// Whether a second copy of the reason has this text.
-fn reads(alloc: Global, reason: &Reason, text: &[u8]) -> Result<bool, AllocError> {
-    let again = reason.duplicate(alloc)?;
-    Ok(again.text(alloc)?.as_slice() == text)
+fn reads(rt: &impl Abort, alloc: Global, reason: Reason, text: &[u8]) -> bool {
+    let again = reason.duplicate(alloc).expect(rt, "memory");
+    let written = again.text(alloc).expect(rt, "memory");
+    written.as_slice() == text
 }
 
 #[test]
 fn texts(rt: HostRuntime) {
-    let permission = PermissionText::copied(rt.alloc(), b"view secret").expect(&rt, "memory");
-    let field = Name::new(b"body").expect(&rt, "a name");
-    let reasons: [(Reason, &[u8]); 5] = [
-        (
-            Reason::Permission(permission),
-            b"The 'view secret' permission is required.",
-        ),
-        (
-            Reason::Grant(Op::Update, 10),
-            b"A 'update' grant for node 10 is required.",
-        ),
-        (
-            Reason::OwnerOnly(field),
-            b"Only the owner may use the field 'body'.",
-        ),
-        (Reason::Unrecognized, b"Unrecognized username or password."),
-        (Reason::NoSession, b"A session is required."),
-    ];
-    for (reason, text) in &reasons {
-        assert!(rt; reads(rt.alloc(), reason, text) == Ok(true));
-    }
+    let alloc = rt.alloc();
+    let permission = PermissionText::copied(alloc, b"view secret").expect(&rt, "memory");
+    let wanted = b"The 'view secret' permission is required.";
+    assert!(rt; reads(&rt, alloc, Reason::Permission(permission), wanted));
+    let wanted = b"A 'update' grant for node 10 is required.";
+    assert!(rt; reads(&rt, alloc, Reason::Grant(Op::Update, 10), wanted));
+    let wanted = b"Only the owner may use the field 'body'.";
+    assert!(rt; reads(&rt, alloc, Reason::OwnerOnly(name(&rt, b"body")), wanted));
+    let wanted = b"Unrecognized username or password.";
+    assert!(rt; reads(&rt, alloc, Reason::Unrecognized, wanted));
+    let wanted = b"A session is required.";
+    assert!(rt; reads(&rt, alloc, Reason::NoSession, wanted));
 }

@@ -1,53 +1,32 @@
 //! What roles give, case by case.
 
+use crate::starting;
+use crate::starting::{name, no_text, text};
 use cacheability::Name;
-use content_rows::{Items, Role, Session, Text, User};
+use content_rows::{Items, Role, Session, User};
 use std::alloc::{AllocError, Global};
+use std::process::Abort;
 use user_roles::{has, permissions_of, role_names, session_live};
 
-fn name(bytes: &[u8]) -> Result<Name, AllocError> {
-    Name::new(bytes).map_err(|_| AllocError)
-}
-
-/// Two names, one of them twice.
-fn names(alloc: Global) -> Result<Vec<Name>, AllocError> {
-    let writer = name(b"writer")?;
-    let club = name(b"club")?;
-    Vec::from_slice(alloc, &[writer, club, writer])
-}
-
 /// A user of two roles, one of them twice.
-fn user(alloc: Global, active: bool) -> Result<User, AllocError> {
-    let roles = Items::from_vec(names(alloc)?);
-    Ok(User {
-        created: 0,
-        digest: None,
-        grants: Items::none(alloc),
-        name: Text::from_vec(Vec::new(alloc)),
-        roles,
-        salt: Text::from_vec(Vec::new(alloc)),
-        status: active,
-        uuid: Text::from_vec(Vec::new(alloc)),
-    })
-}
-
-/// Two texts.
-fn texts(alloc: Global, first: &[u8], second: &[u8]) -> Result<Vec<Text>, AllocError> {
-    let mut texts = Vec::new(alloc);
-    texts.push(Text::copied(alloc, first)?)?;
-    texts.push(Text::copied(alloc, second)?)?;
-    Ok(texts)
+fn user(rt: &impl Abort, alloc: Global) -> User {
+    let writer = name(rt, b"writer");
+    let names = [writer, name(rt, b"club"), writer];
+    User {
+        roles: Items::from_vec(Vec::from_slice(alloc, &names).expect(rt, "memory")),
+        ..starting::user(alloc)
+    }
 }
 
 /// A role of two permissions.
-fn role(alloc: Global, admin: bool, first: &[u8], second: &[u8]) -> Result<Role, AllocError> {
-    let permissions = texts(alloc, first, second)?;
-    Ok(Role {
+fn role(rt: &impl Abort, alloc: Global, admin: bool, first: &[u8], second: &[u8]) -> Role {
+    let permissions = vec![in alloc; text(rt, alloc, first), text(rt, alloc, second)];
+    Role {
         admin,
         grants: Items::none(alloc),
-        label: Text::from_vec(Vec::new(alloc)),
-        permissions: Items::from_vec(permissions),
-    })
+        label: no_text(alloc),
+        permissions: Items::from_vec(permissions.expect(rt, "memory")),
+    }
 }
 
 /// Whether the names are these.
@@ -61,7 +40,7 @@ fn are(names: &[Name], wanted: &[&[u8]]) -> bool {
 
 #[test]
 fn names_of_roles(rt: HostRuntime) {
-    let user = user(rt.alloc(), true).expect(&rt, "memory");
+    let user = user(&rt, rt.alloc());
     let cases: [(u32, Option<&User>, &[&[u8]]); 4] = [
         (0, None, &[b"anonymous"]),
         (0, Some(&user), &[b"anonymous"]),
@@ -79,18 +58,20 @@ fn may(alloc: Global, uid: u32, roles: &[&Role], permission: &[u8]) -> Result<bo
     Ok(has(&permissions_of(alloc, uid, roles)?, permission))
 }
 
+/// A user, a permission, and whether the user has it by no role, the reader's, that and the writer's, and all three.
+const PERMISSIONS: [(u32, &[u8], [bool; 4]); 4] = [
+    (2, b"access content", [false, true, true, true]),
+    (2, b"write", [false, false, true, true]),
+    (0, b"access", [false, false, false, true]),
+    (1, b"anything", [true, true, true, true]),
+];
+
 #[test]
 fn permissions_of_roles(rt: HostRuntime) {
-    let reader = role(rt.alloc(), false, b"access content", b"see").expect(&rt, "memory");
-    let writer = role(rt.alloc(), false, b"write", b"access content").expect(&rt, "memory");
-    let admin = role(rt.alloc(), true, b"see", b"see").expect(&rt, "memory");
-    let cases: [(u32, &[u8], [bool; 4]); 4] = [
-        (2, b"access content", [false, true, true, true]),
-        (2, b"write", [false, false, true, true]),
-        (0, b"access", [false, false, false, true]),
-        (1, b"anything", [true, true, true, true]),
-    ];
-    for (uid, permission, [none, one, two, three]) in cases {
+    let reader = role(&rt, rt.alloc(), false, b"access content", b"see");
+    let writer = role(&rt, rt.alloc(), false, b"write", b"access content");
+    let admin = role(&rt, rt.alloc(), true, b"see", b"see");
+    for (uid, permission, [none, one, two, three]) in PERMISSIONS {
         assert!(rt; may(rt.alloc(), uid, &[], permission) == Ok(none));
         assert!(rt; may(rt.alloc(), uid, &[&reader], permission) == Ok(one));
         assert!(rt; may(rt.alloc(), uid, &[&reader, &writer], permission) == Ok(two));
@@ -104,8 +85,9 @@ fn sessions(rt: HostRuntime) {
         expires: 100,
         uid: 7,
     };
+    let mut user = user(&rt, rt.alloc());
     for (active, moment, live) in [(true, 99, true), (true, 100, false), (false, 99, false)] {
-        let user = user(rt.alloc(), active).expect(&rt, "memory");
+        user.status = active;
         assert!(rt; session_live(&session, &user, moment) == live);
     }
 }

@@ -1,11 +1,13 @@
 //! A new site's rows, right rows and wrong ones, second copies of rows, and the order and the texts of cells.
 
+use crate::starting::{name, no_text, text};
 use cacheability::Name;
 use content_rows::{
     Block, BlockKind, Cell, Duplicate, FieldValue, Items, Link, Listing, Menu, Node, Region, Row,
     Text, User, starter,
 };
 use std::alloc::{AllocError, Global};
+use std::process::Abort;
 
 fn sendable_and_shared<T: Send + Sync>(_: &T) {}
 
@@ -27,7 +29,7 @@ fn first_node(alloc: Global) -> Result<Row, AllocError> {
 }
 
 /// Whether a node is the first of a new site.
-fn is_first(node: &Node) -> bool {
+fn is_first_node(node: &Node) -> bool {
     match node.fields.as_slice() {
         [body] => {
             body.value.as_slice() == b"Hello".as_slice()
@@ -39,13 +41,18 @@ fn is_first(node: &Node) -> bool {
     }
 }
 
+/// Whether a row is that node.
+fn is_first(row: &Row) -> bool {
+    match row {
+        Row::Node(node) => is_first_node(node),
+        _ => false,
+    }
+}
+
 #[test]
 fn a_new_site_has_a_first_node(rt: HostRuntime) {
     let row = first_node(rt.alloc()).expect(&rt, "memory");
-    match &row {
-        Row::Node(node) => assert!(rt; is_first(node)),
-        _ => panic!(rt; "no node"),
-    }
+    assert!(rt; is_first(&row));
 }
 
 /// Whether a cell has this text.
@@ -55,35 +62,60 @@ fn reads(alloc: Global, cell: &Cell, text: &[u8]) -> Result<bool, AllocError> {
 }
 
 /// Whether a cell stands to the cells of a list as its place does to theirs.
-fn stands_at(at: usize, cell: &Cell, cells: &[(Cell, &[u8])]) -> bool {
-    cells.iter().enumerate().all(|(after, (other, _))| {
-        (at < after) == (cell < other) && (at == after) == cell.equals(other)
-    })
+fn stands_at(at: usize, cell: &Cell, cells: &[Cell]) -> bool {
+    for (after, other) in cells.iter().enumerate() {
+        if (at < after) != (cell < other) || (at == after) != cell.equals(other) {
+            return false;
+        }
+    }
+    true
 }
+
+/// Cells in their order.
+fn cells(long: Name, longer: Name) -> [Cell; 16] {
+    [
+        Cell::Site,
+        Cell::Seq,
+        Cell::NodeType(longer),
+        Cell::Role(long),
+        Cell::Role(longer),
+        Cell::User(9),
+        Cell::User(10),
+        Cell::Term(1),
+        Cell::Node(2),
+        Cell::Node(4294967294),
+        Cell::Menu(long),
+        Cell::Listing(long),
+        Cell::Block(long),
+        Cell::Session(long),
+        Cell::Session(longer),
+        Cell::Head,
+    ]
+}
+
+const CELL_TEXTS: [&[u8]; 16] = [
+    b"site",
+    b"seq",
+    b"type:longer",
+    b"role:long",
+    b"role:longer",
+    b"user:9",
+    b"user:10",
+    b"term:1",
+    b"node:2",
+    b"node:4294967294",
+    b"menu:long",
+    b"listing:long",
+    b"block:long",
+    b"session:long",
+    b"session:longer",
+    b"head",
+];
 
 #[test]
 fn cells_are_in_order_and_have_their_texts(rt: HostRuntime) {
-    let long = Name::new(b"long").expect(&rt, "a name");
-    let longer = Name::new(b"longer").expect(&rt, "a name");
-    let cells: [(Cell, &[u8]); 16] = [
-        (Cell::Site, b"site"),
-        (Cell::Seq, b"seq"),
-        (Cell::NodeType(longer), b"type:longer"),
-        (Cell::Role(long), b"role:long"),
-        (Cell::Role(longer), b"role:longer"),
-        (Cell::User(9), b"user:9"),
-        (Cell::User(10), b"user:10"),
-        (Cell::Term(1), b"term:1"),
-        (Cell::Node(2), b"node:2"),
-        (Cell::Node(4294967294), b"node:4294967294"),
-        (Cell::Menu(long), b"menu:long"),
-        (Cell::Listing(long), b"listing:long"),
-        (Cell::Block(long), b"block:long"),
-        (Cell::Session(long), b"session:long"),
-        (Cell::Session(longer), b"session:longer"),
-        (Cell::Head, b"head"),
-    ];
-    for (at, (cell, text)) in cells.iter().enumerate() {
+    let cells = cells(name(&rt, b"long"), name(&rt, b"longer"));
+    for (at, (cell, text)) in cells.iter().zip(&CELL_TEXTS).enumerate() {
         assert!(rt; reads(rt.alloc(), cell, text) == Ok(true));
         assert!(rt; stands_at(at, cell, &cells));
     }
@@ -109,131 +141,114 @@ fn lists(rt: HostRuntime) {
 }
 
 /// The fields of a node, with these names.
-fn fields(alloc: Global, names: &[Name]) -> Result<Items<FieldValue>, AllocError> {
+fn fields(rt: &impl Abort, alloc: Global, names: &[Name]) -> Items<FieldValue> {
     let mut fields = Vec::new(alloc);
     for name in names {
-        fields.push(FieldValue {
+        let field = FieldValue {
             name: *name,
-            value: Text::copied(alloc, b"One")?,
-        })?;
+            value: text(rt, alloc, b"One"),
+        };
+        fields.push(field).expect(rt, "memory");
     }
-    Ok(Items::from_vec(fields))
+    Items::from_vec(fields)
 }
 
 /// A node of fields with these names.
-fn node(alloc: Global, path: &[u8], names: [Name; 2]) -> Result<Row, AllocError> {
-    let fields = fields(alloc, &names)?;
-    let path = Some(Text::copied(alloc, path)?);
-    let title = Text::copied(alloc, b"One")?;
-    let uuid = Text::copied(alloc, b"n-1")?;
-    Ok(Row::Node(Node {
+fn node(rt: &impl Abort, alloc: Global, path: &[u8], names: [Name; 2]) -> Row {
+    Row::Node(Node {
         changed: 1,
         created: 1,
-        fields,
+        fields: fields(rt, alloc, &names),
         grants: Items::none(alloc),
-        path,
+        path: Some(text(rt, alloc, path)),
         promote: false,
         refs: Items::none(alloc),
         status: true,
         sticky: false,
         terms: Items::none(alloc),
-        title,
+        title: text(rt, alloc, b"One"),
         node_type: names[0],
         uid: 0,
-        uuid,
+        uuid: text(rt, alloc, b"n-1"),
         vid: 1,
-    }))
+    })
 }
 
 /// A user with that salt.
-fn user(alloc: Global, salt: &[u8]) -> Result<Row, AllocError> {
-    let name = Text::copied(alloc, b"ann")?;
-    let salt = Text::copied(alloc, salt)?;
-    let uuid = Text::copied(alloc, b"u-1")?;
-    Ok(Row::User(User {
+fn user(rt: &impl Abort, alloc: Global, salt: &[u8]) -> Row {
+    Row::User(User {
         created: 1,
         digest: None,
         grants: Items::none(alloc),
-        name,
+        name: text(rt, alloc, b"ann"),
         roles: Items::none(alloc),
-        salt,
+        salt: text(rt, alloc, salt),
         status: true,
-        uuid,
-    }))
-}
-
-/// A link of that name and parent.
-fn link(alloc: Global, id: Name, parent: Option<Name>) -> Result<Link, AllocError> {
-    let path = Text::copied(alloc, b"/node/1")?;
-    let title = Text::copied(alloc, b"One")?;
-    Ok(Link {
-        id,
-        parent,
-        path,
-        title,
-        weight: 0,
+        uuid: text(rt, alloc, b"u-1"),
     })
 }
 
 /// A menu of links that stand under one another, the first under `top`.
-fn menu(alloc: Global, ids: &[Name], top: Option<Name>) -> Result<Row, AllocError> {
-    let label = Text::copied(alloc, b"Main")?;
+fn menu(rt: &impl Abort, alloc: Global, ids: &[Name], top: Option<Name>) -> Row {
     let mut links = Vec::new(alloc);
     let mut parent = top;
     for id in ids {
-        links.push(link(alloc, *id, parent)?)?;
+        let link = Link {
+            id: *id,
+            parent,
+            path: text(rt, alloc, b"/node/1"),
+            title: text(rt, alloc, b"One"),
+            weight: 0,
+        };
+        links.push(link).expect(rt, "memory");
         parent = Some(*id);
     }
-    Ok(Row::Menu(Menu {
-        label,
+    Row::Menu(Menu {
+        label: text(rt, alloc, b"Main"),
         links: Items::from_vec(links),
-    }))
+    })
 }
 
 /// A listing of nodes that are no older than an hour.
-fn listing(alloc: Global, age: Option<u32>) -> Result<Row, AllocError> {
-    let path = Some(Text::copied(alloc, b"/node")?);
-    let title = Text::copied(alloc, b"News")?;
-    Ok(Row::Listing(Listing {
+fn listing(rt: &impl Abort, alloc: Global, age: Option<u32>) -> Row {
+    Row::Listing(Listing {
         age,
-        path,
+        path: Some(text(rt, alloc, b"/node")),
         promoted: false,
         recent: Some(3600),
         term: None,
-        title,
+        title: text(rt, alloc, b"News"),
         types: Items::none(alloc),
-    }))
+    })
 }
 
 /// A clock.
-fn clock(alloc: Global, age: Option<u32>) -> Result<Row, AllocError> {
-    let paths = vec![in alloc; Text::copied(alloc, b"<front>")?]?;
-    Ok(Row::Block(Block {
+fn clock(rt: &impl Abort, alloc: Global, age: Option<u32>) -> Row {
+    Row::Block(Block {
         age,
         hide: false,
         kind: BlockKind::Clock,
-        label: Text::from_vec(Vec::new(alloc)),
+        label: no_text(alloc),
         name: None,
-        paths: Items::from_vec(paths),
+        paths: Items::one(alloc, text(rt, alloc, b"<front>")).expect(rt, "memory"),
         region: Region::Aside,
         roles: Items::none(alloc),
         text: None,
         weight: -1000,
-    }))
+    })
 }
 
-/// Whether the row is made, and is right for the cell.
-fn is_right(row: Result<Row, AllocError>, cell: Cell) -> Result<bool, AllocError> {
-    let row = row?;
+/// Whether a row is right for a cell.
+fn is_right(row: Row, cell: Cell) -> bool {
     let right = row.is_right(&cell);
     drop(row);
-    Ok(right)
+    right
 }
 
 #[test]
 fn nodes(rt: HostRuntime) {
-    let a = Name::new(b"a").expect(&rt, "a name");
-    let b = Name::new(b"b").expect(&rt, "a name");
+    let a = name(&rt, b"a");
+    let b = name(&rt, b"b");
     let cases: [(Cell, &[u8], [Name; 2], bool); 6] = [
         (Cell::Node(1), b"/about/us", [a, b], true),
         (Cell::Node(0), b"/about/us", [a, b], false),
@@ -243,40 +258,47 @@ fn nodes(rt: HostRuntime) {
         (Cell::Node(1), b"/about/us", [b, a], false),
     ];
     for (cell, path, names, right) in cases {
-        assert!(rt; is_right(node(rt.alloc(), path, names), cell) == Ok(right));
+        assert!(rt; is_right(node(&rt, rt.alloc(), path, names), cell) == right);
     }
 }
 
 #[test]
 fn users(rt: HostRuntime) {
-    let cases: [(&[u8], bool); 2] = [(b"", true), (b"A", false)];
-    for (salt, right) in cases {
-        assert!(rt; is_right(user(rt.alloc(), salt), Cell::User(1)) == Ok(right));
-    }
+    assert!(rt; is_right(user(&rt, rt.alloc(), b""), Cell::User(1)));
+    assert!(rt; !is_right(user(&rt, rt.alloc(), b"A"), Cell::User(1)));
 }
+
+/// The names of these letters.
+fn ids(rt: &impl Abort, alloc: Global, letters: &[u8]) -> Vec<Name> {
+    let mut ids = Vec::new(alloc);
+    for letter in letters {
+        ids.push(name(rt, &[*letter])).expect(rt, "memory");
+    }
+    ids
+}
+
+/// The letters of links, whether the first stands under `b`, and whether the menu is right.
+const MENUS: [(&[u8], bool, bool); 3] = [
+    (b"abcdefghi", false, true),
+    (b"abcdefghij", false, false),
+    (b"ab", true, false),
+];
 
 #[test]
 fn menus(rt: HostRuntime) {
-    let b = Name::new(b"b").expect(&rt, "a name");
-    let mut ids = [b; 10];
-    for (id, byte) in ids.iter_mut().zip(b"abcdefghij") {
-        *id = Name::new(&[*byte]).expect(&rt, "a name");
-    }
-    let cases = [
-        (&ids[..9], None, true),
-        (&ids[..], None, false),
-        (&ids[..2], Some(b), false),
-    ];
-    for (ids, top, right) in cases {
-        assert!(rt; is_right(menu(rt.alloc(), ids, top), Cell::Menu(b)) == Ok(right));
+    let b = name(&rt, b"b");
+    for (letters, under, right) in &MENUS {
+        let ids = ids(&rt, rt.alloc(), letters);
+        let top = if *under { Some(b) } else { None };
+        assert!(rt; is_right(menu(&rt, rt.alloc(), &ids, top), Cell::Menu(b)) == *right);
     }
 }
 
 #[test]
 fn ages(rt: HostRuntime) {
-    let a = Name::new(b"a").expect(&rt, "a name");
+    let a = name(&rt, b"a");
     for (age, right) in [(Some(60), true), (None, false)] {
-        assert!(rt; is_right(listing(rt.alloc(), age), Cell::Listing(a)) == Ok(right));
-        assert!(rt; is_right(clock(rt.alloc(), age), Cell::Block(a)) == Ok(right));
+        assert!(rt; is_right(listing(&rt, rt.alloc(), age), Cell::Listing(a)) == right);
+        assert!(rt; is_right(clock(&rt, rt.alloc(), age), Cell::Block(a)) == right);
     }
 }

@@ -1,11 +1,13 @@
 //! Texts of tags and contexts, and what two pieces of a page say together.
 
+use crate::starting::name;
 use cacheability::{Cacheability, Context, MaxAge, Name, Tag};
-use std::alloc::{AllocError, Global};
+use std::alloc::Global;
+use std::process::Abort;
 
 #[test]
 fn texts(rt: HostRuntime) {
-    let page = Name::new(b"page").expect(&rt, "a name");
+    let page = name(&rt, b"page");
     let tags: [(Tag, &[u8]); 5] = [
         (Tag::Role(page), b"config:user.role.page"),
         (Tag::User(4_294_967_294), b"user:4294967294"),
@@ -23,14 +25,14 @@ fn texts(rt: HostRuntime) {
     assert!(rt; Name::new(b"Page").is_err());
 }
 
-/// What is kept for a minute at most, and was made from these.
-fn made_from(alloc: Global, tags: &[Tag], age: MaxAge) -> Result<Cacheability, AllocError> {
+/// What was made from these, and is kept so long at most.
+fn made_from(rt: &impl Abort, alloc: Global, tags: &[Tag], age: MaxAge) -> Cacheability {
     let mut made = Cacheability::new(alloc);
     for tag in tags {
-        made.add_tag(*tag)?;
+        made.add_tag(*tag).expect(rt, "memory");
     }
     made.limit_age(age);
-    Ok(made)
+    made
 }
 
 #[test]
@@ -39,8 +41,8 @@ fn merged(rt: HostRuntime) {
     let minute = MaxAge::Seconds(60);
     let one_tags = [Tag::NodeList, Tag::Node(10)];
     let other_tags = [Tag::Node(9), Tag::Node(10)];
-    let mut one = made_from(alloc, &one_tags, minute).expect(&rt, "memory");
-    let mut other = made_from(alloc, &other_tags, MaxAge::Permanent).expect(&rt, "memory");
+    let mut one = made_from(&rt, alloc, &one_tags, minute);
+    let mut other = made_from(&rt, alloc, &other_tags, MaxAge::Permanent);
     assert!(rt; other.add_context(Context::Session).is_ok());
     assert!(rt; one.merge(alloc, &other).is_ok());
     assert!(rt; one.tags() == [Tag::Node(10), Tag::Node(9), Tag::NodeList].as_slice());
