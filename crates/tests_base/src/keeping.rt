@@ -108,11 +108,13 @@ fn a_batch_is_kept(rt: HostRuntime) {
     let (mut keeper, batch) = keeper(&rt, alloc, &[]);
     sendable(&keeper);
     sendable(&batch);
-    assert!(rt; held(alloc, &mut keeper) == Some(false));
+    let first = keeper.load(alloc).expect(&rt, "it doesn't fail");
+    assert!(rt; is_as(&first, false));
     assert!(rt; keeper.head(alloc) == Ok(0));
     assert!(rt; keeper.apply(alloc, &batch) == Ok(()));
     assert!(rt; keeper.head(alloc) == Ok(1));
-    assert!(rt; held(alloc, &mut keeper) == Some(true));
+    let then = keeper.load(alloc).expect(&rt, "it doesn't fail");
+    assert!(rt; is_as(&then, true));
     assert!(rt; keeper.faults() == 0);
 }
 

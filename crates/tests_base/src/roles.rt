@@ -71,11 +71,11 @@ fn permissions_of_roles(rt: HostRuntime) {
     let reader = role(&rt, rt.alloc(), false, b"access content", b"see");
     let writer = role(&rt, rt.alloc(), false, b"write", b"access content");
     let admin = role(&rt, rt.alloc(), true, b"see", b"see");
-    for (uid, permission, [none, one, two, three]) in &PERMISSIONS {
-        assert!(rt; may(rt.alloc(), *uid, &[], permission) == Ok(*none));
-        assert!(rt; may(rt.alloc(), *uid, &[&reader], permission) == Ok(*one));
-        assert!(rt; may(rt.alloc(), *uid, &[&reader, &writer], permission) == Ok(*two));
-        assert!(rt; may(rt.alloc(), *uid, &[&writer, &admin, &reader], permission) == Ok(*three));
+    for (uid, permission, [none, one, two, three]) in PERMISSIONS {
+        assert!(rt; may(rt.alloc(), uid, &[], permission) == Ok(none));
+        assert!(rt; may(rt.alloc(), uid, &[&reader], permission) == Ok(one));
+        assert!(rt; may(rt.alloc(), uid, &[&reader, &writer], permission) == Ok(two));
+        assert!(rt; may(rt.alloc(), uid, &[&writer, &admin, &reader], permission) == Ok(three));
     }
 }
 

@@ -268,20 +268,29 @@ fn users(rt: HostRuntime) {
     assert!(rt; !is_right(user(&rt, rt.alloc(), b"A"), Cell::User(1)));
 }
 
+/// The names of these letters.
+fn ids(rt: &impl Abort, alloc: Global, letters: &[u8]) -> Vec<Name> {
+    let mut ids = Vec::new(alloc);
+    for letter in letters {
+        ids.push(name(rt, &[*letter])).expect(rt, "memory");
+    }
+    ids
+}
+
+/// The letters of links, whether the first stands under `b`, and whether the menu is right.
+const MENUS: [(&[u8], bool, bool); 3] = [
+    (b"abcdefghi", false, true),
+    (b"abcdefghij", false, false),
+    (b"ab", true, false),
+];
+
 #[test]
 fn menus(rt: HostRuntime) {
     let b = name(&rt, b"b");
-    let mut ids = [b; 10];
-    for (id, byte) in ids.iter_mut().zip(b"abcdefghij") {
-        *id = name(&rt, &[*byte]);
-    }
-    let cases = [
-        (&ids[..9], None, true),
-        (&ids[..], None, false),
-        (&ids[..2], Some(b), false),
-    ];
-    for (ids, top, right) in cases {
-        assert!(rt; is_right(menu(&rt, rt.alloc(), ids, top), Cell::Menu(b)) == right);
+    for (letters, under, right) in &MENUS {
+        let ids = ids(&rt, rt.alloc(), letters);
+        let top = if *under { Some(b) } else { None };
+        assert!(rt; is_right(menu(&rt, rt.alloc(), &ids, top), Cell::Menu(b)) == *right);
     }
 }
 
