@@ -27,6 +27,7 @@ use Rattle.render_canvas.specs.Board.{pieces_of}
 use Rattle.render_canvas.proofs.BoardLaws.{places-append, places_of_bytes}
 use Rattle.render_array.specs.Whole.{level, fragment_level}
 use Rattle.renderer.proofs.Joining.{parts_append}
+use Rattle.renderer.proofs.Standing.{lower_yet, not_lower, not_this, over_too}
 use Rattle.kept_pages.specs.declared.joining.Begun.{Begun}
 use Rattle.kept_pages.specs.Joins.{Begins, StaysOpen}
 use Rattle.kept_pages.specs.Needed.{Visits, InPlaces, OfFragment, InFragment, OfPlace, either_shape, NeededBelow, stays_lazy, NeededInFrame, OfFrame, InHoles, OfWhole, OfTarget}
@@ -226,12 +227,12 @@ tells_whole r path v page old mid new a b here first second =
 -- ---- what is needed in a place, by its level
 
 pub needed_lower : (k l : ℕ) (v : Visit) (h : Hole) (t : Went) → level h ≡ l → l < k → OfPlace (NeededBelow l v) v h t → NeededBelow k v h t
-needed_lower zero l v h t is lower of = absurd (omega arith)
+needed_lower zero l v h t is lower of = absurd (not_lower l lower)
 needed_lower (suc k) l v h t is lower of = elim (eqb_tells (level h) k) [
   | inl e ↦ subst (λ b. either_shape b (OfPlace (NeededBelow k v) v h) (NeededBelow k v h) t) (sym e.0)
       (subst (λ j. OfPlace (NeededBelow j v) v h t) (sym is ∙ e.1) of)
   | inr e ↦ subst (λ b. either_shape b (OfPlace (NeededBelow k v) v h) (NeededBelow k v h) t) (sym e.0)
-      (needed_lower k l v h t is (let other = e.1 in omega arith) of)
+      (needed_lower k l v h t is (lower_yet k l (level h) is lower e.1) of)
 ]
 
 none_of : (b : Bool) (At Rest : Went → Type 0) → At Done → Rest Done → either_shape b At Rest Done
@@ -245,8 +246,8 @@ open_meta (suc k) v = none_of (0 == k) (OfPlace (NeededBelow k v) v hole.Meta) (
 open_above : (k : ℕ) (v : Visit) (h : Hole) → k ≤ level h → NeededBelow k v h Done
 open_above zero v h over = refl
 open_above (suc k) v h over = elim (eqb_tells (level h) k) [
-  | inl e ↦ absurd (let same = e.1 in omega arith)
-  | inr e ↦ subst (λ b. either_shape b (OfPlace (NeededBelow k v) v h) (NeededBelow k v h) Done) (sym e.0) (open_above k v h (omega arith))
+  | inl e ↦ absurd (not_this k (level h) over e.1)
+  | inr e ↦ subst (λ b. either_shape b (OfPlace (NeededBelow k v) v h) (NeededBelow k v h) Done) (sym e.0) (open_above k v h (over_too k (level h) over))
 ]
 
 needed_open : (below : ℕ) (v : Visit) (h : Hole) → StaysOpen below h → NeededBelow below v h Done

@@ -38,19 +38,23 @@ use Rattle.kept_pages.proofs.Counting.{number_then, needed_lower}
 use Rattle.kept_pages.proofs.OfFrames.{below_page, stands, OfRows, lazy_of_rows}
 use Rattle.kept_pages.proofs.Timeless.{Timeless, plan_timeless}
 
+-- counts alone: where a visit is known too, `omega` reads it through
+none_most : {u : Went} (t : Went) (count : ℕ) → t ≡ u → number_built u ≡ 0 → number_built t ≤ count
+none_most t count is none = let built = ap number_built is in omega arith
+
+both_most : (built one rest here others all : ℕ) → built ≡ one + rest → one ≤ here → rest ≤ others → all ≡ here + others → built ≤ all
+both_most built one rest here others all built_is first second all_is = omega arith
+
 visits_most : (At : Hole → Went → Type 0) (count : Hole → ℕ) → ((h : Hole) (t : Went) → At h t → number_built t ≤ count h) → (hs : List Hole) (t : Went) → Visits At hs t → number_built t ≤ sum_by count hs
-visits_most At count most [] t is = let none = ap number_built is in omega arith
+visits_most At count most [] t is = none_most t 0 is refl
 visits_most At count most (h ∷ hs) t v =
-    let both = ap number_built v.is ∙ number_then v.one v.rest in
-    let first = most h v.one v.first in
-    let others = visits_most At count most hs v.rest v.others in
-    let sum = sum_by-cons count h hs in
-    omega arith
+    both_most (number_built t) (number_built v.one) (number_built v.rest) (count h) (sum_by count hs) (sum_by count (h ∷ hs))
+    (ap number_built v.is ∙ number_then v.one v.rest) (most h v.one v.first) (visits_most At count most hs v.rest v.others) (sum_by-cons count h hs)
 
 place_most : (k : ℕ) (v : Visit) → ((h : Hole) (t : Went) → NeededBelow k v h t → number_built t ≤ count_below k v h) → (h : Hole) (t : Went) → OfPlace (NeededBelow k v) v h t → number_built t ≤ count_at (count_below k v) v (plan_at h)
-place_most k v most hole.Meta t is = let none = ap number_built is in omega arith
+place_most k v most hole.Meta t is = none_most t (count_at (count_below k v) v (plan_at hole.Meta)) is refl
 place_most k v most (hole.Fragment f) t of = elim of.element [
-  | inl is ↦ (let none = ap number_built is in omega arith)
+  | inl is ↦ none_most t _ is refl
   | inr b ↦ (
       let whole = ap number_built b.is in
       let inner = visits_most (NeededBelow k v) (count_below k v) most (met (fragment_shown f >> Gives None) v).places b.inner b.of_places in
@@ -62,7 +66,7 @@ either_most true At Rest t one other first second of = first of
 either_most false At Rest t one other first second of = second of
 
 below_most : (k : ℕ) (v : Visit) (h : Hole) (t : Went) → NeededBelow k v h t → number_built t ≤ count_below k v h
-below_most zero v h t is = let none = ap number_built is in omega arith
+below_most zero v h t is = none_most t 0 is refl
 below_most (suc k) v h t needed =
     either_most (level h == k) (OfPlace (NeededBelow k v) v h) (NeededBelow k v h) t (count_at (count_below k v) v (plan_at h)) (count_below k v h)
     (place_most k v (λ g u of. below_most k v g u of) h t) (below_most k v h t) needed
@@ -96,10 +100,10 @@ all_count v (h ∷ hs) =
     omega arith
 
 frame_most : (v : Visit) (h : Hole) (t : Went) → NeededInFrame v h t → number_built t ≤ count_kept v h
-frame_most v hole.Meta t is = let none = ap number_built is in omega arith
+frame_most v hole.Meta t is = none_most t 0 is refl
 frame_most v (hole.Fragment f) t needed =
     either_most (stays_lazy v f) (λ u. u ≡ Done) (OfFragment (NeededBelow (fragment_level f) v) v f) t 0 (count_below 5 v (hole.Fragment f))
-    (λ is. (let none = ap number_built is in omega arith))
+    (λ is. none_most t 0 is refl)
     (λ of. below_most 5 v (hole.Fragment f) t (needed_lower 5 (fragment_level f) v (hole.Fragment f) t refl (let low = below_page f in omega arith) of)) needed
 
 -- ---- the open places of what is shown
@@ -213,7 +217,7 @@ module _ (v : Visit) where
 -- ---- a page
 
 found_or_built : (path : List ℕ) (v : Visit) (page : Entry) (t : Went) → OfFrame path v page t → number_built t ≤ 1 + sum_by (count_kept v) (met (plan_of path element.Page) v).places
-found_or_built path v page t (inl is) = let none = ap number_built is in omega arith
+found_or_built path v page t (inl is) = none_most t _ is refl
 found_or_built path v page t (inr b) =
     let all = ap number_built b.is in
     let inner = visits_most (NeededInFrame v) (count_kept v) (frame_most v) (met (plan_of path element.Page) v).places b.inner b.of_places in
@@ -230,7 +234,7 @@ whole_most path v t w =
 
 target_most : (v : Visit) (t : Went) → OfTarget v t → number_built t ≤ element_count v.ask.path v element.Page
 target_most v t of = elim of.element [
-  | inl is ↦ (let none = ap number_built is in omega arith)
+  | inl is ↦ none_most t _ is refl
   | inr b ↦ (let all = ap number_built b.is in let inner = whole_most v.ask.path v b.inner b.of_places in omega arith)
 ]
 

@@ -30,6 +30,7 @@ use Rattle.cache_contexts.proofs.Tests.{nowhere}
 use Rattle.page_meaning.specs.Lazy.{is_lazy_listing, is_lazy_kind, is_lazy_block, is_lazy, TellsOn}
 use Rattle.page_meaning.specs.Meaning.{meaning, open_if, in_frame, framed}
 use Rattle.page_meaning.proofs.Frames.{page_filled}
+use Rattle.renderer.proofs.Joining.{no_later}
 use Rattle.renderer.proofs.Standing.{some_below}
 use Rattle.element_entries.specs.declared.making.Joined.{Joined}
 use Rattle.element_entries.specs.declared.reader.Reader.{Reader}
@@ -165,9 +166,9 @@ asked v f lazy outer old mid new asks joins = record {
   kept = Keeps-trans (needs_of old) (needs_of mid) (needs_of new) (record {
     tags = λ t h. (asks.tags t).1 (inl h);
     contexts = λ c h. subst (λ cs. Contains cs c) (sym asks.contexts) h;
-    last = (let last = asks.last in omega arith);
+    last = no_later mid.last old.last asks.last;
   }) joins.kept;
-  not_over = λ h. joins.not_over (let last = asks.last in omega arith);
+  not_over = λ h. joins.not_over (subst (λ n. v.moment ≤ n) (sym asks.last) h);
   status = joins.status ∙ asks.status;
   fills = joins.fills;
 }
@@ -181,9 +182,9 @@ joins_lazy v f lazy old mid new is asks a = asked v f lazy (Place (hole.Fragment
   kept = record {
     tags = λ t h. subst (λ (c : Cacheability). Contains c.tags t) (sym a.cacheability) h;
     contexts = λ x h. subst (λ (c : Cacheability). Contains c.contexts x) (sym a.cacheability) h;
-    last = (let last = a.last in omega arith);
+    last = no_later new.last mid.last a.last;
   };
-  not_over = λ x. (let last = a.last in omega arith);
+  not_over = λ x. subst (λ n. v.moment ≤ n) (sym a.last) x;
   status = a.status;
   fills = in_place in_shared v (hole.Fragment f) (in_frame f (whole [] (element.Fragment f))) None (Place (hole.Fragment f) ∷ []) [] (needs_of new) (stands f)
       (frame_open f (whole [] (element.Fragment f)) v (needs_of new) (sym asks.told ∙ is) (λ t h. subst (λ (c : Cacheability). Contains c.tags t) (sym a.cacheability) ((asks.tags t).1 (inr h))));
@@ -203,7 +204,7 @@ frame_whole path v frame old new here reopens joins =
     let w = whole_of (shown_below 5) v (framed path) frame.status (pieces_of frame.segments) frame.libraries old new
     (subst (λ (n : Needs). MakesWhole (framed path) v frame.status (pieces_of frame.segments) frame.libraries n) same_needs
     (subst (λ ps. MakesWhole (framed path) v frame.status ps frame.libraries (record { tags = frame.cacheability.tags; contexts = frame.cacheability.contexts; last = frame.last })) (same_pieces frame.segments) here.has.makes))
-    (let last = reopens.last in let over = here.not_over in omega arith) reopens.libraries (ap pieces_of reopens.segments) reopens.status joins in
+    (subst (λ n. v.moment ≤ n) (sym reopens.last) here.not_over) reopens.libraries (ap pieces_of reopens.segments) reopens.status joins in
     record {
       makes = record {
         attached = w.makes.attached;

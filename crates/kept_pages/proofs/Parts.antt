@@ -23,7 +23,7 @@ use Rattle.render_canvas.proofs.Run.{Keeps-trans, Made-kept}
 use Rattle.render_array.specs.declared.element.Element.TheVariants as element
 use Rattle.render_array.specs.Built.{Builds}
 use Rattle.render_array.specs.Whole.{shown_below, whole, fragment_level}
-use Rattle.renderer.proofs.Joining.{fills_kept, fills_append, fills_bytes, parts_append}
+use Rattle.renderer.proofs.Joining.{fills_kept, fills_append, fills_bytes, parts_append, no_later, least_first, least_second, within_both}
 use Rattle.renderer.proofs.Standing.{some_below, none_below}
 use Rattle.cache_entries.specs.declared.entry.Entry.{Entry}
 use Rattle.cache_entries.specs.declared.key.Subject.TheVariants as subject
@@ -66,7 +66,7 @@ keeps_same : (old new : Joined) → new.cacheability ≡ old.cacheability → ne
 keeps_same old new cacheability last = record {
   tags = λ t h. subst (λ (c : Cacheability). Contains c.tags t) (sym cacheability) h;
   contexts = λ x h. subst (λ (c : Cacheability). Contains c.contexts x) (sym cacheability) h;
-  last = omega arith;
+  last = no_later new.last old.last last;
 }
 
 same_with_none : (old new : Joined) → new.libraries ≡ old.libraries → SameMembers new.libraries.items (old.libraries.items ++ [])
@@ -82,7 +82,7 @@ joins_bytes fill v bs old new a = subst (λ p. Joins fill v p old new) (sym (app
   appended = a.appended;
   libraries = same_with_none old new a.libraries;
   kept = keeps_same old new a.cacheability a.last;
-  not_over = λ h. (let last = a.last in omega arith);
+  not_over = λ h. subst (λ n. v.moment ≤ n) (sym a.last) h;
   status = a.status;
   fills = fills_bytes fill v (needs_of new) bs;
 })
@@ -107,7 +107,7 @@ joins_open fill v h old new none a = record {
   appended = a.appended;
   libraries = same_with_none old new a.libraries;
   kept = keeps_same old new a.cacheability a.last;
-  not_over = λ x. (let last = a.last in omega arith);
+  not_over = λ x. subst (λ n. v.moment ≤ n) (sym a.last) x;
   status = a.status;
   fills = subst (λ o. FillsPlace o v (needs_of new) h (Fills fill v (needs_of new) []) (Place h ∷ []) []) (sym none) (record { rest = []; shown_is = refl; follows = (refl, refl) });
 }
@@ -129,7 +129,7 @@ in_place fill v h p status own attached needs stands made =
 
 -- what an entry depends on was taken in
 taken : (child : Entry) (old new : Joined) → Takes child old new → Keeps (needs_entry child) (needs_of new)
-taken child old new takes = record { tags = λ t g. (takes.tags t).1 (inr g); contexts = λ c g. (takes.contexts c).1 (inr g); last = (let last = takes.last in omega arith) }
+taken child old new takes = record { tags = λ t g. (takes.tags t).1 (inr g); contexts = λ c g. (takes.contexts c).1 (inr g); last = least_second new.last old.last child.last takes.last }
 
 -- a child that stands there by a plan, which makes it where what it depends on was taken in
 pub joins_filled : (fill : Filling) (v : Visit) (h : Hole) (p : Plan (Option ℕ)) (child : Entry) (attached : List Library) (old new : Joined) → fill h ≡ Some p → SameMembers attached child.libraries → v.moment ≤ child.last
@@ -140,8 +140,8 @@ joins_filled fill v h p child attached old new stands same not_over made takes =
   appended = ap pieces_of takes.appended ∙ pieces_of-append old.segments child.segments;
   libraries = subst (λ l. SameMembers l (old.libraries.items ++ attached)) (sym takes.libraries)
       (same_after old.libraries.items child.libraries attached (record { there = same.back; back = same.there }));
-  kept = record { tags = λ t g. (takes.tags t).1 (inl g); contexts = λ c g. (takes.contexts c).1 (inl g); last = (let last = takes.last in omega arith) };
-  not_over = λ x. (let last = takes.last in omega arith);
+  kept = record { tags = λ t g. (takes.tags t).1 (inl g); contexts = λ c g. (takes.contexts c).1 (inl g); last = least_first new.last old.last child.last takes.last };
+  not_over = λ x. within_both v.moment new.last old.last child.last takes.last not_over x;
   status = takes.status;
   fills = in_place fill v h p child.status (pieces_of child.segments) attached (needs_of new) stands made;
 }
@@ -196,7 +196,7 @@ begins_of p v b begun builds segments none libraries cacheability last status on
         (subst (λ (n : Needs). Made p v b.status (pieces_of b.segments) b.libraries n) needs builds.made));
     same = subst (SameMembers b.libraries) (sym libraries) (same_refl b.libraries);
   };
-  not_over = (let same = last in let over = builds.not_over in omega arith);
+  not_over = subst (λ n. v.moment ≤ n) (sym last) builds.not_over;
   places = ap (λ s. open_places (pieces_of s)) segments ∙ builds.places;
   none = none;
   one = one;

@@ -303,26 +303,43 @@ rises_at : (room : ℕ) (old : List (Key × Thing)) (key : Key) (thing : Thing) 
 rises_at room old key thing new dropped dropped' (inl a) = let e = a.1 in omega arith
 rises_at room old key thing new dropped dropped' (inr d) = let e = d.1 in omega arith
 
+-- counts alone: where what is kept is known too, `omega` reads it through
+at_least : (n : ℕ) → min n 18446744073709551615 ≤ n
+at_least n = omega arith
+
+least_then : (a b c : ℕ) → min a 18446744073709551615 ≤ b → min b 18446744073709551615 ≤ c → min a 18446744073709551615 ≤ c
+least_then a b c first second = omega arith
+
+same_between : (a b c : ℕ) → min a 18446744073709551615 ≤ b → min b 18446744073709551615 ≤ c → c ≡ a → a < 18446744073709551615 → b ≡ a
+same_between a b c first second same short = omega arith
+
 pub rises-refl : (s : Shelves) → Rises s s
-rises-refl s = record { dropped = omega arith; unkept = omega arith }
+rises-refl s = record { dropped = at_least s.bins.dropped; unkept = at_least s.unkept }
 
 pub rises-then : (a b c : Shelves) → Rises a b → Rises b c → Rises a c
-rises-then a b c first second =
-    let d = first.dropped in let e = second.dropped in let u = first.unkept in let w = second.unkept in
-    record { dropped = omega arith; unkept = omega arith }
+rises-then a b c first second = record {
+  dropped = least_then a.bins.dropped b.bins.dropped c.bins.dropped first.dropped second.dropped;
+  unkept = least_then a.unkept b.unkept c.unkept first.unkept second.unkept;
+}
 
 -- where nothing was lost in all, nothing was at first, nor then
 pub lost_first : (a b c : Shelves) → Rises a b → Rises b c → NothingLost a c → NothingLost a b
-lost_first a b c first second none =
-    let d = first.dropped in let e = second.dropped in let u = first.unkept in let w = second.unkept in
-    let x = none.dropped in let y = none.unkept in let m = none.dropped_short in let n = none.unkept_short in
-    record { dropped = omega arith; unkept = omega arith; dropped_short = m; unkept_short = n }
+lost_first a b c first second none = record {
+  dropped = same_between a.bins.dropped b.bins.dropped c.bins.dropped first.dropped second.dropped none.dropped none.dropped_short;
+  unkept = same_between a.unkept b.unkept c.unkept first.unkept second.unkept none.unkept none.unkept_short;
+  dropped_short = none.dropped_short;
+  unkept_short = none.unkept_short;
+}
 
 pub lost_then : (a b c : Shelves) → Rises a b → Rises b c → NothingLost a c → NothingLost b c
 lost_then a b c first second none =
-    let d = first.dropped in let e = second.dropped in let u = first.unkept in let w = second.unkept in
-    let x = none.dropped in let y = none.unkept in let m = none.dropped_short in let n = none.unkept_short in
-    record { dropped = omega arith; unkept = omega arith; dropped_short = omega arith; unkept_short = omega arith }
+    let before = lost_first a b c first second none in
+    record {
+      dropped = none.dropped ∙ sym before.dropped;
+      unkept = none.unkept ∙ sym before.unkept;
+      dropped_short = subst (λ n. n < 18446744073709551615) (sym before.dropped) none.dropped_short;
+      unkept_short = subst (λ n. n < 18446744073709551615) (sym before.unkept) none.unkept_short;
+    }
 
 -- a call of a house
 puts_of : (old : Shelves) (b : Bin) (key : Key) (kept : Offer) (result : Result (Unit {0}) AllocError) (new : HouseView) → KeepsInHouse (Some old.bins) b key kept result new.bins → new.unkept ≡ unkept_by result old.unkept → Puts old b key (thing_of kept) new

@@ -70,16 +70,16 @@ fills_bytes fill v needs [] = (refl, refl)
 fills_bytes fill v needs (b ∷ bs) = (bytes bs, refl, fills_bytes fill v needs bs)
 
 -- numbers alone: where a visit's records are known too, `omega` reads these through
-no_later : (new old : ℕ) → new ≡ old → new ≤ old
+pub no_later : (new old : ℕ) → new ≡ old → new ≤ old
 no_later new old is = omega arith
 
-least_first : (new old child : ℕ) → new ≡ min old child → new ≤ old
+pub least_first : (new old child : ℕ) → new ≡ min old child → new ≤ old
 least_first new old child is = omega arith
 
-least_second : (new old child : ℕ) → new ≡ min old child → new ≤ child
+pub least_second : (new old child : ℕ) → new ≡ min old child → new ≤ child
 least_second new old child is = omega arith
 
-within_both : (moment new old child : ℕ) → new ≡ min old child → moment ≤ child → moment ≤ old → moment ≤ new
+pub within_both : (moment new old child : ℕ) → new ≡ min old child → moment ≤ child → moment ≤ old → moment ≤ new
 within_both moment new old child is below above = omega arith
 
 -- counts up to the greatest u64

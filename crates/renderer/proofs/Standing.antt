@@ -12,16 +12,16 @@ use Rattle.render_array.specs.Whole.{plan_at, level, element_level, shown_below,
 use Rattle.renderer.specs.Filled.{element_at, child_below}
 
 -- levels alone: where a visit is known too, `omega` reads it through
-not_lower : (l : ℕ) → l < 0 → ⊥
+pub not_lower : (l : ℕ) → l < 0 → ⊥
 not_lower l lower = absurd (omega arith)
 
-lower_yet : (k l n : ℕ) → n ≡ l → l < suc k → (n ≡ k → ⊥) → l < k
+pub lower_yet : (k l n : ℕ) → n ≡ l → l < suc k → (n ≡ k → ⊥) → l < k
 lower_yet k l n is lower other = omega arith
 
-not_this : (k n : ℕ) → suc k ≤ n → n ≡ k → ⊥
+pub not_this : (k n : ℕ) → suc k ≤ n → n ≡ k → ⊥
 not_this k n over same = absurd (omega arith)
 
-over_too : (k n : ℕ) → suc k ≤ n → k ≤ n
+pub over_too : (k n : ℕ) → suc k ≤ n → k ≤ n
 over_too k n over = omega arith
 
 at_most : (k n : ℕ) → k < suc n → k ≤ n
