@@ -69,8 +69,8 @@ pub fn values_where_known(
     requires { AreValued (visit reader.now) known }
     ensures { IfOk result (λ found. found ≡ map (valued (visit reader.now)) contexts.now) }
 {
+    let mut found = Vec::with_capacity(alloc, contexts.len())?;
     let mut known = known.into_vec();
-    let mut found = Vec::new(alloc);
     add_values(alloc, reader, contexts, &mut known, &mut found)?;
     Ok(Items::from_vec(found))
 }
