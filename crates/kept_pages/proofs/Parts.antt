@@ -1,5 +1,5 @@
 -- Elements whose places are filled in, part by part.
-use Rattle.std.proofs.Common.{ℕ, zero, suc, Bool, true, false, List, [], ◌∷◌, ◌++◌, ◌≡◌, ◌<◌, ◌≤◌, ◌+◌, refl, sym, ◌∙◌, ap, subst, append_assoc, append-nil, arith, take, length, get_or, Option, Some, None, Contains, inl, inr}
+use Rattle.std.proofs.Common.{ℕ, zero, suc, Bool, true, false, List, [], ◌∷◌, ◌++◌, ◌≡◌, ◌<◌, ◌≤◌, ◌+◌, refl, sym, ◌∙◌, ap, subst, append_assoc, append-nil, take, length, get_or, Option, Some, None, Contains, inl, inr}
 use Rattle.std.specs.Prelude.{◌==◌, if◌then◌else◌, IfOk, OnOk, Result, Ok, Err}
 use Rattle.std.proofs.lemmas.Grind.{take_at_read}
 use Rattle.cacheability.specs.declared.cacheability.Cacheability.{Cacheability}

@@ -1,5 +1,5 @@
 -- How the bytes of a drill read whose requests were not all answered.
-use Rattle.std.proofs.Common.{◌≡◌, ◌∙◌, ◌++◌, ◌+◌, ◌-◌, ◌<◌, ◌≤◌, List, [], ◌∷◌, ℕ, zero, suc, true, false, Option, Some, None, length, drop, ap, sym, refl, subst, arith, length-append, append_assoc}
+use Rattle.std.proofs.Common.{◌≡◌, ◌∙◌, ◌++◌, ◌+◌, ◌-◌, ◌<◌, ◌≤◌, List, [], ◌∷◌, ℕ, suc, true, false, Option, Some, None, length, drop, ap, sym, refl, subst, arith, length-append, append_assoc}
 use Rattle.std.specs.Option.{unwrap_or}
 use Rattle.std.proofs.lemmas.List.{append-nil, length-map}
 use Rattle.http_heads.specs.declared.request.Request.{Request}

@@ -9,8 +9,6 @@ use site_http::serve_connection;
 use site_io::{Ended, Gate, ListClock, ListEntropy, MemorySink, MemorySource, Point};
 use site_keeper::MemoryKeeper;
 use std::alloc::{AllocError, Global};
-use std::process::Abort;
-use std::sync::Wait;
 
 // A gate that notes how many elements were built for each of the first replies.
 #[derive(Drop)]
@@ -58,6 +56,7 @@ const SLOW_CLOCK: &str =
     "{\"age\":60,\"cell\":\"block:one\",\"hide\":false,\"kind\":\"clock\",\"label\":\"\",\"name\":null,\"paths\":[],\"region\":\"aside\",\"roles\":[],\"text\":null,\"weight\":0}\n";
 
 // Requests over a site at these moments, how many elements are built for each reply, and pieces of the replies, in order.
+#[derive(Drop)]
 struct Case {
     // The row of what stands on each page beside its content, if anything does.
     placed: &'static str,
@@ -78,14 +77,14 @@ fn input(alloc: Global, requests: &[&str]) -> Result<Vec<u8>, AllocError> {
 
 // How many elements are built for each reply of a connection over a house, and what it writes into the sink.
 fn answered<H: House>(
-    rt: &(impl Wait + Abort),
+    rt: &HostRuntime,
     alloc: Global,
     house: &mut H,
     case: &Case,
     sink: &mut MemorySink,
-) -> [u64; 8] {
-    let requests = input(alloc, case.requests).expect(rt, "memory");
-    let moments = Vec::from_slice(alloc, case.moments).expect(rt, "memory");
+) -> Result<[u64; 8], AllocError> {
+    let moments = Vec::from_slice(alloc, case.moments)?;
+    let requests = input(alloc, case.requests)?;
     let mut source = MemorySource::new(requests, 64);
     let mut clock = ListClock::new(moments);
     let mut entropy = ListEntropy::new(Vec::new(alloc));
@@ -103,8 +102,11 @@ fn answered<H: House>(
         &mut entropy,
         &mut gate,
     );
-    assert!(rt; ended == Ended::Closed);
-    gate.built
+    if ended == Ended::Closed {
+        Ok(gate.built)
+    } else {
+        Err(AllocError)
+    }
 }
 
 // The rows of the site with one more, if any.
@@ -115,20 +117,24 @@ fn lines(alloc: Global, placed: &str) -> Result<Vec<u8>, AllocError> {
 }
 
 // A house over such a site, for a caller that is alone.
-fn house(rt: &impl Abort, alloc: Global, placed: &str) -> Alone<MemoryKeeper> {
-    let lines = lines(alloc, placed).expect(rt, "memory");
-    let mut source = MemorySource::new(lines, 4_096);
-    let state = read_site(alloc, &mut source).ok().expect(rt, "a site");
-    alone_with(alloc, &state).expect(rt, "memory")
+fn house(alloc: Global, placed: &str) -> Result<Alone<MemoryKeeper>, AllocError> {
+    let mut source = MemorySource::new(lines(alloc, placed)?, 4_096);
+    let Ok(state) = read_site(alloc, &mut source) else {
+        return Err(AllocError);
+    };
+    let house = alone_with(alloc, &state);
+    drop(state);
+    house
 }
 
-// Serves a connection over such a site. How many elements are built for each reply, and whether these pieces stand in what it writes.
-fn served(rt: &(impl Wait + Abort), alloc: Global, case: &Case) -> ([u64; 8], bool) {
-    let mut sink = MemorySink::new(alloc, 400_000).expect(rt, "memory");
-    let mut house = house(rt, alloc, case.placed);
+// What a connection writes over such a site, and how many elements are built for each reply.
+fn served(rt: &HostRuntime, case: &Case) -> Result<(Vec<u8>, [u64; 8]), AllocError> {
+    let alloc = rt.alloc();
+    let mut sink = MemorySink::new(alloc, 400_000)?;
+    let mut house = house(alloc, case.placed)?;
     let built = answered(rt, alloc, &mut house, case, &mut sink);
     drop(house);
-    (built, in_order(sink.bytes(), case.pieces))
+    Ok((Vec::from_slice(alloc, sink.bytes())?, built?))
 }
 
 // Whether these pieces stand in a text, one after the other.
@@ -161,117 +167,117 @@ const EDIT: &str =
 const REBUILD: &str =
     "POST /cache/rebuild HTTP/1.1\r\nHost: a\r\nCookie: SESS=abc\r\nX-CSRF-Token: ba7816bf8f01cfea414140de5dae2223\r\n\r\n";
 
-const BUILT: [Case; 7] = [
-    // A page, for visitors, and for whom all is permitted.
-    Case {
-        placed: "",
-        moments: &[1000],
-        requests: &[PAGE, PAGE, BY_ABC, BY_ABC],
-        built: [2, 0, 2, 0, 0, 0, 0, 0],
-        pieces: &[],
-    },
-    // A page that leads nowhere.
-    Case {
-        placed: "",
-        moments: &[1000],
-        requests: &[NOWHERE, NOWHERE],
-        built: [1, 0, 0, 0, 0, 0, 0, 0],
-        pieces: &["404 Not Found", "404 Not Found"],
-    },
-    // The front page with two nodes, again, and once more after an edit of the first of them.
-    Case {
-        placed: "",
-        moments: &[1000],
-        requests: &[FRONT, FRONT, EDIT, FRONT, FRONT],
-        built: [4, 0, 0, 3, 0, 0, 0, 0],
-        pieces: &[],
-    },
-    // A page, again, and once more after all that is kept was let go.
-    Case {
-        placed: "",
-        moments: &[1000],
-        requests: &[PAGE, PAGE, REBUILD, PAGE, PAGE],
-        built: [2, 0, 0, 2, 0, 0, 0, 0],
-        pieces: &[],
-    },
-    // Nobody is greeted as somebody else.
-    Case {
-        placed: GREETING,
-        moments: &[1000],
-        requests: &[PAGE, PAGE, BY_ABC, BY_ABC, PAGE],
-        built: [3, 0, 3, 0, 0, 0, 0, 0],
-        pieces: &[
-            "Content-Length: 330\r\n",
-            "Content-Length: 330\r\n",
-            "Content-Length: 310\r\n",
-            "<p>Hello, admin</p>",
-            "Content-Length: 310\r\n",
-            "<p>Hello, admin</p>",
-            "Content-Length: 330\r\n",
-        ],
-    },
-    // What may be shown at its own moment alone is built for each page that is kept but for it.
-    Case {
-        placed: CLOCK,
-        moments: &[1000, 1001, 1002],
-        requests: &[PAGE, PAGE, PAGE],
-        built: [3, 1, 1, 0, 0, 0, 0, 0],
-        pieces: &[
-            "<time>1970-01-01T00:16:40Z</time>",
-            "<time>1970-01-01T00:16:41Z</time>",
-            "<time>1970-01-01T00:16:42Z</time>",
-        ],
-    },
-    // A clock that went back.
-    Case {
-        placed: "",
-        moments: &[100, 90],
-        requests: &[PAGE, PAGE],
-        built: [2, 2, 0, 0, 0, 0, 0, 0],
-        pieces: &[],
-    },
-];
-
 #[test]
 fn what_is_kept_is_not_built(rt: HostRuntime) {
-    for case in &BUILT {
-        assert!(rt; served(&rt, rt.alloc(), case) == (case.built, true));
+    let cases = [
+        // A page, for visitors, and for whom all is permitted.
+        Case {
+            placed: "",
+            moments: &[1000],
+            requests: &[PAGE, PAGE, BY_ABC, BY_ABC],
+            built: [2, 0, 2, 0, 0, 0, 0, 0],
+            pieces: &[],
+        },
+        // A page that leads nowhere.
+        Case {
+            placed: "",
+            moments: &[1000],
+            requests: &[NOWHERE, NOWHERE],
+            built: [1, 0, 0, 0, 0, 0, 0, 0],
+            pieces: &["404 Not Found", "404 Not Found"],
+        },
+        // The front page with two nodes, again, and once more after an edit of the first of them.
+        Case {
+            placed: "",
+            moments: &[1000],
+            requests: &[FRONT, FRONT, EDIT, FRONT, FRONT],
+            built: [4, 0, 0, 3, 0, 0, 0, 0],
+            pieces: &[],
+        },
+        // A page, again, and once more after all that is kept was let go.
+        Case {
+            placed: "",
+            moments: &[1000],
+            requests: &[PAGE, PAGE, REBUILD, PAGE, PAGE],
+            built: [2, 0, 0, 2, 0, 0, 0, 0],
+            pieces: &[],
+        },
+        // Nobody is greeted as somebody else.
+        Case {
+            placed: GREETING,
+            moments: &[1000],
+            requests: &[PAGE, PAGE, BY_ABC, BY_ABC, PAGE],
+            built: [3, 0, 3, 0, 0, 0, 0, 0],
+            pieces: &[
+                "Content-Length: 330\r\n",
+                "Content-Length: 330\r\n",
+                "Content-Length: 310\r\n",
+                "<p>Hello, admin</p>",
+                "Content-Length: 310\r\n",
+                "<p>Hello, admin</p>",
+                "Content-Length: 330\r\n",
+            ],
+        },
+        // What may be shown at its own moment alone is built for each page that is kept but for it.
+        Case {
+            placed: CLOCK,
+            moments: &[1000, 1001, 1002],
+            requests: &[PAGE, PAGE, PAGE],
+            built: [3, 1, 1, 0, 0, 0, 0, 0],
+            pieces: &[
+                "<time>1970-01-01T00:16:40Z</time>",
+                "<time>1970-01-01T00:16:41Z</time>",
+                "<time>1970-01-01T00:16:42Z</time>",
+            ],
+        },
+        // A clock that went back.
+        Case {
+            placed: "",
+            moments: &[100, 90],
+            requests: &[PAGE, PAGE],
+            built: [2, 2, 0, 0, 0, 0, 0, 0],
+            pieces: &[],
+        },
+    ];
+    for case in &cases {
+        let (text, built) = served(&rt, case).expect(&rt, "memory");
+        assert!(rt; built == case.built);
+        assert!(rt; in_order(&text, case.pieces));
     }
 }
 
-const LASTING: [Case; 2] = [
-    Case {
-        placed: SLOW_CLOCK,
-        moments: &[1000, 1060, 1061],
-        requests: &[PAGE, PAGE, PAGE],
-        built: [0; 8],
-        pieces: &[
-            "Content-Length: 361\r\n",
-            "<time>1970-01-01T00:16:40Z</time>",
-            "Content-Length: 361\r\n",
-            "<time>1970-01-01T00:16:40Z</time>",
-            "<time>1970-01-01T00:17:41Z</time>",
-        ],
-    },
-    // The text is kept at moment 50, and the page that it stands on at 100.
-    Case {
-        placed: SLOW_CLOCK,
-        moments: &[50, 100, 110, 111],
-        requests: &[FRONT, PAGE, PAGE, PAGE],
-        built: [0; 8],
-        pieces: &[
-            "<time>1970-01-01T00:00:50Z</time>",
-            "<time>1970-01-01T00:00:50Z</time>",
-            "<time>1970-01-01T00:00:50Z</time>",
-            "<time>1970-01-01T00:01:51Z</time>",
-        ],
-    },
-];
-
 #[test]
 fn a_page_lasts_as_long_as_what_it_shows(rt: HostRuntime) {
-    for case in &LASTING {
-        let (_, right) = served(&rt, rt.alloc(), case);
-        assert!(rt; right);
+    let cases = [
+        Case {
+            placed: SLOW_CLOCK,
+            moments: &[1000, 1060, 1061],
+            requests: &[PAGE, PAGE, PAGE],
+            built: [0; 8],
+            pieces: &[
+                "Content-Length: 361\r\n",
+                "<time>1970-01-01T00:16:40Z</time>",
+                "Content-Length: 361\r\n",
+                "<time>1970-01-01T00:16:40Z</time>",
+                "<time>1970-01-01T00:17:41Z</time>",
+            ],
+        },
+        // The text is kept at moment 50, and the page that it stands on at 100.
+        Case {
+            placed: SLOW_CLOCK,
+            moments: &[50, 100, 110, 111],
+            requests: &[FRONT, PAGE, PAGE, PAGE],
+            built: [0; 8],
+            pieces: &[
+                "<time>1970-01-01T00:00:50Z</time>",
+                "<time>1970-01-01T00:00:50Z</time>",
+                "<time>1970-01-01T00:00:50Z</time>",
+                "<time>1970-01-01T00:01:51Z</time>",
+            ],
+        },
+    ];
+    for case in &cases {
+        let (text, _) = served(&rt, case).expect(&rt, "memory");
+        assert!(rt; in_order(&text, case.pieces));
     }
 }

@@ -5,7 +5,7 @@ use crate::site::site;
 use crate::work::Connection;
 use site_keeper::MemoryKeeper;
 use site_turn::{Guest, Pass, Site, Work};
-use std::alloc::Global;
+use std::alloc::{AllocError, Global};
 use std::sync::Wait;
 
 /// The first node twice; then all is to be made anew; and then the first node again.
@@ -26,13 +26,18 @@ fn answer<R: Wait>(
     connection.work(rt, alloc, &mut guest);
 }
 
-// The page and its node are built once, found again, and built again once all is to be made anew: so many elements for each of four
-// replies, on one connection of a new site's pass.
+// How many replies there are to the requests, on one connection of a new site's pass, and what is built for each.
+fn built<R: Wait>(rt: &R, alloc: Global) -> Result<(usize, [u64; 4]), AllocError> {
+    let mut connection = Connection::new(alloc, REQUESTS)?;
+    let mut site = site(alloc)?;
+    let mut pass = site.new_pass();
+    answer(rt, alloc, &site, &mut pass, &mut connection);
+    Ok(connection.built())
+}
+
+// The page and its node are built once, found again, and built again once all is to be made anew.
 #[test]
 fn what_one_pass_keeps_it_finds(rt: HostRuntime) {
-    let mut connection = Connection::new(rt.alloc(), REQUESTS).expect(&rt, "memory");
-    let mut site = site(&rt, rt.alloc());
-    let mut pass = site.new_pass();
-    answer(&rt, rt.alloc(), &site, &mut pass, &mut connection);
-    assert!(rt; connection.built() == (4, [2, 0, 0, 2]));
+    let built = built(&rt, rt.alloc()).expect(&rt, "memory");
+    assert!(rt; built == (4, [2, 0, 0, 2]));
 }

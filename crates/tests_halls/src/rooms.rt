@@ -1,72 +1,87 @@
 //! What halls keep of pages, where each bin has room for one thing.
-ghost use Rattle.std.specs.Prelude.{◌≡◌, None};
+ghost use Rattle.std.specs.Prelude.{◌≡◌, IfOk, None};
 
-use crate::site::{keeper, key, stored};
+use crate::site::{key, stored};
 use cache_entries::{Bin, Found, Kept};
 use cacheability::OrderedSet;
 use site_hall::{Alone, Hall, Rooms, Tally};
 use site_house::House;
 use site_keeper::MemoryKeeper;
-use std::alloc::Global;
+use std::alloc::{AllocError, Global};
 use std::num::NonZeroUsize;
-use std::process::Abort;
 use std::sync::Arc;
 
 // The hall of a new site, where each bin has room for one thing.
-fn hall(rt: &impl Abort, alloc: Global) -> Hall<MemoryKeeper>
-    ensures { result.pending ≡ None }
+fn hall(alloc: Global) -> Result<Hall<MemoryKeeper>, AllocError>
+    ensures { IfOk result (λ hall. hall.pending ≡ None) }
 {
-    let one = NonZeroUsize::new(1).expect(rt, "one");
+    let Some(one) = NonZeroUsize::new(1) else {
+        return Err(AllocError);
+    };
     let rooms = Rooms {
         fragments: one,
         dynamic: one,
         anonymous: one,
     };
-    let stored = stored(alloc).expect(rt, "memory");
-    let hall = Hall::with_rooms(alloc, keeper(rt, alloc), stored, rooms);
-    hall.ok().expect(rt, "a hall")
+    let stored = stored(alloc)?;
+    let copy = stored.duplicate(alloc)?;
+    let keeper = MemoryKeeper::new(alloc, copy, Vec::new(alloc));
+    Hall::with_rooms(alloc, keeper, stored, rooms).map_err(|_| AllocError)
 }
 
 // Keeps that a block stands under another key.
-fn keep<H: House>(rt: &impl Abort, alloc: Global, house: &mut H, bin: Bin, block: &[u8]) {
-    let contexts = Arc::new(alloc, OrderedSet::new(alloc)).expect(rt, "memory");
-    let kept = house.keep(alloc, bin, key(rt, alloc, block), Kept::Redirect(contexts));
-    kept.expect(rt, "memory");
+fn keep<H: House>(alloc: Global, house: &mut H, bin: Bin, block: &[u8]) -> Result<(), AllocError> {
+    let contexts = Arc::new(alloc, OrderedSet::new(alloc))?;
+    let key = key(alloc, block)?;
+    house.keep(alloc, bin, key, Kept::Redirect(contexts))
 }
 
 // Whether it is found where a block stands.
-fn finds<H: House>(rt: &impl Abort, alloc: Global, house: &mut H, bin: Bin, block: &[u8]) -> bool {
-    let key = key(rt, alloc, block);
-    match house.look(alloc, bin, &key).expect(rt, "memory") {
-        Found::Redirect(_) => true,
-        Found::Entry(_) | Found::Absent => false,
+fn finds<H: House>(
+    alloc: Global,
+    house: &mut H,
+    bin: Bin,
+    block: &[u8],
+) -> Result<bool, AllocError> {
+    let key = key(alloc, block)?;
+    match house.look(alloc, bin, &key)? {
+        Found::Redirect(_) => Ok(true),
+        Found::Entry(_) | Found::Absent => Ok(false),
     }
 }
 
 // What is found of two blocks, of which a bin has room for one: before, once the first is kept, in another bin, and both once the second
 // is kept.
-fn found<H: House>(rt: &impl Abort, alloc: Global, house: &mut H) -> [bool; 5] {
-    let before = finds(rt, alloc, house, Bin::Fragments, b"a");
-    keep(rt, alloc, house, Bin::Fragments, b"a");
-    let first = finds(rt, alloc, house, Bin::Fragments, b"a");
-    let elsewhere = finds(rt, alloc, house, Bin::Dynamic, b"a");
-    keep(rt, alloc, house, Bin::Fragments, b"b");
-    let dropped = finds(rt, alloc, house, Bin::Fragments, b"a");
-    let last = finds(rt, alloc, house, Bin::Fragments, b"b");
-    [before, first, elsewhere, dropped, last]
+fn found<H: House>(alloc: Global, house: &mut H) -> Result<[bool; 5], AllocError> {
+    let before = finds(alloc, house, Bin::Fragments, b"a")?;
+    keep(alloc, house, Bin::Fragments, b"a")?;
+    let first = finds(alloc, house, Bin::Fragments, b"a")?;
+    let elsewhere = finds(alloc, house, Bin::Dynamic, b"a")?;
+    keep(alloc, house, Bin::Fragments, b"b")?;
+    let dropped = finds(alloc, house, Bin::Fragments, b"a")?;
+    let last = finds(alloc, house, Bin::Fragments, b"b")?;
+    Ok([before, first, elsewhere, dropped, last])
 }
 
-// A hall finds what was kept last in a bin, and nothing in the others, and counts looks, finds and keeps.
-#[test]
-fn the_last_is_found(rt: HostRuntime) {
-    let mut alone = Alone::new(rt.alloc(), hall(&rt, rt.alloc()));
-    let found = found(&rt, rt.alloc(), &mut alone);
-    assert!(rt; found == [false, true, false, false, true]);
-    assert!(rt; alone.unkept() == 0);
+// Whether a hall finds what was kept last in a bin, and nothing in the others, and counts looks, finds and keeps.
+fn keeps_the_last(alloc: Global) -> Result<bool, AllocError> {
+    let mut alone = Alone::new(alloc, hall(alloc)?);
+    let Ok(found) = found(alloc, &mut alone) else {
+        drop(alone);
+        return Err(AllocError);
+    };
+    let unkept = alone.unkept();
+    let tally = alone.into_hall().tally();
     let counted = Tally {
         looks: 5,
         found: 2,
         kept: 2,
     };
-    assert!(rt; alone.into_hall().tally() == counted);
+    Ok(found == [false, true, false, false, true] && unkept == 0 && tally == counted)
+}
+
+#[test]
+fn the_last_is_found(rt: HostRuntime) {
+    let right = keeps_the_last(rt.alloc()).expect(&rt, "memory");
+    assert!(rt; right);
 }

@@ -12,7 +12,6 @@ use site_io::MemorySource;
 use site_keeper::{MemoryKeeper, Stored};
 use site_turn::Site;
 use std::alloc::{AllocError, Global};
-use std::process::Abort;
 use tag_counts::Counts;
 
 /// A session `abc` of the first user.
@@ -40,27 +39,26 @@ pub fn stored(alloc: Global) -> Result<Stored, AllocError>
     })
 }
 
-/// A keeper in memory of that site.
-pub fn keeper(rt: &impl Abort, alloc: Global) -> MemoryKeeper {
-    let stored = stored(alloc).expect(rt, "memory");
-    MemoryKeeper::new(alloc, stored, Vec::new(alloc))
-}
-
 /// The site, at the number 0, over a keeper in memory. No pass is made yet.
-pub fn site(rt: &impl Abort, alloc: Global) -> Site<MemoryKeeper>
-    ensures { result.founder.made ≡ 0 }
+pub fn site(alloc: Global) -> Result<Site<MemoryKeeper>, AllocError>
+    ensures { IfOk result (λ site. site.founder.made ≡ 0) }
 {
-    let stored = stored(alloc).expect(rt, "memory");
-    let hall = Hall::new(alloc, keeper(rt, alloc), stored);
-    let site = Site::new(alloc, hall.ok().expect(rt, "a hall"));
-    site.ok().expect(rt, "memory")
+    let stored = stored(alloc)?;
+    let copy = stored.duplicate(alloc)?;
+    let keeper = MemoryKeeper::new(alloc, copy, Vec::new(alloc));
+    let Ok(hall) = Hall::new(alloc, keeper, stored) else {
+        return Err(AllocError);
+    };
+    Site::new(alloc, hall).map_err(|_| AllocError)
 }
 
 /// The key of the block of this name, whose values are none.
-pub fn key(rt: &impl Abort, alloc: Global, block: &[u8]) -> Key {
-    let name = Name::new(block).expect(rt, "a name");
-    Key {
+pub fn key(alloc: Global, block: &[u8]) -> Result<Key, AllocError> {
+    let Ok(name) = Name::new(block) else {
+        return Err(AllocError);
+    };
+    Ok(Key {
         subject: Subject::Fragment(Fragment::Block(name)),
         values: Items::none(alloc),
-    }
+    })
 }

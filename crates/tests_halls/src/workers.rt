@@ -7,8 +7,7 @@ use crate::work::Connection;
 use site_house::House;
 use site_keeper::MemoryKeeper;
 use site_turn::{Guest, Pass, Site, Worker, work_all};
-use std::alloc::Global;
-use std::process::Abort;
+use std::alloc::{AllocError, Global};
 use std::sync::Wait;
 use std::thread::Threads;
 
@@ -56,49 +55,51 @@ fn done<R: Threads + Wait + Sync>(
 }
 
 // The number of the newest state, as a pass of this site finds it.
-fn newest<R: Wait + Abort>(rt: &R, alloc: Global, site: &Site<MemoryKeeper>, pass: &mut Pass) -> u64
+fn newest<R: Wait>(
+    rt: &R,
+    alloc: Global,
+    site: &Site<MemoryKeeper>,
+    pass: &mut Pass,
+) -> Result<u64, AllocError>
     requires { pass.old.table ≡ site.now.table }
     ensures { pass.new.table ≡ site.now.table }
 {
     let mut guest = Guest::new(rt, site.room(), pass);
-    let state = guest.snapshot(alloc).expect(rt, "memory");
-    state.number()
+    let state = guest.snapshot(alloc)?;
+    Ok(state.number())
 }
 
-// A connection with these requests.
-fn connection(rt: &impl Abort, alloc: Global, requests: &[u8]) -> Connection {
-    Connection::new(alloc, requests).expect(rt, "memory")
-}
-
-// All edits of two workers are accepted, each worker's after each other.
-#[test]
-fn two_workers_edit(rt: HostRuntime) {
-    let alloc = rt.alloc();
-    let mut site = site(&rt, alloc);
+// Whether all edits of two workers are accepted, each worker's after each other.
+fn edits_are_accepted<R: Threads + Wait + Sync>(rt: &R, alloc: Global) -> Result<bool, AllocError> {
+    let mut site = site(alloc)?;
     let one = Worker {
         pass: site.new_pass(),
-        work: connection(&rt, alloc, TITLES),
+        work: Connection::new(alloc, TITLES)?,
     };
     let two = Worker {
         pass: site.new_pass(),
-        work: connection(&rt, alloc, USERS),
+        work: Connection::new(alloc, USERS)?,
     };
-    let (one, two) = done(&rt, alloc, &site, one, two);
-    assert!(rt; one.work.written().ends_with(b"{\"nid\":1,\"vid\":3}"));
-    assert!(rt; two.work.written().ends_with(b"{\"uid\":3}"));
-    let hall = closed(&rt, alloc, site, one.pass, two.pass);
-    assert!(rt; hall.len() == 4);
+    let (one, two) = done(rt, alloc, &site, one, two);
+    let right = one.work.written().ends_with(b"{\"nid\":1,\"vid\":3}")
+        && two.work.written().ends_with(b"{\"uid\":3}");
+    let hall = closed(rt, alloc, site, one.pass, two.pass)?;
+    Ok(right && hall.len() == 4)
 }
 
-// A page of the state 0 is written after an edit is answered that came once the page's state was taken, and each pass finds the edit once
-// they have met.
 #[test]
-fn a_reader_goes_on_while_an_edit_is_made(rt: HostRuntime) {
-    let alloc = rt.alloc();
-    let mut site = site(&rt, alloc);
-    let mut edit = connection(&rt, alloc, TITLE);
-    let mut read = connection(&rt, alloc, NODES);
-    read.hold_for(&mut edit).expect(&rt, "memory");
+fn two_workers_edit(rt: HostRuntime) {
+    let right = edits_are_accepted(&rt, rt.alloc()).expect(&rt, "memory");
+    assert!(rt; right);
+}
+
+// Whether a page of the state 0 is written after an edit is answered that came once the page's state was taken, and each pass finds the
+// edit once they have met.
+fn readers_go_on<R: Threads + Wait + Sync>(rt: &R, alloc: Global) -> Result<bool, AllocError> {
+    let mut site = site(alloc)?;
+    let mut edit = Connection::new(alloc, TITLE)?;
+    let mut read = Connection::new(alloc, NODES)?;
+    read.hold_for(&mut edit)?;
     let one = Worker {
         pass: site.new_pass(),
         work: read,
@@ -107,10 +108,16 @@ fn a_reader_goes_on_while_an_edit_is_made(rt: HostRuntime) {
         pass: site.new_pass(),
         work: edit,
     };
-    let (mut one, mut two) = done(&rt, alloc, &site, one, two);
-    assert!(rt; one.work.written() == NODES_REPLY);
-    assert!(rt; two.work.written() == TITLE_REPLY);
+    let (mut one, mut two) = done(rt, alloc, &site, one, two);
+    let right = one.work.written() == NODES_REPLY && two.work.written() == TITLE_REPLY;
     site.meet(&mut one.pass, &mut two.pass);
-    assert!(rt; newest(&rt, alloc, &site, &mut one.pass) >= 1);
-    assert!(rt; newest(&rt, alloc, &site, &mut two.pass) >= 1);
+    let first = newest(rt, alloc, &site, &mut one.pass)?;
+    let second = newest(rt, alloc, &site, &mut two.pass)?;
+    Ok(right && first >= 1 && second >= 1)
+}
+
+#[test]
+fn a_reader_goes_on_while_an_edit_is_made(rt: HostRuntime) {
+    let right = readers_go_on(&rt, rt.alloc()).expect(&rt, "memory");
+    assert!(rt; right);
 }

@@ -2,55 +2,162 @@
 ghost use Rattle.std.specs.Prelude.{IfOk};
 ghost use Rattle.content_state.specs.SiteRules.{AreValidRows};
 
+use cacheability::Name;
+use content_rows::{
+    Cell, FieldValue, Grant, Items, Node, Role, Row, Seq, Session, Text, User, starter,
+};
 use content_state::Rows;
-use site_files::read_rows;
-use site_io::MemorySource;
 use site_keeper::Stored;
 use std::alloc::{AllocError, Global};
+use std::sync::Arc;
 use tag_counts::Counts;
 
-// The rows that both have: those that a site begins with but for the ids that are next and what members may, and a session `abc` of its first user.
-const COMMON: &[u8] = b"{\"cell\":\"site\",\"front\":\"/node\",\"name\":\"Site\"}
-{\"cell\":\"type:page\",\"fields\":[{\"edit\":null,\"label\":\"Body\",\"name\":\"body\",\"owner\":false,\"teaser\":true,\"view\":null}],\"label\":\"Page\",\"submitted\":false}
-{\"admin\":false,\"cell\":\"role:anonymous\",\"grants\":[],\"label\":\"Anonymous\",\"permissions\":[\"access content\"]}
-{\"cell\":\"user:1\",\"created\":0,\"digest\":null,\"grants\":[],\"name\":\"admin\",\"roles\":[],\"salt\":\"\",\"status\":true,\"uuid\":\"u-1\"}
-{\"cell\":\"node:1\",\"changed\":100,\"created\":100,\"fields\":{\"body\":\"Hello\"},\"grants\":[],\"path\":null,\"promote\":true,\"refs\":[],\"status\":true,\"sticky\":false,\"terms\":[],\"title\":\"First\",\"type\":\"page\",\"uid\":1,\"uuid\":\"n-1\",\"vid\":1}
-{\"age\":null,\"cell\":\"listing:frontpage\",\"path\":\"/node\",\"promoted\":true,\"recent\":null,\"term\":null,\"title\":\"Home\",\"types\":[]}
-{\"cell\":\"session:abc\",\"expires\":4000000000,\"uid\":1}
-";
+// The name that these bytes are.
+pub fn name(bytes: &[u8]) -> Result<Name, AllocError> {
+    Name::new(bytes).map_err(|_| AllocError)
+}
 
-// With a second node, which stands on no front page.
-const SECOND: &[u8] = b"{\"cell\":\"seq\",\"node\":3,\"term\":1,\"user\":2}
-{\"admin\":false,\"cell\":\"role:authenticated\",\"grants\":[],\"label\":\"Member\",\"permissions\":[\"access content\"]}
-{\"cell\":\"node:2\",\"changed\":100,\"created\":100,\"fields\":{\"body\":\"Hi\"},\"grants\":[],\"path\":null,\"promote\":false,\"refs\":[],\"status\":true,\"sticky\":false,\"terms\":[],\"title\":\"Second\",\"type\":\"page\",\"uid\":1,\"uuid\":\"n-2\",\"vid\":1}
-";
+fn set(alloc: Global, rows: &mut Rows, cell: Cell, row: Row) -> Result<(), AllocError> {
+    rows.set(cell, Arc::new(alloc, row)?)?;
+    Ok(())
+}
 
-// With two members, who may view what they own before it is published: `test` holds number 7 of the club and owns node 6, which isn't
-// published; `hello` does neither.
-const CLUB: &[u8] = b"{\"cell\":\"seq\",\"node\":7,\"term\":1,\"user\":4}
-{\"admin\":false,\"cell\":\"role:authenticated\",\"grants\":[],\"label\":\"Member\",\"permissions\":[\"access content\",\"view own unpublished content\"]}
-{\"cell\":\"user:2\",\"created\":0,\"digest\":null,\"grants\":[{\"gid\":7,\"realm\":\"club\"}],\"name\":\"two\",\"roles\":[],\"salt\":\"\",\"status\":true,\"uuid\":\"u-2\"}
-{\"cell\":\"user:3\",\"created\":0,\"digest\":null,\"grants\":[],\"name\":\"three\",\"roles\":[],\"salt\":\"\",\"status\":true,\"uuid\":\"u-3\"}
-{\"cell\":\"node:6\",\"changed\":100,\"created\":100,\"fields\":{\"body\":\"Hi\"},\"grants\":[],\"path\":null,\"promote\":false,\"refs\":[],\"status\":false,\"sticky\":false,\"terms\":[],\"title\":\"Six\",\"type\":\"page\",\"uid\":2,\"uuid\":\"n-6\",\"vid\":1}
-{\"cell\":\"session:test\",\"expires\":4000000000,\"uid\":2}
-{\"cell\":\"session:hello\",\"expires\":4000000000,\"uid\":3}
-";
+// A session of a user.
+fn set_session(alloc: Global, rows: &mut Rows, token: &[u8], uid: u32) -> Result<(), AllocError> {
+    let session = Session {
+        expires: 4_000_000_000,
+        uid,
+    };
+    set(
+        alloc,
+        rows,
+        Cell::Session(name(token)?),
+        Row::Session(session),
+    )
+}
 
-// The rows that both have, and these.
-fn rows(alloc: Global, more: &[u8]) -> Result<Rows, AllocError>
-    ensures { IfOk result (λ rows. AreValidRows rows) }
-{
-    let mut lines = Vec::from_slice(alloc, COMMON)?;
-    lines.extend_from_slice(more)?;
-    let mut source = MemorySource::new(lines, 4_096);
-    read_rows(alloc, &mut source).map_err(|_| AllocError)
+// A user who holds these grants.
+fn set_user(
+    alloc: Global,
+    rows: &mut Rows,
+    uid: u32,
+    user_name: &[u8],
+    uuid: &[u8],
+    grants: Items<Grant>,
+) -> Result<(), AllocError> {
+    let user = User {
+        created: 0,
+        digest: None,
+        grants,
+        name: Text::copied(alloc, user_name)?,
+        roles: Items::none(alloc),
+        salt: Text::copied(alloc, b"")?,
+        status: true,
+        uuid: Text::copied(alloc, uuid)?,
+    };
+    set(alloc, rows, Cell::User(uid), Row::User(user))
+}
+
+// A node of a user, which stands on no front page.
+fn set_node(
+    alloc: Global,
+    rows: &mut Rows,
+    nid: u32,
+    title: &[u8],
+    uuid: &[u8],
+    uid: u32,
+    status: bool,
+) -> Result<(), AllocError> {
+    let body = FieldValue {
+        name: name(b"body")?,
+        value: Text::copied(alloc, b"Hi")?,
+    };
+    let node = Node {
+        changed: 100,
+        created: 100,
+        fields: Items::one(alloc, body)?,
+        grants: Items::none(alloc),
+        path: None,
+        promote: false,
+        refs: Items::none(alloc),
+        status,
+        sticky: false,
+        terms: Items::none(alloc),
+        title: Text::copied(alloc, title)?,
+        node_type: name(b"page")?,
+        uid,
+        uuid: Text::copied(alloc, uuid)?,
+        vid: 1,
+    };
+    set(alloc, rows, Cell::Node(nid), Row::Node(node))
+}
+
+// The rows that a site begins with, and a session `abc` of its first user.
+fn begun(alloc: Global, seq: Seq) -> Result<Rows, AllocError> {
+    let mut rows = Rows::new(alloc);
+    for (cell, row) in starter(alloc)? {
+        set(alloc, &mut rows, cell, row)?;
+    }
+    set(alloc, &mut rows, Cell::Seq, Row::Seq(seq))?;
+    set_session(alloc, &mut rows, b"abc", 1)?;
+    Ok(rows)
+}
+
+// With a second node.
+fn with_second(alloc: Global) -> Result<Rows, AllocError> {
+    let seq = Seq {
+        node: 3,
+        term: 1,
+        user: 2,
+    };
+    let mut rows = begun(alloc, seq)?;
+    set_node(alloc, &mut rows, 2, b"Second", b"n-2", 1, true)?;
+    Ok(rows)
+}
+
+// The role of members, who may view what they own before it is published.
+fn members(alloc: Global) -> Result<Role, AllocError> {
+    let mut permissions = Vec::new(alloc);
+    permissions.push(Text::copied(alloc, b"access content")?)?;
+    permissions.push(Text::copied(alloc, b"view own unpublished content")?)?;
+    Ok(Role {
+        admin: false,
+        grants: Items::none(alloc),
+        label: Text::copied(alloc, b"Member")?,
+        permissions: Items::from_vec(permissions),
+    })
+}
+
+// With two members: `test` holds number 7 of the club and owns node 6, which isn't published; `hello` does neither.
+fn with_club(alloc: Global) -> Result<Rows, AllocError> {
+    let seq = Seq {
+        node: 7,
+        term: 1,
+        user: 4,
+    };
+    let mut rows = begun(alloc, seq)?;
+    let role = Cell::Role(name(b"authenticated")?);
+    set(alloc, &mut rows, role, Row::Role(members(alloc)?))?;
+    let grant = Grant {
+        gid: 7,
+        realm: name(b"club")?,
+    };
+    let grants = Items::one(alloc, grant)?;
+    set_user(alloc, &mut rows, 2, b"two", b"u-2", grants)?;
+    set_user(alloc, &mut rows, 3, b"three", b"u-3", Items::none(alloc))?;
+    set_session(alloc, &mut rows, b"test", 2)?;
+    set_session(alloc, &mut rows, b"hello", 3)?;
+    set_node(alloc, &mut rows, 6, b"Six", b"n-6", 2, false)?;
+    Ok(rows)
 }
 
 // What a keeper holds of these rows, with this number.
-fn stored(alloc: Global, more: &[u8], head: u64) -> Result<Stored, AllocError>
+fn stored(alloc: Global, rows: Rows, head: u64) -> Result<Stored, AllocError>
     ensures { IfOk result (λ stored. AreValidRows stored.rows) }
 {
-    let rows = rows(alloc, more)?;
+    if !rows.are_right() {
+        return Err(AllocError);
+    }
     Ok(Stored {
         rows,
         counts: Counts::new(alloc),
@@ -62,12 +169,12 @@ fn stored(alloc: Global, more: &[u8], head: u64) -> Result<Stored, AllocError>
 pub fn second(alloc: Global) -> Result<Stored, AllocError>
     ensures { IfOk result (λ stored. AreValidRows stored.rows) }
 {
-    stored(alloc, SECOND, 7)
+    stored(alloc, with_second(alloc)?, 7)
 }
 
 /// What a keeper holds of a site with a club.
 pub fn club(alloc: Global) -> Result<Stored, AllocError>
     ensures { IfOk result (λ stored. AreValidRows stored.rows) }
 {
-    stored(alloc, CLUB, 0)
+    stored(alloc, with_club(alloc)?, 0)
 }

@@ -92,45 +92,44 @@ fn depends_on(
     Ok(line.as_slice() == expected)
 }
 
-/// Who views, to what, and what is told.
-const CASES: [(u32, To, &[u8]); 11] = [
-    (
-        0,
-        To::Node(Op::View, 1),
-        b"node:1 | user.node_grants:view user.permissions",
-    ),
-    (
-        2,
-        To::Node(Op::Update, 1),
-        b"node:1 | user user.node_grants:view user.permissions",
-    ),
-    (1, To::Node(Op::Delete, 1), b"| user.permissions"),
-    (
-        2,
-        To::Node(Op::View, 3),
-        b"node:3 | user user.node_grants:view user.permissions",
-    ),
-    (2, To::Creation, b"| user.permissions"),
-    (
-        2,
-        To::Field(1, b"notes"),
-        b"config:node.type.page | user.permissions",
-    ),
-    (
-        2,
-        To::Field(3, b"diary"),
-        b"config:node.type.page node:3 | user user.permissions",
-    ),
-    (0, To::Term(3), b"taxonomy_term:3 | user.permissions"),
-    (0, To::User(2), b"user:2 | user user.permissions"),
-    (1, To::User(2), b"user:2 | user.permissions"),
-    (0, To::Login, b"|"),
-];
-
 #[test]
 fn what_access_depends_on(rt: HostRuntime) {
     let state = site(rt.alloc(), "/node").expect(&rt, "memory");
-    for (uid, to, expected) in &CASES {
-        assert!(rt; depends_on(rt.alloc(), &state, *uid, *to, expected) == Ok(true));
+    // who views, to what, and what is told
+    let cases: [(u32, To, &[u8]); 11] = [
+        (
+            0,
+            To::Node(Op::View, 1),
+            b"node:1 | user.node_grants:view user.permissions",
+        ),
+        (
+            2,
+            To::Node(Op::Update, 1),
+            b"node:1 | user user.node_grants:view user.permissions",
+        ),
+        (1, To::Node(Op::Delete, 1), b"| user.permissions"),
+        (
+            2,
+            To::Node(Op::View, 3),
+            b"node:3 | user user.node_grants:view user.permissions",
+        ),
+        (2, To::Creation, b"| user.permissions"),
+        (
+            2,
+            To::Field(1, b"notes"),
+            b"config:node.type.page | user.permissions",
+        ),
+        (
+            2,
+            To::Field(3, b"diary"),
+            b"config:node.type.page node:3 | user user.permissions",
+        ),
+        (0, To::Term(3), b"taxonomy_term:3 | user.permissions"),
+        (0, To::User(2), b"user:2 | user user.permissions"),
+        (1, To::User(2), b"user:2 | user.permissions"),
+        (0, To::Login, b"|"),
+    ];
+    for (uid, to, expected) in cases {
+        assert!(rt; depends_on(rt.alloc(), &state, uid, to, expected) == Ok(true));
     }
 }

@@ -41,11 +41,6 @@ pub fn viewer(uid: u32) -> Viewer {
     Viewer { uid, session }
 }
 
-/// The first word of a line, and what stands behind the space after it.
-pub fn first_word(line: &str) -> (&str, &str) {
-    line.split_once(' ').unwrap_or((line, ""))
-}
-
 /// A path, and the query behind it where one is given.
 fn target(alloc: Global, path: &[u8], query: &[u8]) -> Result<Text, AllocError> {
     let mut target = Vec::from_slice(alloc, path)?;

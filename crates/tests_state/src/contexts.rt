@@ -1,11 +1,12 @@
 //! The values of contexts, and contexts that are left out.
 
-use crate::club::{asked, first_word, name, site, viewer};
+use crate::club::{asked, name, site, viewer};
 use cache_contexts::{AnyValue, optimise, value};
 use cacheability::{Cacheability, Context, Name};
 use content_rows::{Grant, Permissions, Text, ViewGrants};
 use content_state::State;
 use std::alloc::{AllocError, Global};
+use std::test::Fail;
 use tag_counts::Counts;
 
 /// Adds a comma, where something stands there, and a text.
@@ -135,53 +136,56 @@ fn context_of(text: &str, parameter: Name) -> Context {
     }
 }
 
-/// A user, a path, a context with its parameter, and its value in letters, a line each.
-const VALUES: &str = "0 /node/1 languages:language_interface x en
-0 /node/1 theme x site
-0 /node/1 user x 0
-2 /node/1 user x 2
-0 /node/1 user.roles x anonymous
-2 /node/1 user.roles x authenticated
-0 /node/1 user.permissions x access content
-1 /node/1 user.permissions x *
-2 /node/1 user.permissions x access content,view own unpublished content
-0 /node/1 user.node_grants:view x all:0
-1 /node/1 user.node_grants:view x *
-2 /node/1 user.node_grants:view x all:0,club:7
-0 /node/1 url x /node/1?page=2&sort=a+b
-0 /node/1 url.path x /node/1
-0 /node/1 url.path.is_front x 0
-0 / url.path.is_front x 1
-0 /node url.path.is_front x 1
-0 /node/1 url.query_args x page=2&sort=a+b
-0 /node/1 url.query_args: sort =a b
-0 /node/1 url.query_args: order -
-0 /node/1 session x -
-2 /node/1 session x =test
-1 /node/1 session.exists x 1
-0 /node/1 route.menu_active_trails: main b,a
-0 /node/1 route.menu_active_trails: foot 
-";
+/// A user, a path, a context with its parameter, and its value in letters.
+type Row = (u32, &'static str, &'static str, &'static str, &'static str);
 
-/// Whether a context has the value of a line for a user on a path.
-fn has_value(alloc: Global, state: &State, line: &str) -> Result<bool, AllocError> {
-    let (uid, rest) = first_word(line);
-    let (path, rest) = first_word(rest);
-    let (text, rest) = first_word(rest);
-    let (parameter, wanted) = first_word(rest);
-    let Ok(uid) = uid.parse() else {
-        return Ok(false);
-    };
+/// Whether a context has this value for a user on a path.
+fn has_value(alloc: Global, state: &State, row: &Row) -> Result<bool, AllocError> {
+    let (uid, path, text, parameter, wanted) = *row;
     let context = context_of(text, name(parameter.as_bytes())?);
     let (of, letters) = found(alloc, state, uid, path.as_bytes(), context)?;
     Ok(of == context && letters.as_slice() == wanted.as_bytes())
 }
 
+const VALUES: [Row; 25] = [
+    (0, "/node/1", "languages:language_interface", "x", "en"),
+    (0, "/node/1", "theme", "x", "site"),
+    (0, "/node/1", "user", "x", "0"),
+    (2, "/node/1", "user", "x", "2"),
+    (0, "/node/1", "user.roles", "x", "anonymous"),
+    (2, "/node/1", "user.roles", "x", "authenticated"),
+    (0, "/node/1", "user.permissions", "x", "access content"),
+    (1, "/node/1", "user.permissions", "x", "*"),
+    (
+        2,
+        "/node/1",
+        "user.permissions",
+        "x",
+        "access content,view own unpublished content",
+    ),
+    (0, "/node/1", "user.node_grants:view", "x", "all:0"),
+    (1, "/node/1", "user.node_grants:view", "x", "*"),
+    (2, "/node/1", "user.node_grants:view", "x", "all:0,club:7"),
+    (0, "/node/1", "url", "x", "/node/1?page=2&sort=a+b"),
+    (0, "/node/1", "url.path", "x", "/node/1"),
+    (0, "/node/1", "url.path.is_front", "x", "0"),
+    (0, "/", "url.path.is_front", "x", "1"),
+    (0, "/node", "url.path.is_front", "x", "1"),
+    (0, "/node/1", "url.query_args", "x", "page=2&sort=a+b"),
+    (0, "/node/1", "url.query_args:", "sort", "=a b"),
+    (0, "/node/1", "url.query_args:", "order", "-"),
+    (0, "/node/1", "session", "x", "-"),
+    (2, "/node/1", "session", "x", "=test"),
+    (1, "/node/1", "session.exists", "x", "1"),
+    (0, "/node/1", "route.menu_active_trails:", "main", "b,a"),
+    (0, "/node/1", "route.menu_active_trails:", "foot", ""),
+];
+
 #[test]
 fn values(rt: HostRuntime) {
     let state = site(rt.alloc(), Counts::new(rt.alloc())).expect(&rt, "memory");
-    for line in VALUES.lines() {
-        assert!(rt; has_value(rt.alloc(), &state, line) == Ok(true));
+    for row in &VALUES {
+        assert!(rt; has_value(rt.alloc(), &state, row) == Ok(true));
     }
 }
 
@@ -207,16 +211,14 @@ fn comes_to(
 ) -> Result<bool, AllocError> {
     let said = optimise(alloc, state, &viewer(2), contexts)?;
     let mut out = Vec::new(alloc);
-    let told = said_text(alloc, &mut out, &said);
-    drop(said);
-    told?;
+    said_text(alloc, &mut out, &said)?;
     Ok(out.as_slice() == wanted.as_bytes())
 }
 
 #[test]
-fn left_out(rt: HostRuntime) {
-    let page = Context::QueryArg(Name::new(b"page").expect(&rt, "a name"));
-    let state = site(rt.alloc(), Counts::new(rt.alloc())).expect(&rt, "memory");
+fn left_out(rt: HostRuntime) -> Result<(), Fail> {
+    let page = Context::QueryArg(name(b"page")?);
+    let state = site(rt.alloc(), Counts::new(rt.alloc()))?;
     let cases: [(&[Context], &str); 5] = [
         (
             &[Context::UserRoles, Context::User, Context::NodeGrantsView],
@@ -242,4 +244,5 @@ fn left_out(rt: HostRuntime) {
     for (contexts, wanted) in cases {
         assert!(rt; comes_to(rt.alloc(), &state, contexts, wanted) == Ok(true));
     }
+    Ok(())
 }

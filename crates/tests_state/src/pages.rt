@@ -1,18 +1,34 @@
 //! What is built for pages.
 
-use crate::club::{asked, viewer};
 use crate::site::site;
-use content_state::State;
+use content_rows::Text;
+use content_state::{Ask, State, Viewer};
 use render_array::{Element, build};
 use renderer::page_on;
 use std::alloc::{AllocError, Global};
 
 fn sendable_and_shared<T: Send + Sync>(_: &T) {}
 
+/// A request for a path.
+fn asked(alloc: Global, path: &str) -> Result<Ask, AllocError> {
+    let target = Text::copied(alloc, path.as_bytes())?;
+    let path = Text::copied(alloc, path.as_bytes())?;
+    Ok(Ask {
+        target,
+        path,
+        query: Text::from_vec(Vec::new(alloc)),
+        cookie: None,
+    })
+}
+
 /// Whether a visitor's element of the page on a path has this status, and holds for good.
 fn is_element(alloc: Global, state: &State, path: &str, status: u16) -> Result<bool, AllocError> {
-    let ask = asked(alloc, path.as_bytes(), b"")?;
-    let element = build(alloc, state, &viewer(0), &ask, 1_000, &Element::Page)?;
+    let viewer = Viewer {
+        uid: 0,
+        session: None,
+    };
+    let ask = asked(alloc, path)?;
+    let element = build(alloc, state, &viewer, &ask, 1_000, &Element::Page)?;
     drop(ask);
     sendable_and_shared(&element);
     let right = element.status == Some(status) && element.last == u64::MAX;
@@ -28,7 +44,7 @@ fn is_page(
     status: u16,
     built: u64,
 ) -> Result<bool, AllocError> {
-    let ask = asked(alloc, path.as_bytes(), b"")?;
+    let ask = asked(alloc, path)?;
     let page = page_on(alloc, state, &ask, 1_000)?;
     drop(ask);
     let right = page.status == status && page.built == built;
@@ -36,21 +52,19 @@ fn is_page(
     Ok(right)
 }
 
-/// A path, the status of its page, and how many elements are built for it: the page itself, and on it a node with its embedded ones, a
-/// block with its menu, or a listing with its teasers.
-const PAGES: [(&str, u16, u64); 5] = [
-    ("/node/1", 200, 4),
-    ("/node/2", 200, 5),
-    ("/node/3", 403, 1),
-    ("/node/9", 404, 1),
-    ("/node", 200, 3),
-];
-
+/// The page itself, and on it a node with its embedded ones, a block with its menu, or a listing with its teasers.
 #[test]
 fn elements_of_pages(rt: HostRuntime) {
     let state = site(rt.alloc(), "/node").expect(&rt, "memory");
-    for (path, status, built) in &PAGES {
-        assert!(rt; is_element(rt.alloc(), &state, path, *status) == Ok(true));
-        assert!(rt; is_page(rt.alloc(), &state, path, *status, *built) == Ok(true));
+    let pages: [(&str, u16, u64); 5] = [
+        ("/node/1", 200, 4),
+        ("/node/2", 200, 5),
+        ("/node/3", 403, 1),
+        ("/node/9", 404, 1),
+        ("/node", 200, 3),
+    ];
+    for (path, status, built) in pages {
+        assert!(rt; is_element(rt.alloc(), &state, path, status) == Ok(true));
+        assert!(rt; is_page(rt.alloc(), &state, path, status, built) == Ok(true));
     }
 }

@@ -1,11 +1,11 @@
 //! Where the paths of a site lead, which tags cover that, and the tags of listings.
 
-use crate::club::first_word;
 use crate::site::site;
 use cacheability::{Name, Tag};
 use content_state::{Route, State, route_of};
 use site_lists::{list_tags, query_value};
 use std::alloc::{AllocError, Global};
+use std::test::Fail;
 
 /// What a path leads to, in a word, with its number where it has one.
 fn word(route: &Route) -> (&'static str, u32) {
@@ -19,54 +19,72 @@ fn word(route: &Route) -> (&'static str, u32) {
     }
 }
 
-/// What a path leads to, and the texts of the tags that cover it, as a line has them.
-fn told(alloc: Global, route: &Route, tags: &[Tag]) -> Result<Vec<u8>, AllocError> {
-    let (kind, number) = word(route);
-    let mut told = format!(in alloc; "{kind} {number}")?.into_bytes();
-    for tag in tags {
-        let text = tag.text(alloc)?;
-        told.push(b' ')?;
-        told.extend_from_slice(&text)?;
-    }
-    Ok(told)
-}
-
-/// Whether a path leads, on the site with a front path, to what a line says, covered by its tags.
-fn leads(alloc: Global, line: &str) -> Result<bool, AllocError> {
-    let (front, rest) = first_word(line);
-    let (path, wanted) = first_word(rest);
+/// Whether a path leads there on the site with this front path, and these tags cover it.
+fn leads(
+    alloc: Global,
+    front: &str,
+    path: &str,
+    to: (&str, u32),
+    tags: &[Tag],
+) -> Result<bool, AllocError> {
     let state = site(alloc, front)?;
     let found = route_of(alloc, &state, path.as_bytes());
     drop(state);
     let (route, covering) = found?;
-    let told = told(alloc, &route, covering.as_slice())?;
-    Ok(told.as_slice() == wanted.as_bytes())
+    let (kind, number) = word(&route);
+    Ok(kind == to.0 && number == to.1 && covering.as_slice() == tags)
 }
 
-/// The front path, a path, the word and the number of what is there, and the tags, a line each. A number that isn't there is covered by
-/// its tag, whatever it names. `/` leads to where the front path leads, and is covered by its tags and that of the settings.
-const PATHS: &str = "/node /node/1 node 1 node:1
-/node /about node 1 node:1
-/node /taxonomy/term/3 term 3 taxonomy_term:3
-/node /user/7 user 7 user:7
-/node /user/login login 0
-/node /node/01 nothing 0 4xx-response
-/node /node/4 nothing 0 4xx-response node:4
-/node /taxonomy/term/4 nothing 0 4xx-response taxonomy_term:4
-/node /user/8 nothing 0 4xx-response user:8
-/node /taxonomy/term/03 nothing 0 4xx-response
-/node /About nothing 0 4xx-response
-/node  nothing 0 4xx-response
-/about / node 1 node:1 config:system.site
-/user/login / login 0 config:system.site
-/taxonomy/term/4 / nothing 0 4xx-response taxonomy_term:4 config:system.site
-/nowhere / nothing 0 4xx-response config:system.site
-";
-
+/// A number that isn't there is covered by its tag, whatever it names. `/` leads to where the front path leads, and is covered
+/// by its tags and that of the settings.
 #[test]
 fn where_paths_lead(rt: HostRuntime) {
-    for line in PATHS.lines() {
-        assert!(rt; leads(rt.alloc(), line) == Ok(true));
+    // the front path, the path, the word and the number of what is there, and the tags
+    let cases: [(&str, &str, (&str, u32), &[Tag]); 16] = [
+        ("/node", "/node/1", ("node", 1), &[Tag::Node(1)]),
+        ("/node", "/about", ("node", 1), &[Tag::Node(1)]),
+        ("/node", "/taxonomy/term/3", ("term", 3), &[Tag::Term(3)]),
+        ("/node", "/user/7", ("user", 7), &[Tag::User(7)]),
+        ("/node", "/user/login", ("login", 0), &[]),
+        ("/node", "/node/01", ("nothing", 0), &[Tag::NotFound]),
+        (
+            "/node",
+            "/node/4",
+            ("nothing", 0),
+            &[Tag::NotFound, Tag::Node(4)],
+        ),
+        (
+            "/node",
+            "/taxonomy/term/4",
+            ("nothing", 0),
+            &[Tag::NotFound, Tag::Term(4)],
+        ),
+        (
+            "/node",
+            "/user/8",
+            ("nothing", 0),
+            &[Tag::NotFound, Tag::User(8)],
+        ),
+        (
+            "/node",
+            "/taxonomy/term/03",
+            ("nothing", 0),
+            &[Tag::NotFound],
+        ),
+        ("/node", "/About", ("nothing", 0), &[Tag::NotFound]),
+        ("/node", "", ("nothing", 0), &[Tag::NotFound]),
+        ("/about", "/", ("node", 1), &[Tag::Node(1), Tag::Site]),
+        ("/user/login", "/", ("login", 0), &[Tag::Site]),
+        (
+            "/taxonomy/term/4",
+            "/",
+            ("nothing", 0),
+            &[Tag::NotFound, Tag::Term(4), Tag::Site],
+        ),
+        ("/nowhere", "/", ("nothing", 0), &[Tag::NotFound, Tag::Site]),
+    ];
+    for (front, path, to, tags) in cases {
+        assert!(rt; leads(rt.alloc(), front, path, to, tags) == Ok(true));
     }
 }
 
@@ -83,36 +101,29 @@ fn is_tag_of(alloc: Global, state: &State, name: Name, tag: Tag) -> Result<bool,
 #[test]
 fn tags_of_listings(rt: HostRuntime) {
     let state = site(rt.alloc(), "/node").expect(&rt, "memory");
-    let front = Name::new(b"frontpage").expect(&rt, "a name");
-    assert!(rt; is_tag_of(rt.alloc(), &state, front, Tag::NodeList) == Ok(true));
     let page = Name::new(b"page").expect(&rt, "a name");
-    let pages = Name::new(b"pages").expect(&rt, "a name");
-    assert!(rt; is_tag_of(rt.alloc(), &state, pages, Tag::NodeListOf(page)) == Ok(true));
-}
-
-/// A query, a name, and its value, if it has one.
-const QUERIES: [(&[u8], &[u8], Option<&[u8]>); 5] = [
-    (b"a=1&b=%41+c&b=2", b"b", Some(b"A c")),
-    (b"a=1&b=2", b"c", None),
-    (b"&&c", b"c", Some(b"")),
-    (b"a+b=1%2B2", b"a b", Some(b"1+2")),
-    (b"", b"", None),
-];
-
-/// Whether a name has this value in a query.
-fn has_value(
-    alloc: Global,
-    query: &[u8],
-    name: &[u8],
-    wanted: Option<&[u8]>,
-) -> Result<bool, AllocError> {
-    let value = query_value(alloc, query, name)?;
-    Ok(value.as_ref().map(|value| value.as_slice()) == wanted)
+    let wanted: [(&[u8], Tag); 2] = [
+        (b"frontpage", Tag::NodeList),
+        (b"pages", Tag::NodeListOf(page)),
+    ];
+    for (name, tag) in wanted {
+        let name = Name::new(name).expect(&rt, "a name");
+        assert!(rt; is_tag_of(rt.alloc(), &state, name, tag) == Ok(true));
+    }
 }
 
 #[test]
-fn values_of_queries(rt: HostRuntime) {
-    for (query, name, wanted) in &QUERIES {
-        assert!(rt; has_value(rt.alloc(), query, name, *wanted) == Ok(true));
+fn values_of_queries(rt: HostRuntime) -> Result<(), Fail> {
+    let cases: [(&[u8], &[u8], Option<&[u8]>); 5] = [
+        (b"a=1&b=%41+c&b=2", b"b", Some(b"A c")),
+        (b"a=1&b=2", b"c", None),
+        (b"&&c", b"c", Some(b"")),
+        (b"a+b=1%2B2", b"a b", Some(b"1+2")),
+        (b"", b"", None),
+    ];
+    for (query, name, wanted) in cases {
+        let value = query_value(rt.alloc(), query, name)?;
+        assert!(rt; value.as_ref().map(|value| value.as_slice()) == wanted);
     }
+    Ok(())
 }

@@ -7,8 +7,8 @@ use content_state::{Commit, Rows, State, Write};
 use row_json::row_to_json;
 use site_files::STARTER;
 use std::alloc::{AllocError, Global};
-use std::process::Abort;
 use std::sync::Arc;
+use std::test::Fail;
 use tag_counts::Counts;
 
 fn sendable<T: Send + Sync>(_: &T) {}
@@ -18,41 +18,46 @@ fn is_sendable(state: &State) {
 }
 
 #[test]
-fn what_is_read_of_a_site(rt: HostRuntime) {
-    let state = site(rt.alloc(), "/node").expect(&rt, "memory");
+fn what_is_read_of_a_site(rt: HostRuntime) -> Result<(), Fail> {
+    let state = site(rt.alloc(), "/node")?;
     is_sendable(&state);
-    assert!(rt; state.is_valid(rt.alloc()) == Ok(true));
+    assert!(rt; state.is_valid(rt.alloc())?);
     assert!(rt; state.number() == 0);
     assert!(rt; state.counts().is_empty());
     assert!(rt; state.node(4).0.is_none());
     assert!(rt; state.node(1).1.equals(&Tag::Node(1)));
-    let copy = state.duplicate(rt.alloc()).expect(&rt, "memory");
-    let node = copy.node(1).0.expect(&rt, "the first node");
-    assert!(rt; node.title.as_slice() == b"First".as_slice());
+    Ok(())
 }
 
-/// The ids that are next.
-fn seq(alloc: Global, node: u32, term: u32) -> Result<Arc<Row>, AllocError> {
+/// A copy of a site has its rows.
+#[test]
+fn a_copy_of_a_site(rt: HostRuntime) -> Result<(), Fail> {
+    let copy = site(rt.alloc(), "/node")?.duplicate(rt.alloc())?;
+    let node = copy.node(1).0.expect(&rt, "the first node");
+    assert!(rt; node.title.as_slice() == b"First".as_slice());
+    Ok(())
+}
+
+fn commit(alloc: Global) -> Result<Commit, AllocError> {
     let row = Row::Seq(Seq {
-        node,
-        term,
+        node: 3,
+        term: 1,
         user: 2,
     });
-    Ok(Arc::new(alloc, row)?)
+    let write = Write {
+        cell: Cell::Seq,
+        row: Some(Arc::new(alloc, row)?),
+    };
+    Ok(Commit {
+        writes: Items::from_vec(vec![in alloc; write]?),
+        extra: Items::none(alloc),
+        pass: 1,
+    })
 }
 
 #[test]
 fn commits_are_sendable(rt: HostRuntime) {
-    let alloc = rt.alloc();
-    let write = Write {
-        cell: Cell::Seq,
-        row: Some(seq(alloc, 3, 1).expect(&rt, "memory")),
-    };
-    let commit = Commit {
-        writes: Items::one(alloc, write).expect(&rt, "memory"),
-        extra: Items::none(alloc),
-        pass: 1,
-    };
+    let commit = commit(rt.alloc()).expect(&rt, "memory");
     sendable(&commit);
     assert!(rt; commit.writes.as_slice().len() == 1);
     let write = &commit.writes.as_slice()[0];
@@ -61,32 +66,39 @@ fn commits_are_sendable(rt: HostRuntime) {
 }
 
 /// Writes a row as a line.
-fn push_line(rt: &impl Abort, alloc: Global, out: &mut Vec<u8>, cell: &Cell, row: &Row) {
-    let json = row_to_json(alloc, cell, row).expect(rt, "memory");
-    let text = json.to_string(alloc).expect(rt, "memory");
-    drop(json);
-    out.extend_from_slice(text.as_bytes()).expect(rt, "memory");
-    out.push(b'\n').expect(rt, "memory");
+fn push_line(alloc: Global, out: &mut Vec<u8>, cell: &Cell, row: &Row) -> Result<(), Fail> {
+    let text = row_to_json(alloc, cell, row)?.to_string(alloc)?;
+    out.extend_from_slice(text.as_bytes())?;
+    out.push(b'\n')?;
+    Ok(())
 }
 
 /// The rows of the new site, written one a line, are the file of the new site.
 #[test]
-fn starter_as_lines(rt: HostRuntime) {
+fn starter_as_lines(rt: HostRuntime) -> Result<(), Fail> {
     let mut written = Vec::new(rt.alloc());
-    let rows = starter(rt.alloc()).expect(&rt, "memory");
-    for (cell, row) in &rows {
-        push_line(&rt, rt.alloc(), &mut written, cell, row);
+    for (cell, row) in &starter(rt.alloc())? {
+        push_line(rt.alloc(), &mut written, cell, row)?;
     }
     assert!(rt; written.as_slice() == STARTER);
+    Ok(())
 }
 
 /// The state of one row that no site has, since an id that is next is 0.
-#[test]
-fn rows_of_no_site(rt: HostRuntime) {
-    let alloc = rt.alloc();
+fn no_site(alloc: Global) -> Result<State, AllocError> {
+    let row = Row::Seq(Seq {
+        node: 2,
+        term: 0,
+        user: 2,
+    });
     let mut rows = Rows::new(alloc);
-    let row = seq(alloc, 2, 0).expect(&rt, "memory");
-    assert!(rt; rows.set(Cell::Seq, row).is_ok());
-    let state = State::new(alloc, rows, Counts::new(alloc), 0).expect(&rt, "memory");
-    assert!(rt; state.is_valid(alloc) == Ok(false));
+    rows.set(Cell::Seq, Arc::new(alloc, row)?)
+        .map_err(|_| AllocError)?;
+    State::new(alloc, rows, Counts::new(alloc), 0)
+}
+
+#[test]
+fn rows_of_no_site(rt: HostRuntime) -> Result<(), Fail> {
+    assert!(rt; !no_site(rt.alloc())?.is_valid(rt.alloc())?);
+    Ok(())
 }
