@@ -3,7 +3,7 @@
 use crate::site::site;
 use cacheability::Tag;
 use content_rows::{Cell, Items, Row, Seq, starter};
-use content_state::{Commit, Rows, State, Write};
+use content_state::{Commit, Rows, State, Write, states_go_between_threads};
 use row_json::row_to_json;
 use site_files::STARTER;
 use std::alloc::{AllocError, Global};
@@ -13,19 +13,21 @@ use tag_counts::Counts;
 
 fn sendable<T: Send + Sync>(_: &T) {}
 
-fn is_sendable(state: &State) {
-    sendable(state);
+// A state goes to threads that share it.
+fn is_shared(alloc: Global, state: State) -> Result<(), AllocError> {
+    states_go_between_threads(Arc::new(alloc, state)?);
+    Ok(())
 }
 
 #[test]
 fn what_is_read_of_a_site(rt: HostRuntime) -> Result<(), Fail> {
     let state = site(rt.alloc(), "/node")?;
-    is_sendable(&state);
     assert!(rt; state.is_valid(rt.alloc())?);
     assert!(rt; state.number() == 0);
     assert!(rt; state.counts().is_empty());
     assert!(rt; state.node(4).0.is_none());
     assert!(rt; state.node(1).1.equals(&Tag::Node(1)));
+    is_shared(rt.alloc(), state)?;
     Ok(())
 }
 
