@@ -85,6 +85,9 @@ impl Counts {
     pub fn count(&self, tag: &Tag) -> u64
         ensures { result ≡ count_of self.now tag.now }
     {
+        if self.table.is_empty() {
+            return 0;
+        }
         match self.table.get(&Key(*tag)) {
             Some(count) => *count,
             None => 0,
