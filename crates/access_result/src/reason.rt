@@ -6,9 +6,15 @@ use std::alloc::{AllocError, Global};
 use std::marker::Model;
 
 /// The text of a permission, as `access content`. Contracts see its bytes.
-#[derive(Drop, Debug)]
+#[derive(Debug)]
 pub struct PermissionText {
     bytes: Vec<u8>,
+}
+
+impl Drop for PermissionText {
+    fn drop(self) {
+        let PermissionText { bytes: _ } = self;
+    }
 }
 
 impl Model for PermissionText {
@@ -52,7 +58,7 @@ impl PermissionText {
 }
 
 /// Why something is denied.
-#[derive(Drop, Debug)]
+#[derive(Debug)]
 pub enum Reason {
     /// The viewer lacks a permission.
     Permission(PermissionText),
@@ -64,6 +70,18 @@ pub enum Reason {
     Unrecognized,
     /// The viewer has no session.
     NoSession,
+}
+
+impl Drop for Reason {
+    fn drop(self) {
+        match self {
+            Reason::Permission(_) => {}
+            Reason::Grant(_, _) => {}
+            Reason::OwnerOnly(_) => {}
+            Reason::Unrecognized => {}
+            Reason::NoSession => {}
+        }
+    }
 }
 
 impl Reason {

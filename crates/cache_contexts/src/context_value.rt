@@ -8,7 +8,6 @@ use content_rows::{Items, Permissions, Text, ViewGrants};
 use std::hash::{Hash, Hasher};
 
 /// The value of a cache context, whichever it is.
-#[derive(Drop)]
 pub enum AnyValue {
     /// A name, held in place: the language or the theme.
     Name(Name),
@@ -30,11 +29,35 @@ pub enum AnyValue {
     Grants(ViewGrants),
 }
 
+impl Drop for AnyValue {
+    fn drop(self) {
+        match self {
+            AnyValue::Name(_) => {}
+            AnyValue::Text(_) => {}
+            AnyValue::Argument(_) => {}
+            AnyValue::User(_) => {}
+            AnyValue::Flag(_) => {}
+            AnyValue::Names(_) => {}
+            AnyValue::Session(_) => {}
+            AnyValue::Permissions(_) => {}
+            AnyValue::Grants(_) => {}
+        }
+    }
+}
+
 /// A cache context with its value.
-#[derive(Drop)]
 pub struct ContextValue {
     pub context: Context,
     pub value: AnyValue,
+}
+
+impl Drop for ContextValue {
+    fn drop(self) {
+        let ContextValue {
+            context: _,
+            value: _,
+        } = self;
+    }
 }
 
 impl PartialEq for AnyValue {

@@ -13,7 +13,6 @@ use html_out::Segments;
 
 /// A part of a page, or a page, as it is kept.
 /// <https://www.drupal.org/docs/drupal-apis/cache-api/cache-api>
-#[derive(Drop)]
 pub struct Entry {
     /// The bytes, and the places that are still open.
     pub segments: Segments<Hole>,
@@ -33,6 +32,22 @@ pub struct Entry {
     pub last: u64,
     /// The status of a page; other things have none.
     pub status: Option<u16>,
+}
+
+impl Drop for Entry {
+    fn drop(self) {
+        let Entry {
+            segments: _,
+            libraries: _,
+            cacheability: _,
+            values: _,
+            sum: _,
+            made_at: _,
+            made_moment: _,
+            last: _,
+            status: _,
+        } = self;
+    }
 }
 
 /// Whether an entry is fresh on a state at a moment, by the values that its contexts have there: these are the entry's,

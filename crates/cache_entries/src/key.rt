@@ -9,7 +9,6 @@ use content_state::{Depth, Fragment, Mode, Placing};
 use std::hash::{Hash, Hasher};
 
 /// What is kept.
-#[derive(Drop)]
 pub enum Subject {
     /// A part of pages: a block, a menu, a listing, a term's listing or a node in a mode.
     Fragment(Fragment),
@@ -19,12 +18,30 @@ pub enum Subject {
     Target(Text),
 }
 
+impl Drop for Subject {
+    fn drop(self) {
+        match self {
+            Subject::Fragment(_) => {}
+            Subject::Page(_) => {}
+            Subject::Target(_) => {}
+        }
+    }
+}
+
 /// The key of something that is kept: what it is, and the values of the contexts that it was looked up by.
 /// <https://www.drupal.org/docs/drupal-apis/render-api/cacheability-of-render-arrays>
-#[derive(Drop)]
 pub struct Key {
     pub subject: Subject,
     pub values: Items<ContextValue>,
+}
+
+impl Drop for Key {
+    fn drop(self) {
+        let Key {
+            subject: _,
+            values: _,
+        } = self;
+    }
 }
 
 impl Key {

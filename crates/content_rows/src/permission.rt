@@ -5,7 +5,6 @@ use crate::text::{Items, Text};
 
 /// What a viewer is permitted to do.
 /// <https://www.drupal.org/docs/user_guide/en/user-concept.html>
-#[derive(Drop)]
 pub enum Permissions {
     /// Everything: user 1, and every holder of a role marked admin.
     All,
@@ -13,11 +12,28 @@ pub enum Permissions {
     These(Items<Text>),
 }
 
+impl Drop for Permissions {
+    fn drop(self) {
+        match self {
+            Permissions::All => {}
+            Permissions::These(_) => {}
+        }
+    }
+}
+
 /// Which nodes' grant records let a viewer view them.
-#[derive(Drop)]
 pub enum ViewGrants {
     /// Every node: access to nodes is bypassed.
     All,
     /// These grants, in their order, each once.
     These(Items<Grant>),
+}
+
+impl Drop for ViewGrants {
+    fn drop(self) {
+        match self {
+            ViewGrants::All => {}
+            ViewGrants::These(_) => {}
+        }
+    }
 }

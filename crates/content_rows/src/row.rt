@@ -5,12 +5,17 @@ use cacheability::Name;
 use std::cmp::Ordering;
 
 /// The settings of the site.
-#[derive(Drop)]
 pub struct Site {
     /// The path that `/` shows: a target that is no bare `/`.
     pub front: Text,
     /// The name of the site, a line of at most 255 bytes.
     pub name: Text,
+}
+
+impl Drop for Site {
+    fn drop(self) {
+        let Site { front: _, name: _ } = self;
+    }
 }
 
 /// The next ids to give, each from 1 to 4,294,967,295; at the last there is none left.
@@ -25,7 +30,6 @@ pub struct Seq {
 }
 
 /// A field that the nodes of a content type have.
-#[derive(Drop)]
 pub struct FieldRow {
     /// The permission that editing it takes, if any.
     pub edit: Option<Text>,
@@ -41,9 +45,21 @@ pub struct FieldRow {
     pub view: Option<Text>,
 }
 
+impl Drop for FieldRow {
+    fn drop(self) {
+        let FieldRow {
+            edit: _,
+            label: _,
+            name: _,
+            owner: _,
+            teaser: _,
+            view: _,
+        } = self;
+    }
+}
+
 /// A content type.
 /// <https://www.drupal.org/docs/user_guide/en/planning-data-types.html>
-#[derive(Drop)]
 pub struct NodeType {
     /// Its fields in the order in which they are shown: at most 32, names distinct.
     pub fields: Items<FieldRow>,
@@ -51,6 +67,16 @@ pub struct NodeType {
     pub label: Text,
     /// Whether its nodes show their author and day.
     pub submitted: bool,
+}
+
+impl Drop for NodeType {
+    fn drop(self) {
+        let NodeType {
+            fields: _,
+            label: _,
+            submitted: _,
+        } = self;
+    }
 }
 
 /// A grant that a role or a user holds: a number in a realm. Grants are in order of the bytes of
@@ -89,7 +115,6 @@ impl Grant {
 
 /// A role.
 /// <https://www.drupal.org/docs/user_guide/en/user-concept.html>
-#[derive(Drop)]
 pub struct Role {
     /// Whether its holders have every permission.
     pub admin: bool,
@@ -101,8 +126,18 @@ pub struct Role {
     pub permissions: Items<Text>,
 }
 
+impl Drop for Role {
+    fn drop(self) {
+        let Role {
+            admin: _,
+            grants: _,
+            label: _,
+            permissions: _,
+        } = self;
+    }
+}
+
 /// A user.
-#[derive(Drop)]
 pub struct User {
     /// When it was made, in seconds since 1970.
     pub created: u64,
@@ -122,9 +157,23 @@ pub struct User {
     pub uuid: Text,
 }
 
+impl Drop for User {
+    fn drop(self) {
+        let User {
+            created: _,
+            digest: _,
+            grants: _,
+            name: _,
+            roles: _,
+            salt: _,
+            status: _,
+            uuid: _,
+        } = self;
+    }
+}
+
 /// A taxonomy term.
 /// <https://www.drupal.org/docs/user_guide/en/structure-taxonomy.html>
-#[derive(Drop)]
 pub struct Term {
     /// What it means: a text.
     pub description: Text,
@@ -136,13 +185,29 @@ pub struct Term {
     pub uuid: Text,
 }
 
+impl Drop for Term {
+    fn drop(self) {
+        let Term {
+            description: _,
+            name: _,
+            status: _,
+            uuid: _,
+        } = self;
+    }
+}
+
 /// The value of a node's field.
-#[derive(Drop)]
 pub struct FieldValue {
     /// The field's machine name.
     pub name: Name,
     /// Its value: a text.
     pub value: Text,
+}
+
+impl Drop for FieldValue {
+    fn drop(self) {
+        let FieldValue { name: _, value: _ } = self;
+    }
 }
 
 /// A node's access record: which operations it lets the holders of a grant do.
@@ -162,7 +227,6 @@ pub struct GrantRow {
 }
 
 /// A node: one piece of content.
-#[derive(Drop)]
 pub struct Node {
     /// When it was last changed, in seconds since 1970.
     pub changed: u64,
@@ -196,8 +260,29 @@ pub struct Node {
     pub vid: u32,
 }
 
+impl Drop for Node {
+    fn drop(self) {
+        let Node {
+            changed: _,
+            created: _,
+            fields: _,
+            grants: _,
+            path: _,
+            promote: _,
+            refs: _,
+            status: _,
+            sticky: _,
+            terms: _,
+            title: _,
+            node_type: _,
+            uid: _,
+            uuid: _,
+            vid: _,
+        } = self;
+    }
+}
+
 /// A link of a menu.
-#[derive(Drop)]
 pub struct Link {
     /// Its name within the menu.
     pub id: Name,
@@ -211,9 +296,20 @@ pub struct Link {
     pub weight: i32,
 }
 
+impl Drop for Link {
+    fn drop(self) {
+        let Link {
+            id: _,
+            parent: _,
+            path: _,
+            title: _,
+            weight: _,
+        } = self;
+    }
+}
+
 /// A menu.
 /// <https://www.drupal.org/docs/user_guide/en/menu-concept.html>
-#[derive(Drop)]
 pub struct Menu {
     /// What people call it, a line of at most 255 bytes.
     pub label: Text,
@@ -221,9 +317,14 @@ pub struct Menu {
     pub links: Items<Link>,
 }
 
+impl Drop for Menu {
+    fn drop(self) {
+        let Menu { label: _, links: _ } = self;
+    }
+}
+
 /// A listing: nodes of some kind, newest first, ten a page.
 /// <https://www.drupal.org/docs/user_guide/en/views-concept.html>
-#[derive(Drop)]
 pub struct Listing {
     /// How long it may be shown once built, in seconds; none exactly where `recent` is none.
     pub age: Option<u32>,
@@ -239,6 +340,20 @@ pub struct Listing {
     pub title: Text,
     /// The content types that it lists, at most 32; all of them where there is none.
     pub types: Items<Name>,
+}
+
+impl Drop for Listing {
+    fn drop(self) {
+        let Listing {
+            age: _,
+            path: _,
+            promoted: _,
+            recent: _,
+            term: _,
+            title: _,
+            types: _,
+        } = self;
+    }
 }
 
 /// What a block shows.
@@ -271,7 +386,6 @@ pub enum Region {
 
 /// A placed block.
 /// <https://www.drupal.org/docs/user_guide/en/block-concept.html>
-#[derive(Drop)]
 pub struct Block {
     /// How long a clock may be shown once built, in seconds; none for every other kind.
     pub age: Option<u32>,
@@ -295,6 +409,23 @@ pub struct Block {
     pub weight: i32,
 }
 
+impl Drop for Block {
+    fn drop(self) {
+        let Block {
+            age: _,
+            hide: _,
+            kind: _,
+            label: _,
+            name: _,
+            paths: _,
+            region: _,
+            roles: _,
+            text: _,
+            weight: _,
+        } = self;
+    }
+}
+
 /// A session: who a token is logged in as.
 #[derive(Drop)]
 pub struct Session {
@@ -305,7 +436,6 @@ pub struct Session {
 }
 
 /// A row of any kind.
-#[derive(Drop)]
 pub enum Row {
     /// The settings of the site.
     Site(Site),
@@ -329,4 +459,22 @@ pub enum Row {
     Block(Block),
     /// A session.
     Session(Session),
+}
+
+impl Drop for Row {
+    fn drop(self) {
+        match self {
+            Row::Site(_) => {}
+            Row::Seq(_) => {}
+            Row::NodeType(_) => {}
+            Row::Role(_) => {}
+            Row::User(_) => {}
+            Row::Term(_) => {}
+            Row::Node(_) => {}
+            Row::Menu(_) => {}
+            Row::Listing(_) => {}
+            Row::Block(_) => {}
+            Row::Session(_) => {}
+        }
+    }
 }

@@ -10,9 +10,15 @@ use std::cmp::Ordering;
 use std::marker::Model;
 
 /// A text of a row: bytes, mostly UTF-8 by the rules of the row that it stands in.
-#[derive(Drop, Debug)]
+#[derive(Debug)]
 pub struct Text {
     bytes: Vec<u8>,
+}
+
+impl Drop for Text {
+    fn drop(self) {
+        let Text { bytes: _ } = self;
+    }
 }
 
 impl Model for Text {
@@ -35,7 +41,8 @@ impl Text {
     pub fn into_vec(self) -> Vec<u8>
         ensures { result.items ≡ self }
     {
-        self.bytes
+        let Text { bytes } = self;
+        bytes
     }
 
     /// A text of a copy of these bytes. `Err` only where memory is wanting.
@@ -102,9 +109,14 @@ impl Ord for Text {
 }
 
 /// A list in a row.
-#[derive(Drop)]
 pub struct Items<T: Drop> {
     items: Vec<T>,
+}
+
+impl<T: Drop> Drop for Items<T> {
+    fn drop(self) {
+        let Items { items: _ } = self;
+    }
 }
 
 impl<T: Drop> Model for Items<T> {
@@ -127,7 +139,8 @@ impl<T: Drop> Items<T> {
     pub fn into_vec(self) -> Vec<T>
         ensures { result.items ≡ self }
     {
-        self.items
+        let Items { items } = self;
+        items
     }
 
     /// An empty list. It takes no memory.

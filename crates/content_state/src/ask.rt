@@ -4,7 +4,7 @@ use cacheability::Name;
 use content_rows::Text;
 
 /// What a request asks for.
-#[derive(Drop, Debug)]
+#[derive(Debug)]
 pub struct Ask {
     /// The whole target, as it was sent (RFC 9112, section 3.2).
     pub target: Text,
@@ -14,6 +14,17 @@ pub struct Ask {
     pub query: Text,
     /// The token of the session cookie, where one was sent (RFC 6265, section 4.2).
     pub cookie: Option<Name>,
+}
+
+impl Drop for Ask {
+    fn drop(self) {
+        let Ask {
+            target: _,
+            path: _,
+            query: _,
+            cookie: _,
+        } = self;
+    }
 }
 
 /// Who views: a user by its id, 0 for nobody, and the live session by which the user is known.

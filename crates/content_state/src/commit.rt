@@ -6,10 +6,15 @@ use std::marker::Model;
 use std::sync::Arc;
 
 /// One cell, and the row that it gets; none removes the row. Contracts see the row, and not who shares it.
-#[derive(Drop)]
 pub struct Write {
     pub cell: Cell,
     pub row: Option<Arc<Row>>,
+}
+
+impl Drop for Write {
+    fn drop(self) {
+        let Write { cell: _, row: _ } = self;
+    }
 }
 
 impl Model for Write {
@@ -24,9 +29,18 @@ impl Model for Write {
 
 /// An accepted edit: its writes, to distinct cells, the tags that it invalidates besides, and the number of the pass
 /// that made it.
-#[derive(Drop)]
 pub struct Commit {
     pub writes: Items<Write>,
     pub extra: Items<Tag>,
     pub pass: u32,
+}
+
+impl Drop for Commit {
+    fn drop(self) {
+        let Commit {
+            writes: _,
+            extra: _,
+            pass: _,
+        } = self;
+    }
 }

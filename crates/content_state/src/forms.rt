@@ -40,9 +40,14 @@ pub enum Named {
 }
 
 /// The router of the fixed forms.
-#[derive(Drop)]
 pub struct Forms {
     router: Router<Form>,
+}
+
+impl Drop for Forms {
+    fn drop(self) {
+        let Forms { router: _ } = self;
+    }
 }
 
 impl Model for Forms {

@@ -15,9 +15,14 @@ use std::marker::Model;
 use std::sync::Arc;
 
 /// A row that several states may share, which contracts see as the row.
-#[derive(Drop)]
 struct Shared {
     row: Arc<Row>,
+}
+
+impl Drop for Shared {
+    fn drop(self) {
+        let Shared { row: _ } = self;
+    }
 }
 
 impl Model for Shared {
@@ -27,6 +32,15 @@ impl Model for Shared {
     ghost Value = { RowValue };
 
     ghost view = { λ s. arc_value s.row };
+}
+
+impl Shared {
+    fn into_row(self) -> Arc<Row>
+        ensures { arc_value result ≡ self }
+    {
+        let Shared { row } = self;
+        row
+    }
 }
 
 impl Clone for Shared {
@@ -41,9 +55,14 @@ impl Clone for Shared {
 
 /// The rows of a state: a finite map from cells to rows, which contracts see as the list of its pairs in cell order.
 /// Several states may share a row.
-#[derive(Drop)]
 pub struct Rows {
     map: BTreeMap<Cell, Shared>,
+}
+
+impl Drop for Rows {
+    fn drop(self) {
+        let Rows { map: _ } = self;
+    }
 }
 
 impl Model for Rows {
@@ -131,7 +150,7 @@ impl Rows {
             Err(refused) => {
                 let (cell, shared) = refused.value;
                 Err(AllocFailed {
-                    value: (cell, shared.row),
+                    value: (cell, shared.into_row()),
                 })
             }
         }
@@ -143,7 +162,7 @@ impl Rows {
         ensures row { option_map (λ r. arc_value r) result ≡ row_at self.old cell.now }
     {
         match self.map.remove(cell) {
-            Some(shared) => Some(shared.row),
+            Some(shared) => Some(shared.into_row()),
             None => None,
         }
     }

@@ -24,7 +24,6 @@ const GREATEST_NUMBER: u64 = 4_611_686_018_427_387_904;
 
 /// A state of a site: its rows, how often each tag was invalidated, and its number, which each
 /// accepted edit raises by one.
-#[derive(Drop)]
 pub struct State {
     // The fixed forms of paths, the same in every state. They stand first: as the last field they lie too deep for the
     // search that shows that states go between threads.
@@ -32,6 +31,17 @@ pub struct State {
     rows: Rows,
     counts: Counts,
     number: u64,
+}
+
+impl Drop for State {
+    fn drop(self) {
+        let State {
+            forms: _,
+            rows: _,
+            counts: _,
+            number: _,
+        } = self;
+    }
 }
 
 impl Model for State {
@@ -174,11 +184,20 @@ impl State {
             Ok(Some(fault)) => Refusal::NoSite(fault),
             Err(_) => Refusal::OutOfMemory,
         };
-        Err(Refused {
-            rows: state.rows,
-            counts: state.counts,
-            why,
-        })
+        Err(state.refused(why))
+    }
+
+    /// The parts, handed back with why they are no state.
+    fn refused(self, why: Refusal) -> Refused
+        ensures { result ≡ record { rows = self.rows; counts = self.counts; why = why } }
+    {
+        let State {
+            rows,
+            counts,
+            number: _,
+            forms: _,
+        } = self;
+        Refused { rows, counts, why }
     }
 
     /// Why the state is no site, if it is none: the first cell that breaks a rule of sites, or else the number.

@@ -39,11 +39,20 @@ enum Subject {
 
 /// The paths of edits, by method. It is made once for many requests. There is only one such value, so contracts see nothing
 /// of it.
-#[derive(Drop)]
 pub struct EditPaths {
     posts: Router<Subject>,
     patches: Router<Subject>,
     deletes: Router<Subject>,
+}
+
+impl Drop for EditPaths {
+    fn drop(self) {
+        let EditPaths {
+            posts: _,
+            patches: _,
+            deletes: _,
+        } = self;
+    }
 }
 
 impl Model for EditPaths {

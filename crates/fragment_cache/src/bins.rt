@@ -27,12 +27,22 @@ use std::sync::Arc;
 /// The three bins, each of bounded size and in the order of use, and how many keys full ones dropped. Contracts see them as
 /// lists, the most recently used first, of what is kept, wherever it lies.
 /// <https://www.drupal.org/docs/drupal-apis/cache-api/cache-api>
-#[derive(Drop)]
 pub struct Bins {
     fragments: LruCache<Key, Kept>,
     dynamic: LruCache<Key, Kept>,
     anonymous: LruCache<Key, Kept>,
     dropped: u64,
+}
+
+impl Drop for Bins {
+    fn drop(self) {
+        let Bins {
+            fragments: _,
+            dynamic: _,
+            anonymous: _,
+            dropped: _,
+        } = self;
+    }
 }
 
 impl Model for Bins {

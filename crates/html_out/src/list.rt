@@ -11,9 +11,14 @@ use std::marker::Model;
 use std::sync::Arc;
 
 /// Bytes and holes, in order. A clause sees the list of its parts.
-#[derive(Drop)]
 pub struct Segments<T: Drop> {
     segments: Vec<Segment<T>>,
+}
+
+impl<T: Drop> Drop for Segments<T> {
+    fn drop(self) {
+        let Segments { segments: _ } = self;
+    }
 }
 
 impl<T: Drop> Model for Segments<T> {

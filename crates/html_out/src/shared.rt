@@ -4,9 +4,14 @@ ghost use Rattle.std.specs.Prelude.{◌≡◌, ◌==◌, IfOk, length};
 use std::marker::Model;
 
 /// Bytes that nothing changes any more, as a piece of a page. They are shared by `Arc`.
-#[derive(Drop)]
 pub struct Bytes {
     bytes: Vec<u8>,
+}
+
+impl Drop for Bytes {
+    fn drop(self) {
+        let Bytes { bytes: _ } = self;
+    }
 }
 
 impl Model for Bytes {

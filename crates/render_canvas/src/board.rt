@@ -14,11 +14,20 @@ use std::sync::Arc;
 
 /// What is shown, under way, which contracts see as the list of its pieces: finished segments, and the bytes behind
 /// them.
-#[derive(Drop)]
 pub struct Board {
     alloc: Global,
     segments: Segments<Hole>,
     text: Vec<u8>,
+}
+
+impl Drop for Board {
+    fn drop(self) {
+        let Board {
+            alloc: _,
+            segments: _,
+            text: _,
+        } = self;
+    }
 }
 
 impl Model for Board {

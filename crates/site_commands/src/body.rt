@@ -5,7 +5,6 @@ use cacheability::Name;
 use content_rows::{FieldValue, Grant, GrantRow, Items, Text};
 
 /// A node to be made.
-#[derive(Drop)]
 pub struct NewNode {
     /// When it was made, in seconds since 1970; now where it isn't said.
     pub created: Option<u64>,
@@ -33,8 +32,26 @@ pub struct NewNode {
     pub uuid: Text,
 }
 
+impl Drop for NewNode {
+    fn drop(self) {
+        let NewNode {
+            created: _,
+            fields: _,
+            grants: _,
+            path: _,
+            promote: _,
+            refs: _,
+            status: _,
+            sticky: _,
+            terms: _,
+            title: _,
+            uid: _,
+            uuid: _,
+        } = self;
+    }
+}
+
 /// What is to become of the value of a node's field.
-#[derive(Drop)]
 pub struct FieldChange {
     /// The field's machine name.
     pub name: Name,
@@ -42,8 +59,13 @@ pub struct FieldChange {
     pub value: Option<Text>,
 }
 
+impl Drop for FieldChange {
+    fn drop(self) {
+        let FieldChange { name: _, value: _ } = self;
+    }
+}
+
 /// What is to change of a node; what isn't said stays.
-#[derive(Drop)]
 pub struct NodePatch {
     /// When it was made, in seconds since 1970.
     pub created: Option<u64>,
@@ -71,8 +93,26 @@ pub struct NodePatch {
     pub vid: u32,
 }
 
+impl Drop for NodePatch {
+    fn drop(self) {
+        let NodePatch {
+            created: _,
+            fields: _,
+            grants: _,
+            path: _,
+            promote: _,
+            refs: _,
+            status: _,
+            sticky: _,
+            terms: _,
+            title: _,
+            uid: _,
+            vid: _,
+        } = self;
+    }
+}
+
 /// A term to be made.
-#[derive(Drop)]
 pub struct NewTerm {
     /// What it means.
     pub description: Text,
@@ -84,8 +124,18 @@ pub struct NewTerm {
     pub uuid: Text,
 }
 
+impl Drop for NewTerm {
+    fn drop(self) {
+        let NewTerm {
+            description: _,
+            name: _,
+            status: _,
+            uuid: _,
+        } = self;
+    }
+}
+
 /// What is to change of a term; what isn't said stays.
-#[derive(Drop)]
 pub struct TermPatch {
     /// What it means.
     pub description: Option<Text>,
@@ -95,8 +145,17 @@ pub struct TermPatch {
     pub status: Option<bool>,
 }
 
+impl Drop for TermPatch {
+    fn drop(self) {
+        let TermPatch {
+            description: _,
+            name: _,
+            status: _,
+        } = self;
+    }
+}
+
 /// A user to be made.
-#[derive(Drop)]
 pub struct NewUser {
     /// The grants that it holds.
     pub grants: Items<Grant>,
@@ -112,8 +171,20 @@ pub struct NewUser {
     pub uuid: Text,
 }
 
+impl Drop for NewUser {
+    fn drop(self) {
+        let NewUser {
+            grants: _,
+            name: _,
+            pass: _,
+            roles: _,
+            status: _,
+            uuid: _,
+        } = self;
+    }
+}
+
 /// What is to change of a user; what isn't said stays.
-#[derive(Drop)]
 pub struct UserPatch {
     /// The grants that it holds.
     pub grants: Option<Items<Grant>>,
@@ -125,4 +196,16 @@ pub struct UserPatch {
     pub roles: Option<Items<Name>>,
     /// Whether it is active.
     pub status: Option<bool>,
+}
+
+impl Drop for UserPatch {
+    fn drop(self) {
+        let UserPatch {
+            grants: _,
+            name: _,
+            pass: _,
+            roles: _,
+            status: _,
+        } = self;
+    }
 }

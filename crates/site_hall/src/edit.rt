@@ -5,9 +5,14 @@ use std::marker::Model;
 use std::sync::Arc;
 
 /// An accepted edit that several may share, which contracts see as the edit.
-#[derive(Drop)]
 pub(crate) struct SharedEdit {
     pub(crate) commit: Arc<Commit>,
+}
+
+impl Drop for SharedEdit {
+    fn drop(self) {
+        let SharedEdit { commit: _ } = self;
+    }
 }
 
 impl Model for SharedEdit {

@@ -32,12 +32,22 @@ use std::sync::Arc;
 /// The hall of a site: its edits are judged on the newest state, kept by the keeper of the rows, and then published, one
 /// after the other. Contracts see the state that was loaded, the edits that were published since, an edit that the keeper
 /// failed to keep, or kept and didn't say so, and what the keeper tells.
-#[derive(Drop)]
 pub struct Hall<K: Keeper> {
     log: Log,
     pending: Option<Made>,
     stock: Stock,
     keeper: K,
+}
+
+impl<K: Keeper + Drop> Drop for Hall<K> {
+    fn drop(self) {
+        let Hall {
+            log: _,
+            pending: _,
+            stock: _,
+            keeper: _,
+        } = self;
+    }
 }
 
 impl<K: Keeper> Model for Hall<K> {

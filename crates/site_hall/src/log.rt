@@ -15,11 +15,20 @@ use std::sync::Arc;
 const LIMIT: usize = 1_000_000;
 
 /// The state that was loaded, the edits that were published since, and the state that they make of it.
-#[derive(Drop)]
 pub(crate) struct Log {
     base: Arc<State>,
     edits: Vec<SharedEdit>,
     newest: Arc<State>,
+}
+
+impl Drop for Log {
+    fn drop(self) {
+        let Log {
+            base: _,
+            edits: _,
+            newest: _,
+        } = self;
+    }
 }
 
 impl Model for Log {

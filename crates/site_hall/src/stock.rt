@@ -49,10 +49,15 @@ fn room_for(count: usize) -> NonZeroUsize
 }
 
 /// What is kept of pages, and how often it was looked for, found and kept.
-#[derive(Drop)]
 pub(crate) struct Stock {
     bins: Bins,
     tally: Tally,
+}
+
+impl Drop for Stock {
+    fn drop(self) {
+        let Stock { bins: _, tally: _ } = self;
+    }
 }
 
 impl Model for Stock {

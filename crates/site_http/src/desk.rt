@@ -5,10 +5,15 @@ use edit_paths::EditPaths;
 use std::alloc::{AllocError, Global};
 
 /// What is made once and serves one connection after the other: the routers of the paths of edits, and what a connection reads into.
-#[derive(Drop)]
 pub struct Desk {
     pub paths: EditPaths,
     pub inbox: Inbox,
+}
+
+impl Drop for Desk {
+    fn drop(self) {
+        let Desk { paths: _, inbox: _ } = self;
+    }
 }
 
 impl Desk {

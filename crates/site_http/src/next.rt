@@ -33,13 +33,23 @@ const PIECE: usize = 16_384;
 
 /// What a connection reads into: the bytes that came and were not taken yet, which is all that contracts see of it; room for
 /// what comes next; and room for the places of a head's fields.
-#[derive(Drop)]
 pub struct Inbox {
     bytes: Vec<u8>,
     /// How many of the bytes were taken. They are let go where more is read, so that requests in one piece move nothing.
     start: usize,
     piece: Vec<u8>,
     room: HeadRoom,
+}
+
+impl Drop for Inbox {
+    fn drop(self) {
+        let Inbox {
+            bytes: _,
+            start: _,
+            piece: _,
+            room: _,
+        } = self;
+    }
 }
 
 impl Model for Inbox {

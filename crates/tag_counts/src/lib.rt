@@ -36,9 +36,15 @@ impl<T: Drop> From<AllocFailed<T>> for BumpFault {
 /// How often each tag was invalidated: a finite map from tags to counts, which contracts see as the
 /// list of its pairs in the order of the tags' texts. The count of an absent tag is 0.
 /// <https://www.drupal.org/docs/drupal-apis/cache-api/cache-tags>
-#[derive(Drop, Debug)]
+#[derive(Debug)]
 pub struct Counts {
     table: HashMap<Key, u64>,
+}
+
+impl Drop for Counts {
+    fn drop(self) {
+        let Counts { table: _ } = self;
+    }
 }
 
 impl Model for Counts {
