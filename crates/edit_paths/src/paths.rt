@@ -1,5 +1,5 @@
 //! The paths of edits.
-ghost use Rattle.std.specs.Prelude.{◌≡◌, if◌then◌else◌, IfOk, OnOk, codes};
+ghost use Rattle.std.specs.Prelude.{◌≡◌, [], if◌then◌else◌, OnOk, codes};
 ghost use Rattle.std.specs.List.{list_any};
 ghost use Rattle.std.specs.Option.{option_map};
 ghost use Rattle.content_rows.specs.IdText.{id_of};
@@ -69,11 +69,17 @@ impl Model for EditPaths {
 impl EditPaths {
     /// The paths of edits. `Err` only where memory is wanting.
     pub fn new(alloc: Global) -> Result<EditPaths, AllocError> {
-        Ok(EditPaths {
-            posts: post_router(alloc)?,
-            patches: patch_router(alloc)?,
-            deletes: delete_router(alloc)?,
-        })
+        let mut posts = Router::new(alloc);
+        let mut patches = Router::new(alloc);
+        let mut deletes = Router::new(alloc);
+        match add_all(&mut posts, &mut patches, &mut deletes) {
+            Ok(()) => Ok(EditPaths {
+                posts,
+                patches,
+                deletes,
+            }),
+            Err(error) => Err(error),
+        }
     }
 
     /// The edit that a method and a path name. No other method or path pairs with an edit, nor does a path that is no
@@ -254,16 +260,33 @@ fn has_slash(text: &[u8]) -> bool
     text.iter().any(|&byte| byte == b'/')
 }
 
-/// The router of the paths of a POST.
-#[tactic(auto, unfolding(crate::specs::Routes::post_rows))]
-fn post_router(alloc: Global) -> Result<Router<Subject>, AllocError>
-    ensures { IfOk result (λ router. router ≡ post_rows) }
+/// Adds all routes. The routers are lent, so that they end at one place where memory is wanting.
+fn add_all(
+    posts: &mut Router<Subject>,
+    patches: &mut Router<Subject>,
+    deletes: &mut Router<Subject>,
+) -> Result<(), AllocError>
+    requires { (posts.old ≡ []) × (patches.old ≡ []) × (deletes.old ≡ []) }
+    ensures posts { OnOk result (posts.new ≡ post_rows) }
+    ensures patches { OnOk result (patches.new ≡ patch_rows) }
+    ensures deletes { OnOk result (deletes.new ≡ delete_rows) }
 {
-    let mut router = Router::new(alloc);
-    add_content(&mut router)?;
-    add_config(&mut router)?;
-    add_actions(&mut router)?;
-    Ok(router)
+    add_posts(posts)?;
+    add_patches(patches)?;
+    add_deletes(deletes)?;
+    Ok(())
+}
+
+/// Adds the paths of a POST.
+#[tactic(auto, unfolding(crate::specs::Routes::post_rows))]
+fn add_posts(router: &mut Router<Subject>) -> Result<(), AllocError>
+    requires { router.old ≡ [] }
+    ensures { OnOk result (router.new ≡ post_rows) }
+{
+    add_content(router)?;
+    add_config(router)?;
+    add_actions(router)?;
+    Ok(())
 }
 
 /// Adds the routes by which content is made.
@@ -294,28 +317,28 @@ fn add_actions(router: &mut Router<Subject>) -> Result<(), AllocError>
     Ok(())
 }
 
-/// The router of the paths of a PATCH.
+/// Adds the paths of a PATCH.
 #[tactic(auto, unfolding(crate::specs::Routes::patch_rows))]
-fn patch_router(alloc: Global) -> Result<Router<Subject>, AllocError>
-    ensures { IfOk result (λ router. router ≡ patch_rows) }
+fn add_patches(router: &mut Router<Subject>) -> Result<(), AllocError>
+    requires { router.old ≡ [] }
+    ensures { OnOk result (router.new ≡ patch_rows) }
 {
-    let mut router = Router::new(alloc);
-    add_route(&mut router, "/node/{n}", Subject::Node)?;
-    add_route(&mut router, "/taxonomy/term/{t}", Subject::Term)?;
-    add_route(&mut router, "/user/{u}", Subject::User)?;
-    Ok(router)
+    add_route(router, "/node/{n}", Subject::Node)?;
+    add_route(router, "/taxonomy/term/{t}", Subject::Term)?;
+    add_route(router, "/user/{u}", Subject::User)?;
+    Ok(())
 }
 
-/// The router of the paths of a DELETE.
+/// Adds the paths of a DELETE.
 #[tactic(auto, unfolding(crate::specs::Routes::delete_rows))]
-fn delete_router(alloc: Global) -> Result<Router<Subject>, AllocError>
-    ensures { IfOk result (λ router. router ≡ delete_rows) }
+fn add_deletes(router: &mut Router<Subject>) -> Result<(), AllocError>
+    requires { router.old ≡ [] }
+    ensures { OnOk result (router.new ≡ delete_rows) }
 {
-    let mut router = Router::new(alloc);
-    add_route(&mut router, "/node/{n}", Subject::Node)?;
-    add_route(&mut router, "/taxonomy/term/{t}", Subject::Term)?;
-    add_config(&mut router)?;
-    Ok(router)
+    add_route(router, "/node/{n}", Subject::Node)?;
+    add_route(router, "/taxonomy/term/{t}", Subject::Term)?;
+    add_config(router)?;
+    Ok(())
 }
 
 /// Adds the routes of the rows of configuration.

@@ -4,6 +4,7 @@
 
 mod closing;
 mod guest;
+mod home;
 mod kinds;
 mod pass;
 mod rules;
@@ -13,6 +14,7 @@ mod workers;
 
 pub use closing::Unclosed;
 pub use guest::Guest;
+pub use home::Home;
 pub use pass::Pass;
 pub use rules::Room;
 pub use site::Site;

@@ -75,11 +75,11 @@ impl Pass {
         ensures state { IfOk result (λ state. arc_value state ≡ replay self.new.note.opened.loaded.base self.new.note.seen) }
     {
         let badge = mem::replace(&mut self.seat, Badge::blank());
-        let (seat, hall) = out(rt, room, badge);
-        let before = hall.len();
-        let state = hall.snapshot(alloc);
-        self.faults = hall.faults();
-        self.seat = back_after(room, seat, hall, before, false);
+        let (seat, home) = out(rt, room, badge);
+        let before = home.hall.len();
+        let state = home.hall.snapshot(alloc);
+        self.faults = home.hall.faults();
+        self.seat = back_after(room, seat, home, before, false);
         state
     }
 
@@ -98,12 +98,12 @@ impl Pass {
         ensures sound { IfOk result (λ found. IsSoundFound meaning self.new.note.opened.loaded.base self.new.note.seen key.now found) }
     {
         let badge = mem::replace(&mut self.seat, Badge::blank());
-        let (seat, mut hall) = out(rt, room, badge);
-        let before = hall.len();
-        let found = hall.look(alloc, bin, key);
+        let (seat, mut home) = out(rt, room, badge);
+        let before = home.hall.len();
+        let found = home.hall.look(alloc, bin, key);
         let deed = looked(&found);
-        self.faults = hall.faults();
-        self.seat = back_from(room, seat, hall, before, deed);
+        self.faults = home.hall.faults();
+        self.seat = back_from(room, seat, home, before, deed);
         found
     }
 
@@ -123,12 +123,12 @@ impl Pass {
         ensures looks { Looks (counts_of_keep result) self.old.note self.new.note }
     {
         let badge = mem::replace(&mut self.seat, Badge::blank());
-        let (seat, mut hall) = out(rt, room, badge);
-        let before = hall.len();
-        let answer = kept_in(&mut hall, alloc, bin, key, kept);
+        let (seat, mut home) = out(rt, room, badge);
+        let before = home.hall.len();
+        let answer = kept_in(&mut home.hall, alloc, bin, key, kept);
         let deed = deed_of_keep(&answer);
-        self.faults = hall.faults();
-        self.seat = back_from(room, seat, hall, before, deed);
+        self.faults = home.hall.faults();
+        self.seat = back_from(room, seat, home, before, deed);
         answer
     }
 
@@ -150,11 +150,13 @@ impl Pass {
         ensures commits { Commits result self.old.note self.new.note ask.now (option_copied csrf.entry) command.now now }
     {
         let badge = mem::replace(&mut self.seat, Badge::blank());
-        let (seat, mut hall) = out(rt, room, badge);
-        let before = hall.len();
-        let (answer, hands) = hall.commit_and_tell(alloc, ask, csrf, command, now, self.number);
-        self.faults = hall.faults();
-        self.seat = back_after(room, seat, hall, before, hands);
+        let (seat, mut home) = out(rt, room, badge);
+        let before = home.hall.len();
+        let (answer, hands) = home
+            .hall
+            .commit_and_tell(alloc, ask, csrf, command, now, self.number);
+        self.faults = home.hall.faults();
+        self.seat = back_after(room, seat, home, before, hands);
         answer
     }
 }

@@ -3,27 +3,27 @@ ghost use Rattle.turn_rule.specs.Rule.{KeepsRule, unopened};
 ghost use Rattle.turn_rule.specs.Steps.{spent, left_of, right_of, joined, Opens, TakesOut, Follows, GivesBack, Draws, Meets};
 ghost use Rattle.site_turn.specs.Views.{noted_in};
 
+use crate::home::Home;
 use crate::kinds::Kind;
 use atomic_table::{Join, Play, Seat, Shared, Split, Table, TableRule};
-use site_hall::Hall;
 use site_keeper::Keeper;
 use std::alloc::Global;
 use std::marker::PhantomData;
 use turn_rule::Note;
 
 /// The table of a site: its first word is the length of the hall's log, the second is 0 where the hall lies in the slot.
-pub(crate) type Desk<K> = Table<Option<Hall<K>>, Note, (), TurnRule, Global>;
+pub(crate) type Desk<K> = Table<Option<Home<K>>, Note, (), TurnRule, Global>;
 
 /// What the threads of a site share.
-pub type Room<K> = Shared<Option<Hall<K>>, Note, (), TurnRule>;
+pub type Room<K> = Shared<Option<Home<K>>, Note, (), TurnRule>;
 
 /// A seat at the table.
-pub(crate) type Place<K> = Seat<Option<Hall<K>>, Note>;
+pub(crate) type Place<K> = Seat<Option<Home<K>>, Note>;
 
 /// The rule of turns.
 pub struct TurnRule;
 
-impl<K: Keeper> TableRule<Option<Hall<K>>, Note, ()> for TurnRule {
+impl<K: Keeper> TableRule<Option<Home<K>>, Note, ()> for TurnRule {
     ghost holds = { λ _ s. KeepsRule noted_in s };
 
     ghost first = { λ _. unopened };
@@ -32,14 +32,14 @@ impl<K: Keeper> TableRule<Option<Hall<K>>, Note, ()> for TurnRule {
 /// The first step, which opens the site.
 pub(crate) struct Opening;
 
-impl<K: Keeper> Play<Option<Hall<K>>, Note> for Opening {
+impl<K: Keeper> Play<Option<Home<K>>, Note> for Opening {
     ghost then = { λ step old _ new. Opens noted_in step.said old new };
 }
 
 /// The hall goes out with a seat, where it is there.
 pub(crate) struct Taking;
 
-impl<K: Keeper> Play<Option<Hall<K>>, Note> for Taking {
+impl<K: Keeper> Play<Option<Home<K>>, Note> for Taking {
     ghost then = { λ _ old found new. TakesOut noted_in old found new };
 }
 
@@ -48,28 +48,28 @@ pub(crate) struct Following<T: Kind> {
     kind: PhantomData<T>,
 }
 
-impl<T: Kind, K: Keeper> Play<Option<Hall<K>>, Note> for Following<T> {
+impl<T: Kind, K: Keeper> Play<Option<Home<K>>, Note> for Following<T> {
     ghost then = { λ _ old _ new. Follows noted_in T.counts T.hands old new };
 }
 
 /// The hall comes back into the slot.
 pub(crate) struct Giving;
 
-impl<K: Keeper> Play<Option<Hall<K>>, Note> for Giving {
+impl<K: Keeper> Play<Option<Home<K>>, Note> for Giving {
     ghost then = { λ _ old _ new. GivesBack old new };
 }
 
 /// A new pass is drawn.
 pub(crate) struct Drawing;
 
-impl<K: Keeper> Play<Option<Hall<K>>, Note> for Drawing {
+impl<K: Keeper> Play<Option<Home<K>>, Note> for Drawing {
     ghost then = { λ _ old _ new. Draws old new };
 }
 
 /// Two passes meet.
 pub(crate) struct Meeting;
 
-impl<K: Keeper> Play<Option<Hall<K>>, Note> for Meeting {
+impl<K: Keeper> Play<Option<Home<K>>, Note> for Meeting {
     ghost then = { λ _ old _ new. Meets old new };
 }
 

@@ -5,6 +5,7 @@ ghost use Rattle.turn_rule.specs.Rule.{unopened};
 ghost use Rattle.turn_rule.specs.Steps.{founding, new_pass, longer, seeing};
 ghost use Rattle.site_turn.specs.Views.{IsRoom, noted};
 
+use crate::home::Home;
 use crate::pass::Pass;
 use crate::rules::{Desk, Drawing, Giving, Meeting, Opening, Place, Room, Seating};
 use atomic_table::{Badge, Table};
@@ -42,22 +43,23 @@ impl<K: Keeper> Site<K> {
         ensures opened { IfOk result (λ site. site.founder ≡ record { made = 0; opened = noted hall }) }
         ensures back { IfErr result (λ back. back ≡ hall) }
     {
+        let home = Home::new(alloc, hall)?;
         match Table::vacant(alloc, &[0, 1], 1, &()) {
-            Ok((table, seat)) => Ok(Site::opened(table, seat, hall)),
-            Err(_) => Err(hall),
+            Ok((table, seat)) => Ok(Site::opened(table, seat, home)),
+            Err(_) => Err(home.into_hall()),
         }
     }
 
     /// Opens the site with the hall, at the table's first seat.
-    fn opened(table: Desk<K>, mut seat: Place<K>, hall: Hall<K>) -> Site<K>
+    fn opened(table: Desk<K>, mut seat: Place<K>, hall: Home<K>) -> Site<K>
         requires none { hall.pending ≡ None }
         requires room { (seat.table_id ≡ table.shared.table_id) × IsRoom table.shared.table_id }
         requires seat { seat.me ≡ (unopened, []) }
         ensures { result.founder ≡ record { made = 0; opened = noted hall } }
     {
-        let length = hall.len() as u64;
-        let faults = hall.faults();
-        let tally = hall.tally();
+        let length = hall.hall.len() as u64;
+        let faults = hall.hall.faults();
+        let tally = hall.hall.tally();
         counts_fit(tally.looks, tally.found, tally.kept);
         let home = Some(hall);
         table

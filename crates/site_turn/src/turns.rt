@@ -6,16 +6,16 @@ ghost use Rattle.site_turn.specs.Views.{IsRoom, noted, first_pass, pass_of};
 ghost use Rattle.site_turn.specs.Turns.{IsOut};
 ghost use Rattle.site_turn.specs.Kinds.{counts_of};
 
+use crate::home::Home;
 use crate::kinds::{Deed, Finds, Hands, Keeps, Kind, Looks, Quiet};
 use crate::rules::{Following, Giving, Place, Room, Taking};
 use atomic_table::Badge;
-use site_hall::Hall;
 use site_keeper::Keeper;
 use std::sync::Wait;
 use turn_rule::Note;
 
 /// Takes the hall out, where nobody has it.
-fn try_take<K: Keeper>(room: &Room<K>, seat: &mut Place<K>) -> Option<Hall<K>>
+fn try_take<K: Keeper>(room: &Room<K>, seat: &mut Place<K>) -> Option<Home<K>>
     requires room { (seat.old.table_id ≡ room.now.table_id) × IsRoom room.now.table_id }
     requires note { (seat.old.me.0.fresh ≡ false) × (seat.old.me.0.hall ≡ None) }
     requires empty { seat.old.me.1 ≡ [] }
@@ -31,7 +31,7 @@ fn try_take<K: Keeper>(room: &Room<K>, seat: &mut Place<K>) -> Option<Hall<K>>
 }
 
 /// Takes the hall out, once nobody else has it. All passes on the seat know it.
-pub(crate) fn take_out<K: Keeper, R: Wait>(rt: &R, room: &Room<K>, seat: &mut Place<K>) -> Hall<K>
+pub(crate) fn take_out<K: Keeper, R: Wait>(rt: &R, room: &Room<K>, seat: &mut Place<K>) -> Home<K>
     requires room { (seat.old.table_id ≡ room.now.table_id) × IsRoom room.now.table_id }
     requires note { (seat.old.me.0.fresh ≡ false) × (seat.old.me.0.hall ≡ None) }
     requires empty { seat.old.me.1 ≡ [] }
@@ -53,7 +53,7 @@ pub(crate) fn out<K: Keeper, R: Wait>(
     rt: &R,
     room: &Room<K>,
     badge: Badge<Note>,
-) -> (Place<K>, Hall<K>)
+) -> (Place<K>, Home<K>)
     requires room { (badge.table_id ≡ room.now.table_id) × IsRoom room.now.table_id }
     requires bears { badge.views ≡ bearing (pass_of badge.views) ∷ [] }
     ensures same { result.0.table_id ≡ badge.table_id }
@@ -69,7 +69,7 @@ pub(crate) fn out<K: Keeper, R: Wait>(
 fn back<T: Kind, K: Keeper>(
     room: &Room<K>,
     mut seat: Place<K>,
-    hall: Hall<K>,
+    hall: Home<K>,
     before: usize,
 ) -> Badge<Note>
     requires room { (seat.table_id ≡ room.now.table_id) × IsRoom room.now.table_id }
@@ -79,7 +79,7 @@ fn back<T: Kind, K: Keeper>(
     ensures knows { Knows (noted hall) (after_turn T.counts T.hands (noted hall) (first_pass seat.me.0.passes)) }
     ensures is_hall { IsHall hall }
 {
-    let length = hall.len();
+    let length = hall.hall.len();
     let slot = room.exchange(&mut seat, 0, Some(hall));
     let None = slot else { unreachable!() };
     room.fetch_add::<Following<T>>(&mut seat, 0, (length - before) as u64);
@@ -92,7 +92,7 @@ fn back<T: Kind, K: Keeper>(
 pub(crate) fn back_after<K: Keeper>(
     room: &Room<K>,
     seat: Place<K>,
-    hall: Hall<K>,
+    hall: Home<K>,
     before: usize,
     hands: bool,
 ) -> Badge<Note>
@@ -114,7 +114,7 @@ pub(crate) fn back_after<K: Keeper>(
 pub(crate) fn back_from<K: Keeper>(
     room: &Room<K>,
     seat: Place<K>,
-    hall: Hall<K>,
+    hall: Home<K>,
     before: usize,
     deed: Deed,
 ) -> Badge<Note>

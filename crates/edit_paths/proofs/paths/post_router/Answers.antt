@@ -1,7 +1,0 @@
-use Rattle.edit_paths.specs.Routes.{post_rows}
-use Rattle.edit_paths.proofs.paths.post_router.Goals as goal
-
-pub returns : goal.returns
-unfolding post_rows
-returns c =
-    rw (c.in_ok-add_actions.ensures, c.in_ok-add_config.ensures, c.in_ok-add_content.ensures, c.new-router.ensures)
