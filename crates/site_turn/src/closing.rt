@@ -98,11 +98,10 @@ impl<K: Keeper + Drop> Site<K> {
     {
         let (table, founder) = self.into_parts();
         let mut seat = founder.into_seat();
-        let home = take_out(rt, &table.shared, &mut seat);
+        let hall = take_out(rt, &table.shared, &mut seat);
         let seat = gather(&table.shared, seat, passes);
         end(table, seat);
-        let hall = home.into_hall();
         let _published = hall.len();
-        hall
+        hall.into_hall()
     }
 }

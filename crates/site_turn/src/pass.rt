@@ -9,8 +9,6 @@ ghost use Rattle.site_turn.specs.Views.{IsRoom};
 ghost use Rattle.cache_entries.specs.Sound.{IsSoundKept, IsSoundFound};
 ghost use Rattle.page_meaning.specs.Meaning.{meaning};
 ghost use Rattle.turn_rule.specs.Steps.{zeros};
-ghost use Rattle.site_hall.specs.Looked.{MayBeKept, KeepsUnder};
-ghost use Rattle.site_hall.specs.Hall.{IsHall};
 ghost use Rattle.site_turn.specs.Turns.{Looks, Commits, counts_of_look, counts_of_keep};
 
 use crate::kinds::{kept as deed_of_keep, looked};
@@ -75,11 +73,11 @@ impl Pass {
         ensures state { IfOk result (λ state. arc_value state ≡ replay self.new.note.opened.loaded.base self.new.note.seen) }
     {
         let badge = mem::replace(&mut self.seat, Badge::blank());
-        let (seat, home) = out(rt, room, badge);
-        let before = home.hall.len();
-        let state = home.hall.snapshot(alloc);
-        self.faults = home.hall.faults();
-        self.seat = back_after(room, seat, home, before, false);
+        let (seat, hall) = out(rt, room, badge);
+        let before = hall.len();
+        let state = hall.snapshot(alloc);
+        self.faults = hall.faults();
+        self.seat = back_after(room, seat, hall, before, false);
         state
     }
 
@@ -98,12 +96,12 @@ impl Pass {
         ensures sound { IfOk result (λ found. IsSoundFound meaning self.new.note.opened.loaded.base self.new.note.seen key.now found) }
     {
         let badge = mem::replace(&mut self.seat, Badge::blank());
-        let (seat, mut home) = out(rt, room, badge);
-        let before = home.hall.len();
-        let found = home.hall.look(alloc, bin, key);
+        let (seat, mut hall) = out(rt, room, badge);
+        let before = hall.len();
+        let found = hall.look(alloc, bin, key);
         let deed = looked(&found);
-        self.faults = home.hall.faults();
-        self.seat = back_from(room, seat, home, before, deed);
+        self.faults = hall.faults();
+        self.seat = back_from(room, seat, hall, before, deed);
         found
     }
 
@@ -123,12 +121,12 @@ impl Pass {
         ensures looks { Looks (counts_of_keep result) self.old.note self.new.note }
     {
         let badge = mem::replace(&mut self.seat, Badge::blank());
-        let (seat, mut home) = out(rt, room, badge);
-        let before = home.hall.len();
-        let answer = kept_in(&mut home.hall, alloc, bin, key, kept);
+        let (seat, mut hall) = out(rt, room, badge);
+        let before = hall.len();
+        let answer = hall.keep(alloc, bin, key, kept);
         let deed = deed_of_keep(&answer);
-        self.faults = home.hall.faults();
-        self.seat = back_from(room, seat, home, before, deed);
+        self.faults = hall.faults();
+        self.seat = back_from(room, seat, hall, before, deed);
         answer
     }
 
@@ -150,31 +148,11 @@ impl Pass {
         ensures commits { Commits result self.old.note self.new.note ask.now (option_copied csrf.entry) command.now now }
     {
         let badge = mem::replace(&mut self.seat, Badge::blank());
-        let (seat, mut home) = out(rt, room, badge);
-        let before = home.hall.len();
-        let (answer, hands) = home
-            .hall
-            .commit_and_tell(alloc, ask, csrf, command, now, self.number);
-        self.faults = home.hall.faults();
-        self.seat = back_after(room, seat, home, before, hands);
+        let (seat, mut hall) = out(rt, room, badge);
+        let before = hall.len();
+        let (answer, hands) = hall.commit_and_tell(alloc, ask, csrf, command, now, self.number);
+        self.faults = hall.faults();
+        self.seat = back_after(room, seat, hall, before, hands);
         answer
-    }
-}
-
-/// Keeps something of pages under a key in a bin of a hall.
-fn kept_in<K: Keeper>(
-    hall: &mut Hall<K>,
-    alloc: Global,
-    bin: Bin,
-    key: Key,
-    kept: Kept,
-) -> Result<(), AllocError>
-    requires { MayBeKept hall.old key kept }
-    ensures keeps { KeepsUnder result hall.old hall.new bin key kept }
-    ensures is_hall { IsHall hall.new }
-{
-    match hall.keep(alloc, bin, key, kept) {
-        Ok(()) => Ok(()),
-        Err(_) => Err(AllocError),
     }
 }

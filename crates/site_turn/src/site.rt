@@ -57,9 +57,9 @@ impl<K: Keeper> Site<K> {
         requires seat { seat.me ≡ (unopened, []) }
         ensures { result.founder ≡ record { made = 0; opened = noted hall } }
     {
-        let length = hall.hall.len() as u64;
-        let faults = hall.hall.faults();
-        let tally = hall.hall.tally();
+        let length = hall.len() as u64;
+        let faults = hall.faults();
+        let tally = hall.tally();
         counts_fit(tally.looks, tally.found, tally.kept);
         let home = Some(hall);
         table

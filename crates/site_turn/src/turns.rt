@@ -79,7 +79,7 @@ fn back<T: Kind, K: Keeper>(
     ensures knows { Knows (noted hall) (after_turn T.counts T.hands (noted hall) (first_pass seat.me.0.passes)) }
     ensures is_hall { IsHall hall }
 {
-    let length = hall.hall.len();
+    let length = hall.len();
     let slot = room.exchange(&mut seat, 0, Some(hall));
     let None = slot else { unreachable!() };
     room.fetch_add::<Following<T>>(&mut seat, 0, (length - before) as u64);

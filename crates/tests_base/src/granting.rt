@@ -57,10 +57,9 @@ fn node(rt: &impl Abort, alloc: Global, published: bool, for_the_club: bool) -> 
 }
 
 fn user(rt: &impl Abort, alloc: Global, numbers: &[(u32, bool)]) -> User {
-    User {
-        grants: Items::from_vec(grants(rt, alloc, numbers)),
-        ..starting::user(alloc)
-    }
+    let mut user = starting::user(alloc);
+    user.grants = Items::from_vec(grants(rt, alloc, numbers));
+    user
 }
 
 fn role(rt: &impl Abort, alloc: Global, numbers: &[(u32, bool)]) -> Role {

@@ -16,15 +16,13 @@ const UNSALTED: &[u8] = b"8798bca71b5739c968fd153b3e0ccace92c58f961b71ee4a3be871
 
 /// A user with this digest, if any, and this salt.
 fn user(rt: &impl Abort, alloc: Global, digest: Option<&[u8]>, salt: &[u8]) -> User {
-    let digest = match digest {
+    let mut user = starting::user(alloc);
+    user.digest = match digest {
         Some(digest) => Some(text(rt, alloc, digest)),
         None => None,
     };
-    User {
-        digest,
-        salt: text(rt, alloc, salt),
-        ..starting::user(alloc)
-    }
+    user.salt = text(rt, alloc, salt);
+    user
 }
 
 #[test]

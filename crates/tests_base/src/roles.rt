@@ -12,10 +12,9 @@ use user_roles::{has, permissions_of, role_names, session_live};
 fn user(rt: &impl Abort, alloc: Global) -> User {
     let writer = name(rt, b"writer");
     let names = [writer, name(rt, b"club"), writer];
-    User {
-        roles: Items::from_vec(Vec::from_slice(alloc, &names).expect(rt, "memory")),
-        ..starting::user(alloc)
-    }
+    let mut user = starting::user(alloc);
+    user.roles = Items::from_vec(Vec::from_slice(alloc, &names).expect(rt, "memory"));
+    user
 }
 
 /// A role of two permissions.

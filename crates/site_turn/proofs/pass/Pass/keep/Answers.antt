@@ -8,31 +8,31 @@ use Rattle.site_turn.proofs.Going.{is_out, went_back}
 use Rattle.site_turn.proofs.Houses.{sound_out}
 use Rattle.site_turn.proofs.pass.Pass.keep.Goals as goal
 
-pub kept_in-answer-requires : goal.kept_in-answer-requires
-kept_in-answer-requires g c =
+pub keep-answer-requires : goal.keep-answer-requires
+keep-answer-requires g c =
     let same = ap (λ b. pass_of b.views) c.replace-badge.ensures.value ∙ ap (λ v. v.note) c.self.view_is in
     sound_out c.args.self.now.note c.out-seat.result.1 c.args.key c.args.kept (subst (Knows (noted c.out-seat.result.1)) same c.out-seat.ensures.knows) c.requires.sound
 
 pub back_from-requires-clause-out : goal.back_from-requires-clause-out
 back_from-requires-clause-out g c =
     let old = c.out-seat.result.1 in
-    let new = c.kept_in-answer.new.hall in
+    let new = c.keep-answer.new.self in
     let pass = pass_of c.replace-badge.result.views in
     let counts = counts_of c.kept-deed.result in
-    let turn = subst (λ m. IsTurn m false pass.number old new) (sym c.kept-deed.ensures) (keep_turn c.kept_in-answer.result pass.number old new c.args.bin c.args.key c.args.kept c.kept_in-answer.ensures.keeps) in
+    let turn = subst (λ m. IsTurn m false pass.number old new) (sym c.kept-deed.ensures) (keep_turn c.keep-answer.result pass.number old new c.args.bin c.args.key c.args.kept c.keep-answer.ensures.keeps) in
     is_out counts false _ pass old new c.len-before.result c.out-seat.ensures.taken turn c.len-before.ensures.len
 
 pub returns-clause-looks : goal.returns-clause-looks
 returns-clause-looks g c =
     let old = c.out-seat.result.1 in
-    let new = c.kept_in-answer.new.hall in
+    let new = c.keep-answer.new.self in
     let pass = pass_of c.self.inside.seat.views in
     let counts = counts_of c.kept-deed.result in
     let same = ap (λ b. pass_of b.views) c.replace-badge.ensures.value in
     let first = ap (λ m. first_pass m.0.passes) c.out-seat.ensures.taken ∙ same in
     let before = subst (Knows (noted old)) same c.out-seat.ensures.knows in
-    let turn = subst (λ m. IsTurn m false pass.number old new) (sym c.kept-deed.ensures) (keep_turn c.kept_in-answer.result pass.number old new c.args.bin c.args.key c.args.kept c.kept_in-answer.ensures.keeps) in
-    subst (λ p. Looks (counts_of_keep c.kept_in-answer.result) p (pass_of c.back_from.result.views)) (ap (λ v. v.note) c.self.view_is)
+    let turn = subst (λ m. IsTurn m false pass.number old new) (sym c.kept-deed.ensures) (keep_turn c.keep-answer.result pass.number old new c.args.bin c.args.key c.args.kept c.keep-answer.ensures.keeps) in
+    subst (λ p. Looks (counts_of_keep c.keep-answer.result) p (pass_of c.back_from.result.views)) (ap (λ v. v.note) c.self.view_is)
     (subst (λ m. Looks m pass (pass_of c.back_from.result.views)) c.kept-deed.ensures (record {
       hall = new;
       is_hall = c.back_from.ensures.is_hall;
