@@ -15,6 +15,7 @@ pub struct Text {
     bytes: Vec<u8>,
 }
 
+// The ends of what holds memory are written out where many crates stand on it: a derived one is proved anew in each of them.
 impl Drop for Text {
     fn drop(self) {
         let Text { bytes: _ } = self;
