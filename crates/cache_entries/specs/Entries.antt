@@ -65,3 +65,7 @@ pub record IsFreshBy (state : State) (values : List ContextValue) (moment : ℕ)
 abbrev pub IsFresh : State → Viewer → Ask → ℕ → Entry → Type 0
 IsFresh state viewer ask moment e =
     IsFreshBy state (map (valued (visit_on state viewer ask moment)) e.cacheability.contexts) moment e
+
+-- Where an entry was made on a state of this number, its sum is that of this state: there is one state of each number in a log.
+abbrev pub HasSumOfNumber : State → Entry → Type 0
+HasSumOfNumber state e = e.made_at ≡ state.number → e.sum ≡ sum_of state.counts e.cacheability.tags

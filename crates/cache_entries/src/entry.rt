@@ -1,9 +1,10 @@
 //! What is kept of pages.
-ghost use Rattle.std.specs.Prelude.{◌≡◌, ◌↔◌, IsTrue, map};
+ghost use Rattle.std.specs.Prelude.{◌≡◌, ◌≤◌, ◌↔◌, IsTrue, map};
+ghost use Rattle.tag_counts.specs.Counts.{sum_of};
 ghost use Rattle.content_state.specs.declared.ask.Ask.{Ask};
 ghost use Rattle.content_state.specs.declared.ask.Viewer.{Viewer};
 ghost use Rattle.cache_contexts.specs.Values.{visit_on, valued};
-ghost use Rattle.cache_entries.specs.Entries.{IsFreshBy, IsFresh};
+ghost use Rattle.cache_entries.specs.Entries.{IsFreshBy, IsFresh, HasSumOfNumber};
 
 use cache_contexts::ContextValue;
 use cacheability::Cacheability;
@@ -61,14 +62,38 @@ pub fn fresh(state: &State, entry: &Entry, values: &[ContextValue], moment: u64)
     is_fresh_by(state, entry, values, moment)
 }
 
+/// Whether an entry that was made on a state of the same log is fresh, as `fresh` tells it. Where the two states have one
+/// number they are one, and the counts, which cost the most of it, aren't summed. It takes no memory.
+/// <https://www.drupal.org/docs/drupal-apis/cache-api/cache-tags>
+pub fn fresh_on_log(state: &State, entry: &Entry, values: &[ContextValue], moment: u64) -> bool
+    requires of_log { HasSumOfNumber state.now entry.now }
+    ensures compared { IsTrue result ↔ IsFreshBy state.now values.now moment entry.now }
+    ensures exact { (viewer : Viewer) (ask : Ask) → values.now ≡ map (valued (visit_on state.now viewer ask moment)) entry.now.cacheability.contexts → IsTrue result ↔ IsFresh state.now viewer ask moment entry.now }
+{
+    is_shown_by(entry, values, moment) && (entry.made_at == state.number() || has_sum(state, entry))
+}
+
 /// Whether an entry is fresh by these values.
 fn is_fresh_by(state: &State, entry: &Entry, values: &[ContextValue], moment: u64) -> bool
     ensures { IsTrue result ↔ IsFreshBy state.now values.now moment entry.now }
 {
+    is_shown_by(entry, values, moment) && has_sum(state, entry)
+}
+
+/// Whether an entry has these values, and the moment is none before that at which it was made and none after its last.
+fn is_shown_by(entry: &Entry, values: &[ContextValue], moment: u64) -> bool
+    ensures { IsTrue result ↔ ((entry.now.values ≡ values.now) × (entry.now.made_moment ≤ moment) × (moment ≤ entry.now.last)) }
+{
     entry.made_moment <= moment
         && moment <= entry.last
-        && entry.sum == state.counts().sum(entry.cacheability.tags())
         && same_values(entry.values.as_slice(), values)
+}
+
+/// Whether the counts of an entry's tags come to its sum.
+fn has_sum(state: &State, entry: &Entry) -> bool
+    ensures { IsTrue result ↔ (entry.now.sum ≡ sum_of state.now.counts entry.now.cacheability.tags) }
+{
+    entry.sum == state.counts().sum(entry.cacheability.tags())
 }
 
 /// Whether contexts with their values are the same.

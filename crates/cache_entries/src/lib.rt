@@ -6,7 +6,7 @@ mod kept;
 mod key;
 mod threads;
 
-pub use entry::{Entry, fresh};
+pub use entry::{Entry, fresh, fresh_on_log};
 pub use kept::{Bin, Found, Kept};
 pub use key::{Key, Subject};
 pub use threads::{

@@ -72,14 +72,12 @@ impl EditPaths {
         let mut posts = Router::new(alloc);
         let mut patches = Router::new(alloc);
         let mut deletes = Router::new(alloc);
-        match add_all(&mut posts, &mut patches, &mut deletes) {
-            Ok(()) => Ok(EditPaths {
-                posts,
-                patches,
-                deletes,
-            }),
-            Err(error) => Err(error),
-        }
+        add_all(&mut posts, &mut patches, &mut deletes)?;
+        Ok(EditPaths {
+            posts,
+            patches,
+            deletes,
+        })
     }
 
     /// The edit that a method and a path name. No other method or path pairs with an edit, nor does a path that is no

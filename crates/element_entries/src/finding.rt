@@ -2,12 +2,12 @@
 ghost use Rattle.std.specs.Prelude.{◌≡◌, ◌↔◌, IfOk, IfSome, IsTrue, None, map};
 ghost use Rattle.std.specs.Arc.{arc_value};
 ghost use Rattle.cache_contexts.specs.Values.{valued};
-ghost use Rattle.cache_entries.specs.Entries.{IsFresh};
+ghost use Rattle.cache_entries.specs.Entries.{IsFresh, HasSumOfNumber};
 ghost use Rattle.element_entries.specs.Keys.{visit};
 
 use crate::reader::Reader;
 use cache_contexts::{ContextValue, values};
-use cache_entries::{Entry, fresh};
+use cache_entries::{Entry, fresh, fresh_on_log};
 use cacheability::Context;
 use std::alloc::{AllocError, Global};
 use std::sync::Arc;
@@ -22,8 +22,8 @@ pub fn is_fresh(alloc: Global, reader: &Reader<'_>, entry: &Entry) -> Result<boo
     Ok(fresh(reader.state, entry, now.as_slice(), reader.moment))
 }
 
-/// Whether an entry is fresh for a reader, where these contexts are known to have these values for it: mostly they are the
-/// entry's, and permissions, which are dear to compute, aren't computed again. `Err` only where memory is wanting.
+/// Whether an entry is fresh for a reader, of whose log it is, where these contexts are known to have these values for it: mostly
+/// they are the entry's, and permissions, which are dear to compute, aren't computed again. `Err` only where memory is wanting.
 fn is_fresh_by(
     alloc: Global,
     reader: &Reader<'_>,
@@ -31,11 +31,12 @@ fn is_fresh_by(
     contexts: &[Context],
     known: &[ContextValue],
 ) -> Result<bool, AllocError>
-    requires { known.now ≡ map (valued (visit reader.now)) contexts.now }
+    requires valued { known.now ≡ map (valued (visit reader.now)) contexts.now }
+    requires of_log { HasSumOfNumber reader.now.state.now entry.now }
     ensures { IfOk result (λ b. IsTrue b ↔ IsFresh reader.now.state.now reader.now.viewer.now reader.now.ask.now reader.now.moment entry.now) }
 {
     if same_contexts(entry.cacheability.contexts(), contexts) {
-        Ok(fresh(reader.state, entry, known, reader.moment))
+        Ok(fresh_on_log(reader.state, entry, known, reader.moment))
     } else {
         is_fresh(alloc, reader, entry)
     }
@@ -48,8 +49,8 @@ fn same_contexts(one: &[Context], two: &[Context]) -> bool
     one == two
 }
 
-/// An entry where it is fresh for a reader, for whom these contexts, by which it was looked for, have these values. `Err` only
-/// where memory is wanting.
+/// An entry of a reader's log where it is fresh for the reader, for whom these contexts, by which it was looked for, have these
+/// values. `Err` only where memory is wanting.
 pub fn if_fresh(
     alloc: Global,
     reader: &Reader<'_>,
@@ -57,7 +58,8 @@ pub fn if_fresh(
     contexts: &[Context],
     known: &[ContextValue],
 ) -> Result<Option<Arc<Entry>>, AllocError>
-    requires { known.now ≡ map (valued (visit reader.now)) contexts.now }
+    requires valued { known.now ≡ map (valued (visit reader.now)) contexts.now }
+    requires of_log { HasSumOfNumber reader.now.state.now (arc_value entry) }
     ensures fresh { IfOk result (λ found. IfSome found (λ e. (arc_value e ≡ arc_value entry) × IsFresh reader.now.state.now reader.now.viewer.now reader.now.ask.now reader.now.moment (arc_value e))) }
     ensures stale { IfOk result (λ found. found ≡ None → IsFresh reader.now.state.now reader.now.viewer.now reader.now.ask.now reader.now.moment (arc_value entry) → ⊥) }
 {

@@ -1,12 +1,14 @@
 -- What was found, and what was made.
-use Rattle.std.proofs.Common.{ℕ, List, [], ◌∷◌, ◌≡◌, sym, ◌∙◌, ap, subst, arith, Option, Some, None, IfSome, inl, inr, map, length, take, length-append}
-use Rattle.std.proofs.lemmas.List.{take-append-le}
+use Rattle.std.proofs.Common.{ℕ, List, [], ◌∷◌, ◌≡◌, ◌+◌, sym, ◌∙◌, ap, subst, arith, Option, Some, None, IfSome, inl, inr, map, length, take, length-append}
+use Rattle.std.proofs.lemmas.List.{take-append-le, length-take-le}
 use Rattle.std.specs.Arc.{arc_value}
 use Rattle.std.specs.declared.sync.Arc.{Arc}
 use Rattle.std.specs.declared.alloc.Global.{Global}
 use Rattle.content_state.specs.declared.element.Fragment.{Fragment}
 use Rattle.content_state.specs.declared.element.Hole.TheVariants.{Meta, Fragment as FragmentHole}
+use Rattle.tag_counts.specs.Counts.{sum_of}
 use Rattle.content_state.specs.State.{State}
+use Rattle.content_state.specs.declared.commit.Commit.{Commit}
 use Rattle.content_state.specs.Replay.{replay}
 use Rattle.content_state.specs.SiteRules.{InOrder}
 use Rattle.content_state.specs.Plan.{Piece, Byte, Place}
@@ -18,8 +20,8 @@ use Rattle.cache_entries.specs.declared.key.Key.{Key}
 use Rattle.cache_entries.specs.declared.key.Subject.{Subject}
 use Rattle.cache_entries.specs.declared.kept.Found.{Found}
 use Rattle.cache_entries.specs.declared.kept.Found.TheVariants as found
-use Rattle.cache_entries.specs.Entries.{IsHere, IsFresh, Has, IsClosed, HasNoParts}
-use Rattle.cache_entries.specs.Sound.{IsSound, IsAskedFor}
+use Rattle.cache_entries.specs.Entries.{IsHere, IsFresh, Has, HasSumOfNumber, IsClosed, HasNoParts}
+use Rattle.cache_entries.specs.Sound.{IsOf, IsSound, IsAskedFor}
 use Rattle.render_canvas.specs.Board.{pieces_of}
 use Rattle.render_array.specs.declared.element.Element.TheVariants as element
 use Rattle.render_array.specs.Shown.{OnlyMeta}
@@ -34,6 +36,7 @@ use Rattle.element_entries.specs.Making.{needs_of, IsEntryOf}
 use Rattle.element_entries.proofs.Entries.{made_on}
 use Rattle.site_house.specs.House.{HouseView, Moves, Stays}
 use Rattle.site_house.specs.Bins.{IsSeenIn, IsSoundIn}
+use Rattle.site_house.proofs.Histories.{replay_number}
 use Rattle.site_house.proofs.Moving.{moves_on}
 use Rattle.kept_pages.specs.Houses.{Steady, Reads, IsMadeFor}
 use Rattle.kept_pages.specs.Joins.{IsWhole}
@@ -67,6 +70,22 @@ fresh_here house r key None was seen is sound reads h = tt
 fresh_here house r key (Some e) was seen is sound reads h =
     fresh_is_shown meaning house.base house.seen key (arc_value e) r.state.now r.viewer.now r.ask.now r.moment reads.seen reads.right
     (subst (IsSound meaning house.base house.seen key) (sym h.0) (subst (IsSoundIn house key) is sound)) h.1
+
+-- there is one state of each number in a log
+one_of_number : (base : State) (log : List Commit) (s t : State) → IsOf base log s → IsOf base log t → s.number ≡ t.number → s ≡ t
+one_of_number base log s t one other same =
+    let taken : length (take one.count log) ≡ one.count = length-take-le one.count log one.within in
+    let taken' : length (take other.count log) ≡ other.count = length-take-le other.count log other.within in
+    let at : s.number ≡ base.number + length (take one.count log) = ap (λ (x : State). x.number) one.state_is ∙ replay_number base (take one.count log) in
+    let at' : t.number ≡ base.number + length (take other.count log) = ap (λ (x : State). x.number) other.state_is ∙ replay_number base (take other.count log) in
+    let counts : one.count ≡ other.count = omega arith in
+    one.state_is ∙ ap (λ (n : ℕ). replay base (take n log)) counts ∙ sym other.state_is
+
+-- what was found has the sum of its state, where that is the one that is read
+pub found_has_sum : (house : HouseView) (r : Reader) (key : Key) (was : Arc Entry Global) (seen : Found) → seen ≡ found.Entry was → IsSoundIn house key seen → Reads house r → HasSumOfNumber r.state.now (arc_value was)
+found_has_sum house r key was seen is sound reads same =
+    let made : IsSound meaning house.base house.seen key (arc_value was) = subst (IsSoundIn house key) is sound in
+    made.made_on.sum ∙ ap (λ (x : State). sum_of x.counts (arc_value was).cacheability.tags) (one_of_number house.base house.seen made.state r.state.now made.of_log reads.seen (sym made.made_on.made_at ∙ same))
 
 -- what was made for a reader may be shown to it, and is fresh
 module _ (r : Reader) (s : Subject) (e : Entry) (made : IsMadeFor r s e) where

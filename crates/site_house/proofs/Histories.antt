@@ -10,7 +10,7 @@ use Rattle.site_house.specs.House.{HouseView, Moves, AreValid, history_of}
 use Rattle.site_house.specs.History.{History, OnLog, longer, log_to, newest, state_of}
 
 -- each edit adds one to the number
-replay_number : (s : State) (log : List Commit) → (replay s log).number ≡ s.number + length log
+pub replay_number : (s : State) (log : List Commit) → (replay s log).number ≡ s.number + length log
 unfolding replay step
 replay_number s [] = omega arith
 replay_number s (c ∷ cs) = let rest = replay_number (step s c) cs in omega arith

@@ -117,7 +117,7 @@ impl<W: Write + Drop> Writing<W> {
     pub fn settle(&mut self) -> Result<(), Failed>
         ensures written { self.new.written ≡ self.old.written }
         ensures settled { OnOk result (self.new.owes_flush ≡ false) }
-        ensures owed { OnErr result (self.old.owes_flush ≡ true) }
+        ensures owed { OnErr result ((self.old.owes_flush ≡ true) × (self.new.owes_flush ≡ true)) }
         ensures cause { OnErr result (Rose self.old.faults self.new.faults) }
         ensures steady { OnOk result (self.new.faults ≡ self.old.faults) }
         ensures never_falls { self.old.faults ≤ self.new.faults }

@@ -1,6 +1,11 @@
-use Rattle.kept_pages.proofs.Entries.{steady_of, reads_on, fresh_here}
+use Rattle.kept_pages.proofs.Entries.{steady_of, reads_on, found_has_sum, fresh_here}
 use Rattle.kept_pages.proofs.Shelves.{entry_seen, redirect_seen, nothing_seen}
 use Rattle.kept_pages.proofs.looking.look_once.Goals as goal
+
+pub if_fresh-requires-clause-of_log : goal.if_fresh-requires-clause-of_log
+if_fresh-requires-clause-of_log g c =
+    found_has_sum _ c.args.reader.now c.args.key.now c.in-Entry.entry c.in_ok-entry.field-0
+    c.in-Entry.is c.in_ok-entry.ensures.sound (reads_on (steady_of c.in_ok-entry.ensures.moves c.in_ok-entry.ensures.stays) c.requires.reads)
 
 pub returns-in_ok-if_fresh-in-Entry-clause-here : goal.returns-in_ok-if_fresh-in-Entry-clause-here
 returns-in_ok-if_fresh-in-Entry-clause-here g c =
