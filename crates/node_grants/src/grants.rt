@@ -7,9 +7,9 @@ ghost use Rattle.content_rows.specs.GrantOrder.{grant_cmp};
 ghost use Rattle.content_rows.specs.Permission.{grants_of as grants_by, grants_of_user, grant_set, everybody as everybody_grant};
 
 use crate::records::all;
+use cacheability::OrderedSet;
 use content_rows::{Grant, Items, Role, User};
 use std::alloc::{AllocError, Global};
-use std::collections::BTreeSet;
 
 /// The grants of a viewer, by the bytes of the realm and then by number, each once: number 0 in the realm `all`,
 /// which everybody has, those of the viewer's row, if there is one, and those of the present ones
@@ -23,11 +23,11 @@ pub fn grants_of(
     ensures same { IfOk result (λ grants. grants ≡ grants_by (option_copied user.entry) (map (λ role. role.now) roles.now)) }
     ensures in_order { IfOk result (λ grants. IsStrictlySortedBy grant_cmp grants) }
 {
-    let mut grants = BTreeSet::new(alloc);
+    let mut grants = OrderedSet::new(alloc);
     grants.insert(everybody())?;
     add_all(&mut grants, grants_in(user))?;
     add_of_roles(&mut grants, roles)?;
-    Ok(Items::from_vec(grants.into_iter().collect(alloc)?))
+    Ok(Items::from_vec(grants.into_vec()))
 }
 
 /// The grant that everybody has.
@@ -51,8 +51,8 @@ fn grants_in(user: Option<&User>) -> &[Grant]
 }
 
 /// Puts these grants into a set. `Err` only where memory is wanting.
-fn add_all(set: &mut BTreeSet<Grant>, grants: &[Grant]) -> Result<(), AllocError>
-    ensures { OnOk result (set.new.keys ≡ fold (insert_key grant_cmp) set.old.keys grants.now) }
+fn add_all(set: &mut OrderedSet<Grant>, grants: &[Grant]) -> Result<(), AllocError>
+    ensures { OnOk result (set.new ≡ fold (insert_key grant_cmp) set.old grants.now) }
 {
     'grants: for grant in grants {
         set.insert(*grant)?;
@@ -61,8 +61,8 @@ fn add_all(set: &mut BTreeSet<Grant>, grants: &[Grant]) -> Result<(), AllocError
 }
 
 /// Puts the grants of these roles into a set. `Err` only where memory is wanting.
-fn add_of_roles(set: &mut BTreeSet<Grant>, roles: &[&Role]) -> Result<(), AllocError>
-    ensures { OnOk result (set.new.keys ≡ fold (insert_key grant_cmp) set.old.keys (flat_map (λ role. role.grants) (map (λ role. role.now) roles.now))) }
+fn add_of_roles(set: &mut OrderedSet<Grant>, roles: &[&Role]) -> Result<(), AllocError>
+    ensures { OnOk result (set.new ≡ fold (insert_key grant_cmp) set.old (flat_map (λ role. role.grants) (map (λ role. role.now) roles.now))) }
 {
     'roles: for role in roles {
         add_all(set, role.grants.as_slice())?;

@@ -77,12 +77,15 @@ fn add_part(out: &mut Vec<u8>, part: &Segment<Hole>, meta: &[u8]) -> Result<(), 
     }
 }
 
+/// More bytes than the line of a library has.
+const LINE_ROOM: usize = 48;
+
 /// The lines of the libraries that were attached, each once, in the order of their names. `Err` only where memory is wanting.
 #[tactic(auto, unfolding(render_array::specs::Shown::meta_text))]
 pub fn meta_text(alloc: Global, attached: &[Library]) -> Result<Vec<u8>, AllocError>
     ensures { IfOk result (λ text. text.items ≡ meta_text attached.now) }
 {
-    let mut text = Vec::new(alloc);
+    let mut text = Vec::with_capacity(alloc, attached.len().saturating_mul(LINE_ROOM))?;
     add_meta(&mut text, attached, Library::Clock)?;
     add_meta(&mut text, attached, Library::Login)?;
     add_meta(&mut text, attached, Library::Menu)?;

@@ -1,6 +1,6 @@
 //! The table that a hall lies in, its rule, and what each kind of step on it tells.
 ghost use Rattle.turn_rule.specs.Rule.{KeepsRule, unopened};
-ghost use Rattle.turn_rule.specs.Steps.{spent, left_of, right_of, joined, Opens, TakesOut, Follows, GivesBack, Draws, Meets};
+ghost use Rattle.turn_rule.specs.Steps.{spent, left_of, right_of, joined, Opens, TakesOut, Marks, Follows, GivesBack, Draws, Meets};
 ghost use Rattle.site_turn.specs.Views.{noted_in};
 
 use crate::home::Home;
@@ -41,6 +41,13 @@ pub(crate) struct Taking;
 
 impl<K: Keeper> Play<Option<Home<K>>, Note> for Taking {
     ghost then = { λ _ old found new. TakesOut noted_in old found new };
+}
+
+/// The gate is marked by a seat that waits.
+pub(crate) struct Marking;
+
+impl<K: Keeper> Play<Option<Home<K>>, Note> for Marking {
+    ghost then = { λ _ old _ new. Marks old new };
 }
 
 /// The first word follows the log, after a turn of this kind.

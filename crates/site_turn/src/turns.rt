@@ -1,5 +1,5 @@
 //! A turn: the seat takes the hall out of the slot, and gives it back.
-ghost use Rattle.std.specs.Prelude.{◌≡◌, [], ◌∷◌, Some, None, IfSome, IfNone, All, false};
+ghost use Rattle.std.specs.Prelude.{◌≡◌, ◌≢◌, [], ◌∷◌, Some, None, IfSome, IfNone, All, false};
 ghost use Rattle.site_hall.specs.Hall.{IsHall};
 ghost use Rattle.turn_rule.specs.Steps.{zeros, bearing, with_hall, after_turn, Knows};
 ghost use Rattle.site_turn.specs.Views.{IsRoom, noted, first_pass, pass_of};
@@ -8,14 +8,21 @@ ghost use Rattle.site_turn.specs.Kinds.{counts_of};
 
 use crate::home::Home;
 use crate::kinds::{Deed, Finds, Hands, Keeps, Kind, Looks, Quiet};
-use crate::rules::{Following, Giving, Place, Room, Taking};
+use crate::rules::{Following, Giving, Marking, Place, Room, Taking};
 use atomic_table::Badge;
 use site_keeper::Keeper;
 use std::sync::Wait;
 use turn_rule::Note;
 
-/// Takes the hall out, where nobody has it.
-fn try_take<K: Keeper>(room: &Room<K>, seat: &mut Place<K>) -> Option<Home<K>>
+/// The gate where a seat has the hall out.
+const TAKEN: u64 = 1;
+
+/// The gate where one has, and another may wait for it: only then is anybody woken when it comes back.
+const AWAITED: u64 = 2;
+
+/// Takes the hall out, where nobody has it, and leaves this in the gate.
+fn try_take<K: Keeper>(room: &Room<K>, seat: &mut Place<K>, gate: u64) -> Option<Home<K>>
+    requires gate { gate ≢ 0 }
     requires room { (seat.old.table_id ≡ room.now.table_id) × IsRoom room.now.table_id }
     requires note { (seat.old.me.0.fresh ≡ false) × (seat.old.me.0.hall ≡ None) }
     requires empty { seat.old.me.1 ≡ [] }
@@ -24,10 +31,21 @@ fn try_take<K: Keeper>(room: &Room<K>, seat: &mut Place<K>) -> Option<Home<K>>
     ensures knows { IfSome result (λ hall. All (Knows (noted hall)) seat.old.me.0.passes) }
     ensures none { IfNone result (seat.new.me ≡ seat.old.me) }
 {
-    if room.compare_exchange::<Taking>(seat, 1, 0, 1) != 0 {
+    if room.compare_exchange::<Taking>(seat, 1, 0, gate) != 0 {
         return None;
     }
     room.exchange(seat, 0, None)
+}
+
+/// Says in the gate that one waits, where the hall is out.
+fn mark<K: Keeper>(room: &Room<K>, seat: &mut Place<K>)
+    requires room { (seat.old.table_id ≡ room.now.table_id) × IsRoom room.now.table_id }
+    requires note { seat.old.me.0.fresh ≡ false }
+    requires empty { seat.old.me.1 ≡ [] }
+    ensures same { seat.new.table_id ≡ seat.old.table_id }
+    ensures stays { seat.new.me ≡ seat.old.me }
+{
+    let _found = room.compare_exchange::<Marking>(seat, 1, TAKEN, AWAITED);
 }
 
 /// Takes the hall out, once nobody else has it. All passes on the seat know it.
@@ -39,11 +57,14 @@ pub(crate) fn take_out<K: Keeper, R: Wait>(rt: &R, room: &Room<K>, seat: &mut Pl
     ensures taken { seat.new.me ≡ (with_hall (Some (noted result)) seat.old.me.0, (0, None) ∷ []) }
     ensures knows { All (Knows (noted result)) seat.old.me.0.passes }
 {
+    let mut gate = TAKEN;
     'tries: for _ in rt.forever() {
-        if let Some(hall) = try_take(room, seat) {
+        if let Some(hall) = try_take(room, seat, gate) {
             return hall;
         }
-        room.park(rt, 1, 1);
+        gate = AWAITED;
+        mark(room, seat);
+        room.park(rt, 1, AWAITED as u32);
     }
     unreachable!()
 }
@@ -83,8 +104,10 @@ fn back<T: Kind, K: Keeper>(
     let slot = room.exchange(&mut seat, 0, Some(hall));
     let None = slot else { unreachable!() };
     room.fetch_add::<Following<T>>(&mut seat, 0, (length - before) as u64);
-    room.store::<Giving>(&mut seat, 1, 0);
-    room.wake_one(1);
+    let gate = room.swap::<Giving>(&mut seat, 1, 0);
+    if gate == AWAITED {
+        room.wake_one(1);
+    }
     seat.into_badge()
 }
 

@@ -66,22 +66,48 @@ fn finds_edit<R: Wait>(rt: &R, alloc: Global, site: &Site<MemoryKeeper>, pass: &
     }
 }
 
+// The connections of two workers that edit.
+fn two_edit(alloc: Global) -> Result<(Connection, Connection), AllocError> {
+    let titles = Connection::new(alloc, TITLES)?;
+    let users = Connection::new(alloc, USERS)?;
+    Ok((titles, users))
+}
+
+// Whether the last edit of each was accepted.
+fn end_well(titles: Connection, users: Connection) -> bool {
+    titles.written().ends_with(b"{\"nid\":1,\"vid\":3}")
+        && users.written().ends_with(b"{\"uid\":3}")
+}
+
 // Whether all edits of two workers are accepted, each worker's after each other.
+fn all_accepted<R: Threads + Wait + Sync>(
+    rt: &R,
+    alloc: Global,
+    site: Site<MemoryKeeper>,
+    one: Worker<Connection>,
+    two: Worker<Connection>,
+) -> Result<bool, AllocError>
+    requires one { one.pass.table ≡ site.table }
+    requires two { two.pass.table ≡ site.table }
+{
+    let (one, two) = done(rt, alloc, &site, one, two);
+    let right = end_well(one.work, two.work);
+    let hall = closed(rt, alloc, site, one.pass, two.pass)?;
+    Ok(right && hall.len() == 4)
+}
+
 fn edits_are_accepted<R: Threads + Wait + Sync>(rt: &R, alloc: Global) -> Result<bool, AllocError> {
+    let (titles, users) = two_edit(alloc)?;
     let mut site = site(alloc)?;
     let one = Worker {
         pass: site.new_pass(),
-        work: Connection::new(alloc, TITLES)?,
+        work: titles,
     };
     let two = Worker {
         pass: site.new_pass(),
-        work: Connection::new(alloc, USERS)?,
+        work: users,
     };
-    let (one, two) = done(rt, alloc, &site, one, two);
-    let right = one.work.written().ends_with(b"{\"nid\":1,\"vid\":3}")
-        && two.work.written().ends_with(b"{\"uid\":3}");
-    let hall = closed(rt, alloc, site, one.pass, two.pass)?;
-    Ok(right && hall.len() == 4)
+    all_accepted(rt, alloc, site, one, two)
 }
 
 #[test]

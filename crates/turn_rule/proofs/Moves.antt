@@ -17,8 +17,8 @@ use Rattle.turn_rule.specs.declared.notes.PassNote.{PassNote}
 use Rattle.turn_rule.specs.declared.notes.FounderNote.{FounderNote}
 use Rattle.turn_rule.specs.declared.notes.Note.{Note}
 use Rattle.turn_rule.specs.Rule.{Books, Account, AreSound, Claims, IsAmong, Stands, Fits, IsOpen, IsFresh, KeepsRule, unopened, founder_in, Counted, count_of}
-use Rattle.turn_rule.specs.Steps.{bearing, founding, spent, with_hall, with_passes, after_turn, Turns, Knows, new_pass, longer, seeing, first_of, others_of, left_of, right_of, joined, Opens, TakesOut, Follows, GivesBack, Draws, Meets}
-use Rattle.turn_rule.specs.Laws.{TablesBeginFresh, SitesOpen, HallsAreTakenOut, LogsAreFollowed, HallsAreGivenBack, PassesAreDrawn, PassesMeet, PassesGetSeats, PassesJoinSeats}
+use Rattle.turn_rule.specs.Steps.{bearing, founding, spent, with_hall, with_passes, after_turn, Turns, Knows, new_pass, longer, seeing, first_of, others_of, left_of, right_of, joined, Opens, TakesOut, Marks, Follows, GivesBack, Draws, Meets}
+use Rattle.turn_rule.specs.Laws.{TablesBeginFresh, SitesOpen, HallsAreTakenOut, GatesAreMarked, LogsAreFollowed, HallsAreGivenBack, PassesAreDrawn, PassesMeet, PassesGetSeats, PassesJoinSeats}
 use Rattle.turn_rule.proofs.Edits.{longer_is, begins_then}
 use Rattle.turn_rule.proofs.Claims.{moved, moved_here, moved_else, at_below, at_one, stands_on, stands_longer, each_set, each_more, others_of_claims, claims_moved, claims_changed, claims_left, claims_new}
 use Rattle.turn_rule.proofs.Books.{turned, turned_sound, drawn, drawn_sound, seen_to, seeing_sound, opening_books, opening_sound, knows, all_know}
@@ -106,18 +106,18 @@ module _ {S : Type 0} (noted : S → Option HallNote) where
       × K (stepped (with_words s (length a.books.hall.log ∷ gate ∷ [])) 1 m id [] w x)
       × TakesOut noted (v, []) gate (w, carried_after [] x)
 
-  out_hit : (id : ℕ) (v : Note) (s : State S Note) (a : Account) (gate : ℕ) → IsOpen noted s a gate → get_elem? s.views id ≡ some v → gate ≡ 0 → Ends id v s a gate 1
-  out_hit id v s a gate o at e =
+  out_hit : (id : ℕ) (v : Note) (s : State S Note) (a : Account) (gate taken : ℕ) → IsOpen noted s a gate → get_elem? s.views id ≡ some v → taken ≢ 0 → gate ≡ 0 → Ends id v s a gate taken
+  out_hit id v s a gate taken o at some_gate e =
       let home = o.home e in
       let f = o.fits id v at in
       let b = seated a id a.holder in
       let w = with_hall (Some a.books.hall) v in
-      let others = λ (j : ℕ) (u : Note) (ne : j ≢ id) (x : get_elem? s.views j ≡ some u). (let g = o.fits j u x in no_hall a id gate 1 j u (λ h y. (g.hall h y).2 e) g) in
-      let mine : Fits b 1 id w = record { old = f.old; hall = λ h q. (refl, sym (some_same a.books.hall h q), one_not_zero); founder = f.founder; passes = f.passes } in (
+      let others = λ (j : ℕ) (u : Note) (ne : j ≢ id) (x : get_elem? s.views j ≡ some u). (let g = o.fits j u x in no_hall a id gate taken j u (λ h y. (g.hall h y).2 e) g) in
+      let mine : Fits b taken id w = record { old = f.old; hall = λ h q. (refl, sym (some_same a.books.hall h q), some_gate); founder = f.founder; passes = f.passes } in (
         w,
         takes 0 home.0,
         ap (λ (l : List (maybe.Option S)). get_elem? l 0) home.1,
-        inr (b, 1, record { words = refl; home = λ z. absurd (one_not_zero z); sound = o.sound; fits = each_set (Fits b 1) s.views id w others mine; placed = still_placed s a gate id v w o at refl }),
+        inr (b, taken, record { words = refl; home = λ z. absurd (some_gate z); sound = o.sound; fits = each_set (Fits b taken) s.views id w others mine; placed = still_placed s a gate id v w o at refl }),
         ((λ _. (home.0, a.books.hall, home.2, refl, all_know a.books a.holder id v.passes o.sound f.passes)), (λ ne. absurd (ne e))),
       )
 
@@ -131,9 +131,46 @@ module _ {S : Type 0} (noted : S → Option HallNote) where
   )
 
   pub halls_out : HallsAreTakenOut noted
-  halls_out slots id me one old off empty =
-      in_open slots id me (me.0, []) 1 (λ n. either (n == 0) 1 n) (TakesOut noted) one (λ k. (me.0, empty k)) old
-      (λ s a gate o count at. exchanged gate 0 1 (Ends id me.0 s a gate) (out_hit id me.0 s a gate o at) (out_miss id me.0 s a gate o at))
+  halls_out slots id me taken one some_gate old off empty =
+      in_open slots id me (me.0, []) 1 (λ n. either (n == 0) taken n) (TakesOut noted) one (λ k. (me.0, empty k)) old
+      (λ s a gate o count at. exchanged gate 0 taken (Ends id me.0 s a gate) (out_hit id me.0 s a gate taken o at some_gate) (out_miss id me.0 s a gate o at))
+
+  -- ---- the gate is marked
+
+  abbrev Stays : ℕ → Note → State S Note → Account → ℕ → ℕ → Type 0
+  Stays id v s a gate m = (w : Note) × (x : Act S) × Valid s.homes [] x
+      × K (stepped (with_words s (length a.books.hall.log ∷ gate ∷ [])) 1 m id [] w x)
+      × Marks (v, []) (w, carried_after [] x)
+
+  -- a seat that has the hall has it at any gate but 0
+  marked_fits : (a : Account) (gate m j : ℕ) (u : Note) → m ≢ 0 → Fits a gate j u → Fits a m j u
+  marked_fits a gate m j u some_gate f = record { old = f.old; hall = λ h e. ((f.hall h e).0, (f.hall h e).1, some_gate); founder = f.founder; passes = f.passes }
+
+  mark_hit : (id : ℕ) (v : Note) (s : State S Note) (a : Account) (gate : ℕ) → IsOpen noted s a gate → get_elem? s.views id ≡ some v → gate ≡ 1 → Stays id v s a gate 2
+  mark_hit id v s a gate o at e =
+      let two_not_zero : ◌≢◌ {A = ℕ} 2 0 = λ z. omega arith in (
+        v,
+        keeps,
+        tt,
+        inr (a, 2, record { words = refl; home = λ z. absurd (two_not_zero z); sound = o.sound; fits = subst (λ (l : List Note). (j : ℕ) (u : Note) → get_elem? l j ≡ some u → Fits a 2 j u) (sym (set_again s.views id v at)) (λ j u x. marked_fits a gate 2 j u two_not_zero (o.fits j u x)); placed = still_placed s a gate id v v o at refl }),
+        refl,
+      )
+
+  mark_miss : (id : ℕ) (v : Note) (s : State S Note) (a : Account) (gate : ℕ) → IsOpen noted s a gate → get_elem? s.views id ≡ some v → gate ≢ 1 → Stays id v s a gate gate
+  mark_miss id v s a gate o at ne = (
+    v,
+    keeps,
+    tt,
+    inr (a, gate, record { words = refl; home = o.home; sound = o.sound; fits = subst (λ (l : List Note). (j : ℕ) (u : Note) → get_elem? l j ≡ some u → Fits a gate j u) (sym (set_again s.views id v at)) o.fits; placed = still_placed s a gate id v v o at refl }),
+    refl,
+  )
+
+  pub gates_marked : GatesAreMarked noted
+  gates_marked slots id me one old empty =
+      in_open slots id me (me.0, []) 1 (λ n. either (n == 1) 2 n) (λ m _ w. Marks m w) one (λ k. (me.0, empty k)) old
+      (λ s a gate o count at. exchanged gate 1 2 (Stays id me.0 s a gate) (mark_hit id me.0 s a gate o at) (mark_miss id me.0 s a gate o at))
+
+  -- ---- the hall comes back
 
   pub halls_back : HallsAreGivenBack noted
   halls_back slots id me v y h one is old on at_home =

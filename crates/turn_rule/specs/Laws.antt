@@ -1,6 +1,6 @@
 -- Each kind of step keeps the rule, and what is then true of the words and the seats. The rule is by what is noted of the value in
 -- the slot.
-use Rattle.std.specs.Prelude.{◌≡◌, ◌+◌, ◌%◌, ◌^◌, ◌<◌, ◌==◌, ℕ, List, [], ◌∷◌, length, Bool, false, ◌⊎◌, Option, Some, None}
+use Rattle.std.specs.Prelude.{◌≡◌, ◌≢◌, ◌+◌, ◌%◌, ◌^◌, ◌<◌, ◌==◌, ℕ, List, [], ◌∷◌, length, Bool, false, ◌⊎◌, Option, Some, None}
 use mathlib.Core.Option.{some}
 use mathlib.Core.Option as maybe
 use prog.Atomic.{either}
@@ -13,7 +13,7 @@ use Rattle.turn_rule.specs.declared.notes.PassNote.{PassNote}
 use Rattle.turn_rule.specs.declared.notes.FounderNote.{FounderNote}
 use Rattle.turn_rule.specs.declared.notes.Note.{Note}
 use Rattle.turn_rule.specs.Rule.{Counted, count_of, unopened, IsFresh, KeepsRule}
-use Rattle.turn_rule.specs.Steps.{bearing, founding, spent, with_hall, with_passes, Turns, left_of, right_of, joined, Opens, TakesOut, Follows, GivesBack, Draws, Meets, Closes}
+use Rattle.turn_rule.specs.Steps.{bearing, founding, spent, with_hall, with_passes, Turns, left_of, right_of, joined, Opens, TakesOut, Marks, Follows, GivesBack, Draws, Meets, Closes}
 use Rattle.turn_rule.specs.Words.{InPlainWords}
 
 module _ {S : Type 0} (noted : S → Option HallNote) where
@@ -27,10 +27,15 @@ module _ {S : Type 0} (noted : S → Option HallNote) where
       → said ≡ some value → noted value ≡ Some hall → hall.pending ≡ None → ((counted : Counted) → count_of counted hall.tally < 18446744073709551616) → grown ≡ length hall.log
       → Allows (KeepsRule noted) slots seat me 0 (λ n. either (n == 0) grown n) (λ _ new. Opens noted said me new)
 
-  -- The gate becomes 1 where it was 0, at a seat that has no hall.
+  -- The gate becomes some other number where it was 0, at a seat that has no hall.
   abbrev pub HallsAreTakenOut : Type 0
-  HallsAreTakenOut = (slots seat : ℕ) (me : Me S Note) → slots ≡ 1 → me.0.fresh ≡ false → me.0.hall ≡ None → me.1 ≡ []
-      → Allows (KeepsRule noted) slots seat me 1 (λ n. either (n == 0) 1 n) (TakesOut noted me)
+  HallsAreTakenOut = (slots seat : ℕ) (me : Me S Note) (taken : ℕ) → slots ≡ 1 → taken ≢ 0 → me.0.fresh ≡ false → me.0.hall ≡ None → me.1 ≡ []
+      → Allows (KeepsRule noted) slots seat me 1 (λ n. either (n == 0) taken n) (TakesOut noted me)
+
+  -- The gate becomes 2 where it was 1, at a seat that has no hall and waits for it.
+  abbrev pub GatesAreMarked : Type 0
+  GatesAreMarked = (slots seat : ℕ) (me : Me S Note) → slots ≡ 1 → me.0.fresh ≡ false → me.1 ≡ []
+      → Allows (KeepsRule noted) slots seat me 1 (λ n. either (n == 1) 2 n) (λ _ new. Marks me new)
 
   -- After a turn of the seat's pass the first word grows by the edits that came into the log.
   abbrev pub LogsAreFollowed : Type 0

@@ -174,6 +174,10 @@ module _ {S : Type 0} (noted : S → Option HallNote) where
       × All (Knows hall) (map (after_turn more hands hall) me.0.passes)
 
 module _ {S : Type 0} where
+  -- a seat that waits says what it said
+  abbrev pub Marks : Me S Note → Me S Note → Type 0
+  Marks me new = new ≡ me
+
   -- the hall lies in the slot again
   abbrev pub GivesBack : Me S Note → Me S Note → Type 0
   GivesBack me new = new ≡ (with_hall None me.0, [])

@@ -5,6 +5,7 @@ ghost use Rattle.turn_rule.specs.Laws.{
   TablesBeginFresh,
   SitesOpen,
   HallsAreTakenOut,
+  GatesAreMarked,
   LogsAreFollowed,
   HallsAreGivenBack,
   PassesAreDrawn,
@@ -33,6 +34,11 @@ pub fn sites_open<S, L: Slot<S>>()
 /// A seat takes the hall out, and all passes on it know it.
 pub fn halls_are_taken_out<S, L: Slot<S>>()
     ensures { HallsAreTakenOut L.noted }
+{}
+
+/// A seat that waits for the hall marks the gate, so that whoever has the hall wakes one when it gives it back.
+pub fn gates_are_marked<S, L: Slot<S>>()
+    ensures { GatesAreMarked L.noted }
 {}
 
 /// After a turn of a pass the table's first word follows the log of the hall that lies in the seat's slot.

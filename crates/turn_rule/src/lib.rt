@@ -9,8 +9,8 @@ mod laws;
 mod notes;
 
 pub use laws::{
-    Slot, halls_are_given_back, halls_are_taken_out, logs_are_followed, passes_are_drawn,
-    passes_get_seats, passes_join_seats, passes_meet, sites_close, sites_open, tables_begin_fresh,
-    the_rule_in_plain_words,
+    Slot, gates_are_marked, halls_are_given_back, halls_are_taken_out, logs_are_followed,
+    passes_are_drawn, passes_get_seats, passes_join_seats, passes_meet, sites_close, sites_open,
+    tables_begin_fresh, the_rule_in_plain_words,
 };
 pub use notes::{FounderNote, HallNote, Loaded, Note, PassNote, TallyNote, Told};

@@ -5,4 +5,4 @@ use Rattle.content_rows.specs.GrantOrder.{grant_cmp}
 use Rattle.node_grants.proofs.grants.add_all.Given as goal
 
 abbrev pub invariant-grants : goal.invariant-grants
-invariant-grants l = l.set.keys ≡ fold (insert_key grant_cmp) l.initial.set.keys (take l.grant-index l.grants)
+invariant-grants l = l.set ≡ fold (insert_key grant_cmp) l.initial.set (take l.grant-index l.grants)

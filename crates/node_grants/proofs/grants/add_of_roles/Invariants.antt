@@ -6,4 +6,4 @@ use Rattle.node_grants.proofs.grants.add_of_roles.Given as goal
 
 abbrev pub invariant-roles : goal.invariant-roles
 invariant-roles l =
-    l.set.keys ≡ fold (insert_key grant_cmp) l.initial.set.keys (flat_map (λ role. role.grants) (map (λ role. role.now) (take l.role-index l.roles)))
+    l.set ≡ fold (insert_key grant_cmp) l.initial.set (flat_map (λ role. role.grants) (map (λ role. role.now) (take l.role-index l.roles)))

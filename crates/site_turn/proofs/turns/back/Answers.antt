@@ -19,8 +19,8 @@ fetch_add-requires g c =
           (grown o.old.log c.args.hall.log o.commits c.args.before c.len-length.result o.before_is c.len-length.ensures.len o.turns.log) (let l = c.len-length.ensures.len in grind arith),
     )
 
-pub store-requires : goal.store-requires
-store-requires g c =
+pub swap-gate-requires : goal.swap-gate-requires
+swap-gate-requires g c =
     let room = c.requires.room in
     let words = room.1.0 in
     let o = c.requires.out in
@@ -36,7 +36,7 @@ pub returns-clause-back : goal.returns-clause-back
 returns-clause-back g c =
     let o = c.requires.out in
     let new = followed g.T.Kind.counts g.T.Kind.hands _ _ (first_pass c.args.seat.me.0.passes) o.old c.args.hall (exchanged _ _ _ None (Some c.args.hall) o.me_is c.exchange-slot.ensures.3) c.fetch_add.ensures.2 in
-    c.into_badge.ensures.2 ∙ ap (λ m. m.0 ∷ []) c.store.ensures.2 ∙ ap (λ m. with_hall None m.0 ∷ []) new.0
+    c.into_badge.ensures.2 ∙ ap (λ m. m.0 ∷ []) c.swap-gate.ensures.2 ∙ ap (λ m. with_hall None m.0 ∷ []) new.0
 
 pub returns-clause-knows : goal.returns-clause-knows
 returns-clause-knows g c =

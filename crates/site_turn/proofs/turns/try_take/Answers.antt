@@ -9,5 +9,5 @@ compare_exchange-requires g c =
     let words = room.1.0 in (
       room.0,
       omega arith,
-      halls_out noted_in _ _ _ room.1.1 c.requires.note.0 c.requires.note.1 c.requires.empty,
+      halls_out noted_in _ _ _ _ room.1.1 c.requires.gate c.requires.note.0 c.requires.note.1 c.requires.empty,
     )
