@@ -1,6 +1,7 @@
 -- What was found, and what was made.
-use Rattle.std.proofs.Common.{ℕ, List, [], ◌∷◌, ◌≡◌, ◌+◌, sym, ◌∙◌, ap, subst, arith, Option, Some, None, IfSome, inl, inr, map, length, take, length-append}
+use Rattle.std.proofs.Common.{ℕ, List, [], ◌∷◌, ◌≡◌, ◌+◌, refl, sym, ◌∙◌, ap, subst, arith, Option, Some, None, IfSome, inl, inr, map, length, take, length-append}
 use Rattle.std.proofs.lemmas.List.{take-append-le, length-take-le}
+use Rattle.std.proofs.lemmas.List.Elements.{All-map}
 use Rattle.std.specs.Arc.{arc_value}
 use Rattle.std.specs.declared.sync.Arc.{Arc}
 use Rattle.std.specs.declared.alloc.Global.{Global}
@@ -31,7 +32,7 @@ use Rattle.fragment_cache.proofs.Fresh.{fresh_is_shown}
 use Rattle.page_meaning.specs.Meaning.{meaning}
 use Rattle.element_entries.specs.declared.making.Joined.{Joined}
 use Rattle.element_entries.specs.declared.reader.Reader.{Reader}
-use Rattle.element_entries.specs.Keys.{visit}
+use Rattle.element_entries.specs.Keys.{visit, AreValued}
 use Rattle.element_entries.specs.Making.{needs_of, IsEntryOf}
 use Rattle.element_entries.proofs.Entries.{made_on}
 use Rattle.site_house.specs.House.{HouseView, Moves, Stays}
@@ -50,7 +51,7 @@ pub steady_of : {old new : HouseView} → Moves old new → Stays old new → St
 steady_of moves stays = record { moves = moves; stays = stays }
 
 -- a state that was seen is still seen
-seen_on : (old new : HouseView) (s : State) → Moves old new → IsSeenIn old s → IsSeenIn new s
+pub seen_on : (old new : HouseView) (s : State) → Moves old new → IsSeenIn old s → IsSeenIn new s
 seen_on old new s moves seen = record {
   in_order = subst (λ (b : State). InOrder b.rows) (sym moves.base) seen.in_order;
   count = seen.count;
@@ -72,7 +73,7 @@ fresh_here house r key (Some e) was seen is sound reads h =
     (subst (IsSound meaning house.base house.seen key) (sym h.0) (subst (IsSoundIn house key) is sound)) h.1
 
 -- there is one state of each number in a log
-one_of_number : (base : State) (log : List Commit) (s t : State) → IsOf base log s → IsOf base log t → s.number ≡ t.number → s ≡ t
+pub one_of_number : (base : State) (log : List Commit) (s t : State) → IsOf base log s → IsOf base log t → s.number ≡ t.number → s ≡ t
 one_of_number base log s t one other same =
     let taken : length (take one.count log) ≡ one.count = length-take-le one.count log one.within in
     let taken' : length (take other.count log) ≡ other.count = length-take-le other.count log other.within in
@@ -112,6 +113,13 @@ no_parts (Place Meta ∷ ps) only f h = elim (head_or_tail Meta (open_places ps)
   | inr g ↦ no_parts ps only f g
 ]
 no_parts (Place (FragmentHole g) ∷ ps) only f h = absurd only
+
+-- the values that it has are those of their contexts
+pub entry_valued : (r : Reader) (s : Subject) (e : Entry) → IsMadeFor r s e → AreValued (visit r) e.values
+entry_valued r s e made =
+    let same : e.values ≡ map (valued (visit r)) e.cacheability.contexts =
+    subst (λ (m : ℕ). e.values ≡ map (valued (visit_on r.state.now r.viewer.now r.ask.now m)) e.cacheability.contexts) made.moment made.made_on.values in
+    subst (AreValued (visit r)) (sym same) (All-map (λ c. c ≡ valued (visit r) c.context) (valued (visit r)) e.cacheability.contexts (λ k d short. refl))
 
 -- an entry of what was put together for a reader was made for it
 pub entry_made_for : (r : Reader) (s : Subject) (j : Joined) (e : Entry) → IsWhole (meaning s) (visit r) j → IsClosed s (pieces_of j.segments) → IsAskedFor s r.viewer.now r.ask.now → IsEntryOf r j e → IsMadeFor r s e

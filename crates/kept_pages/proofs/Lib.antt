@@ -3,6 +3,7 @@ pub mod Entries
 pub mod OfFrames
 pub mod Shelves
 pub mod Counting
+pub mod Lasting
 pub mod Pages
 pub mod Using
 pub mod Timeless

@@ -218,5 +218,5 @@ frame_whole path v frame old new here reopens joins =
     same_needs i = record { tags = (sym reopens.cacheability i).tags; contexts = (sym reopens.cacheability i).contexts; last = sym reopens.last i }
 
 -- what was put together makes the page
-pub made_page : (v : Visit) (j : Joined) → IsWhole (whole v.ask.path element.Page) v j → MakesPage v j.status (pieces_of j.segments) j.libraries.items
-made_page v j is = record { needs = needs_of j; makes = is.makes; not_over = is.not_over }
+pub made_page : (v : Visit) (j : Joined) → IsWhole (whole v.ask.path element.Page) v j → MakesPage v j.status (pieces_of j.segments) j.libraries.items j.last
+made_page v j is = record { needs = needs_of j; makes = is.makes; not_over = is.not_over; until = refl }

@@ -18,3 +18,8 @@ libraries_in (Own joined) = joined.libraries.items
 abbrev pub status_in : Pieces → Option ℕ
 status_in (Kept entry) = (arc_value entry).status
 status_in (Own joined) = joined.status
+
+-- the last moment at which it may be shown
+abbrev pub last_in : Pieces → ℕ
+last_in (Kept entry) = (arc_value entry).last
+last_in (Own joined) = joined.last

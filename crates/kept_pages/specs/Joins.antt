@@ -46,11 +46,12 @@ pub record Reopens (frame : Entry) (new : Joined) : Type 0 where
   pub status : new.status ≡ frame.status
 
 -- the whole page of the visit's path has this status, shows these pieces and attaches these libraries, and may be shown at the
--- visit's moment
-pub record MakesPage (v : Visit) (status : Option ℕ) (pieces : List Piece) (libraries : List Library) : Type 0 where
+-- visit's moment, and until this last one
+pub record MakesPage (v : Visit) (status : Option ℕ) (pieces : List Piece) (libraries : List Library) (last : ℕ) : Type 0 where
   pub needs : Needs
   pub makes : MakesWhole (whole v.ask.path element.Page) v status pieces libraries needs
   pub not_over : v.moment ≤ needs.last
+  pub until : last ≡ needs.last
 
 -- a place of an element of a level stays open: it is that of the libraries, or its level isn't lower
 abbrev pub StaysOpen : ℕ → Hole → Type 0

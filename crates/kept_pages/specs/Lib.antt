@@ -3,5 +3,6 @@ pub mod Went
 pub mod Needed
 pub mod Joins
 pub mod Bodies
+pub mod Lasting
 pub mod Held
 pub mod Used

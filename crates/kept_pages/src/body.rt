@@ -2,7 +2,7 @@
 ghost use Rattle.std.specs.Prelude.{◌≡◌, ◌++◌, OnOk, length};
 ghost use Rattle.html_out.specs.Segment.{parts_of};
 ghost use Rattle.renderer.specs.Filled.{text_of};
-ghost use Rattle.kept_pages.specs.Bodies.{parts_in, libraries_in, status_in};
+ghost use Rattle.kept_pages.specs.Bodies.{parts_in, libraries_in, status_in, last_in};
 
 use cache_entries::Entry;
 use content_state::{Hole, Library};
@@ -48,6 +48,16 @@ impl Pieces {
         match self {
             Pieces::Kept(entry) => entry.status,
             Pieces::Own(joined) => joined.status,
+        }
+    }
+
+    /// The last moment at which it may be shown.
+    pub fn last(&self) -> u64
+        ensures { result ≡ last_in self.now }
+    {
+        match self {
+            Pieces::Kept(entry) => entry.last,
+            Pieces::Own(joined) => joined.last,
         }
     }
 }

@@ -13,12 +13,35 @@ ghost use Rattle.kept_pages.specs.Joins.{IsWhole};
 ghost use Rattle.kept_pages.specs.Held.{Shelves, IsTold, Puts, Offers, Closes};
 
 use crate::joining::{Child, Filled};
-use cache_entries::{Bin, Entry, Kept, Subject};
+use crate::values::copied_values;
+use cache_entries::{Bin, Entry, Kept, Key, Subject};
 use cacheability::{Context, OrderedSet};
-use element_entries::{Reader, entry_of, key_of, may_keep, redirect_to, required_contexts};
+use element_entries::{
+    Reader, duplicate_subject, entry_of, may_keep, redirect_to, required_contexts,
+    values_where_known,
+};
 use site_house::House;
 use std::alloc::{AllocError, Global};
 use std::sync::Arc;
+
+/// The key of something with the values that these contexts have for a reader. Those of an entry that was made for the reader are
+/// copied, since permissions and grants are dear to compute.
+fn key_by_entry(
+    alloc: Global,
+    reader: &Reader<'_>,
+    subject: &Subject,
+    contexts: &[Context],
+    entry: &Entry,
+) -> Result<Key, AllocError>
+    requires { IsMadeFor reader.now subject.now entry.now }
+    ensures { IfOk result (λ key. key ≡ key_by (visit reader.now) subject.now contexts.now) }
+{
+    let known = copied_values(alloc, entry.values.as_slice())?;
+    Ok(Key {
+        subject: duplicate_subject(alloc, subject)?,
+        values: values_where_known(alloc, reader, contexts, known)?,
+    })
+}
 
 /// Keeps an entry under its key with the values of these contexts, or lets it go where the house has no memory for it.
 fn keep_at<H: House>(
@@ -35,25 +58,27 @@ fn keep_at<H: House>(
     ensures steady { Steady (H.sees house.old) (H.sees house.new) }
     ensures told { OnOk result ((shelves : Shelves) → IsTold (H.sees house.old) shelves → Puts shelves bin (key_by (visit reader.now) subject.now contexts.now) (Whole (arc_value entry.now)) (H.sees house.new)) }
 {
-    let key = key_of(alloc, reader, subject, contexts)?;
+    let key = key_by_entry(alloc, reader, subject, contexts, entry)?;
     let shared = Arc::try_clone(entry)?;
     let _kept = house.keep(alloc, bin, key, Kept::Entry(shared));
     Ok(())
 }
 
-/// Keeps a redirect under the first key, or lets it go where the house has no memory for it.
+/// Keeps a redirect under the first key of something that an entry was made of, or lets it go where the house has no memory for it.
 fn keep_redirect<H: House>(
     alloc: Global,
     house: &mut H,
     reader: &Reader<'_>,
     bin: Bin,
     subject: &Subject,
+    entry: &Entry,
     contexts: &Arc<OrderedSet<Context>>,
 ) -> Result<(), AllocError>
+    requires { IsMadeFor reader.now subject.now entry.now }
     ensures steady { Steady (H.sees house.old) (H.sees house.new) }
     ensures told { OnOk result ((shelves : Shelves) → IsTold (H.sees house.old) shelves → Puts shelves bin (key_by (visit reader.now) subject.now required) (Towards (arc_value contexts.now)) (H.sees house.new)) }
 {
-    let first = key_of(alloc, reader, subject, &required_contexts())?;
+    let first = key_by_entry(alloc, reader, subject, &required_contexts(), entry)?;
     let shared = Arc::try_clone(contexts)?;
     let _kept = house.keep(alloc, bin, first, Kept::Redirect(shared));
     Ok(())
@@ -86,7 +111,7 @@ fn keep<H: House>(
             &required_contexts(),
         ),
         Some(contexts) => {
-            keep_redirect(alloc, house, reader, bin, subject, &contexts)?;
+            keep_redirect(alloc, house, reader, bin, subject, entry, &contexts)?;
             keep_at(
                 alloc,
                 house,

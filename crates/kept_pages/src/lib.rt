@@ -9,6 +9,7 @@ mod keeping;
 mod looking;
 mod page;
 mod places;
+mod values;
 mod whole;
 
 pub use body::Body;

@@ -9,8 +9,9 @@ ghost use Rattle.element_entries.specs.Keys.{visit};
 ghost use Rattle.site_house.specs.House.{Moves, Stays};
 ghost use Rattle.site_house.specs.Bins.{IsSeenIn};
 ghost use Rattle.kept_pages.specs.Houses.{Steady, Reads};
-ghost use Rattle.kept_pages.specs.Bodies.{parts_in, libraries_in, status_in};
+ghost use Rattle.kept_pages.specs.Bodies.{parts_in, libraries_in, status_in, last_in};
 ghost use Rattle.kept_pages.specs.Joins.{MakesPage};
+ghost use Rattle.kept_pages.specs.Lasting.{Lasts};
 ghost use Rattle.kept_pages.specs.Needed.{OfWhole, OfTarget, OfRequest};
 ghost use Rattle.kept_pages.specs.Held.{Shelves, IsTold, Tells};
 ghost use Rattle.kept_pages.specs.Used.{KeptAndUsed};
@@ -24,13 +25,14 @@ use renderer::meta_text;
 use site_house::House;
 use std::alloc::{AllocError, Global};
 
-/// The page of a request: the status of its reply (RFC 9110, section 15), its body, and how many elements were built for
-/// it, up to the greatest u64.
+/// The page of a request: the status of its reply (RFC 9110, section 15), its body, how many elements were built for it, up to
+/// the greatest u64, and the last moment, in seconds since 1970, at which it may be shown.
 #[derive(Drop)]
 pub struct Page {
     pub status: u16,
     pub body: Body,
     pub built: u64,
+    pub last: u64,
 }
 
 /// The page of a request on a state that the house has seen, for the viewer that its cookie names at the moment, in seconds
@@ -38,8 +40,8 @@ pub struct Page {
 /// would be shown if nothing were kept: each part of it that is kept, and fresh on the state, is shown as it was kept, on
 /// whichever state that was, and else it is built, and kept where it may be. Nobody's session is given the whole page of the
 /// target where that is kept. Else the page of the path is looked for that is kept for whoever views it, and the places of
-/// lazy blocks, which are left open there, are filled in. Where there is no memory for keeping something it is let go. `Err`
-/// only where memory is wanting.
+/// lazy blocks, which are left open there, are filled in. Where there is no memory for keeping something it is let go. Where no
+/// cookie was sent, the page is the same on the state at each later moment until its last. `Err` only where memory is wanting.
 /// <https://www.drupal.org/docs/drupal-apis/render-api/the-drupal-8-render-pipeline>
 pub fn render_page<H: House>(
     alloc: Global,
@@ -59,6 +61,7 @@ pub fn render_page<H: House>(
     ensures built { IfOk result (λ p. Tells (record { state = state.entry; viewer = viewer.entry; ask = ask.entry; moment = now }) (OfRequest (visit_on state.now viewer.now ask.now now)) (H.sees house.old) (H.sees house.new) 0 p.built) }
     ensures used { IfOk result (λ p. (shelves : Shelves) → IsTold (H.sees house.old) shelves → KeptAndUsed (record { state = state.entry; viewer = viewer.entry; ask = ask.entry; moment = now }) (OfRequest (visit_on state.now viewer.now ask.now now)) shelves (H.sees house.new) p.built) }
     ensures at_most { IfOk result (λ p. p.built ≤ min (page_count state.now.rows ask.now now) 18446744073709551615) }
+    ensures lasts { IfOk result (λ p. Lasts state.now ask.now now p.last p.status p.body) }
 {
     let reader = Reader {
         state,
@@ -80,6 +83,7 @@ fn request_page<H: House>(
     ensures steady { Steady (H.sees house.old) (H.sees house.new) }
     ensures page { IfOk result (λ p. IsPage reader.now.state.now.rows reader.now.ask.now reader.now.moment p.status p.body) }
     ensures status { IfOk result (λ p. IsTrue (is_page_status p.status)) }
+    ensures lasts { IfOk result (λ p. Lasts reader.now.state.now reader.now.ask.now reader.now.moment p.last p.status p.body) }
     ensures told { IfOk result (λ p. Tells reader.now (OfRequest (visit reader.now)) (H.sees house.old) (H.sees house.new) 0 p.built) }
 {
     match reader.viewer.session {
@@ -100,6 +104,7 @@ fn shared_page<H: House>(
     ensures steady { Steady (H.sees house.old) (H.sees house.new) }
     ensures page { IfOk result (λ p. IsPage reader.now.state.now.rows reader.now.ask.now reader.now.moment p.status p.body) }
     ensures status { IfOk result (λ p. IsTrue (is_page_status p.status)) }
+    ensures lasts { IfOk result (λ p. Lasts reader.now.state.now reader.now.ask.now reader.now.moment p.last p.status p.body) }
     ensures told { IfOk result (λ p. Tells reader.now (OfTarget (visit reader.now)) (H.sees house.old) (H.sees house.new) 0 p.built) }
 {
     let Child { entry, built } = some_target(alloc, house, reader)?;
@@ -113,6 +118,7 @@ fn own_page<H: House>(alloc: Global, house: &mut H, reader: &Reader<'_>) -> Resu
     ensures steady { Steady (H.sees house.old) (H.sees house.new) }
     ensures page { IfOk result (λ p. IsPage reader.now.state.now.rows reader.now.ask.now reader.now.moment p.status p.body) }
     ensures status { IfOk result (λ p. IsTrue (is_page_status p.status)) }
+    ensures lasts { IfOk result (λ p. Lasts reader.now.state.now reader.now.ask.now reader.now.moment p.last p.status p.body) }
     ensures told { IfOk result (λ p. Tells reader.now (OfWhole reader.now.ask.now.path (visit reader.now)) (H.sees house.old) (H.sees house.new) 0 p.built) }
 {
     let Filled { joined, built } = whole_page(alloc, house, reader)?;
@@ -127,17 +133,20 @@ fn page_of(
     built: u64,
 ) -> Result<Page, AllocError>
     requires viewer { reader.now.viewer.now ≡ named_viewer reader.now.state.now.rows reader.now.ask.now.cookie reader.now.moment }
-    requires makes { MakesPage (visit reader.now) (status_in pieces) (pieces_of (parts_in pieces)) (libraries_in pieces) }
+    requires makes { MakesPage (visit reader.now) (status_in pieces) (pieces_of (parts_in pieces)) (libraries_in pieces) (last_in pieces) }
     ensures page { IfOk result (λ p. IsPage reader.now.state.now.rows reader.now.ask.now reader.now.moment p.status p.body) }
     ensures status { IfOk result (λ p. IsTrue (is_page_status p.status)) }
+    ensures lasts { IfOk result (λ p. Lasts reader.now.state.now reader.now.ask.now reader.now.moment p.last p.status p.body) }
     ensures built { IfOk result (λ p. p.built ≡ built) }
 {
     let meta = meta_text(alloc, pieces.libraries())?;
+    let last = pieces.last();
     match pieces.status() {
         Some(status) => Ok(Page {
             status,
             body: body_of(pieces, meta),
             built,
+            last,
         }),
         None => unreachable!(),
     }

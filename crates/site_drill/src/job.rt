@@ -112,6 +112,7 @@ fn answer_over(alloc: Global, state: &State, text: Vec<u8>) -> Result<Figures, S
         alloc,
         &desk.paths,
         &mut desk.inbox,
+        &mut desk.recent,
         &mut house,
         &mut devices.source,
         &mut devices.sink,

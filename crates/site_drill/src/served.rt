@@ -3,6 +3,7 @@ ghost use Rattle.std.specs.Prelude.{◌≡◌, ◌<◌, ◌+◌, ◌-◌, ◌≤
 ghost use Rattle.site_house.specs.House.{Moves, history_of};
 ghost use Rattle.site_house.specs.History.{newest};
 ghost use Rattle.site_io.specs.Series.{GivesInTurn, last_moment, last_word};
+ghost use Rattle.site_http.specs.Recent.{AreRecent};
 ghost use Rattle.site_drill.specs.Replies.{AllAnswered};
 ghost use Rattle.site_drill.specs.Steps.{TookReply, pages_with};
 ghost use Rattle.site_drill.specs.Stops.{NotAnswered, StopsAt, stop_of};
@@ -11,7 +12,7 @@ use crate::replies::{bytes_from, is_wanting, shows_page};
 use crate::steady::SteadySource;
 use edit_paths::EditPaths;
 use site_house::House;
-use site_http::{Inbox, serve_turn};
+use site_http::{Inbox, RecentReplies, serve_turn};
 use site_io::{Clock, Ended, Entropy, Gate, MemorySink};
 use std::alloc::{AllocError, Global};
 
@@ -55,6 +56,7 @@ fn answer_next<H: House, C: Clock, E: Entropy, G: Gate>(
     alloc: Global,
     paths: &EditPaths,
     inbox: &mut Inbox,
+    recent: &mut RecentReplies,
     house: &mut H,
     source: &mut SteadySource,
     sink: &mut MemorySink,
@@ -63,8 +65,10 @@ fn answer_next<H: House, C: Clock, E: Entropy, G: Gate>(
     gate: &mut G,
     index: u64,
 ) -> Result<bool, Stop>
-    requires { index < REQUESTS }
+    requires within { index < REQUESTS }
+    requires recent { AreRecent (H.sees house.old) recent.old }
     ensures moves { Moves (H.sees house.old) (H.sees house.new) }
+    ensures recent { AreRecent (H.sees house.new) recent.new }
     ensures took { IfOk result (λ page. TookReply page
         (record { left = Some source.old; out = record { given = C.given clock.old; words = E.given entropy.old; points = G.reached gate.old; written = Some sink.old.written; handed = (H.sees house.old).handed; keepers = (H.sees house.old).keepers } })
         (record { left = Some source.new; out = record { given = C.given clock.new; words = E.given entropy.new; points = G.reached gate.new; written = Some sink.new.written; handed = (H.sees house.new).handed; keepers = (H.sees house.new).keepers } })
@@ -75,7 +79,7 @@ fn answer_next<H: House, C: Clock, E: Entropy, G: Gate>(
 {
     let from = sink.bytes().len();
     if let Some(ended) = serve_turn(
-        alloc, paths, house, source, sink, clock, entropy, gate, inbox, index,
+        alloc, paths, house, source, sink, clock, entropy, gate, inbox, recent, index,
     ) {
         return Err(stop_of(ended).unwrap_or(Stop::Unanswered));
     }
@@ -99,6 +103,7 @@ pub(crate) fn answer_all<H: House, C: Clock, E: Entropy, G: Gate>(
     alloc: Global,
     paths: &EditPaths,
     inbox: &mut Inbox,
+    recent: &mut RecentReplies,
     house: &mut H,
     source: &mut SteadySource,
     sink: &mut MemorySink,
@@ -106,7 +111,8 @@ pub(crate) fn answer_all<H: House, C: Clock, E: Entropy, G: Gate>(
     entropy: &mut E,
     gate: &mut G,
 ) -> Result<u64, Stop>
-    requires { inbox.old ≡ [] }
+    requires empty { inbox.old ≡ [] }
+    requires recent { AreRecent (H.sees house.old) recent.old }
     ensures moves { Moves (H.sees house.old) (H.sees house.new) }
     ensures answered { IfOk result (λ pages. AllAnswered 900 pages
         (record { left = Some source.old; out = record { given = C.given clock.old; words = E.given entropy.old; points = G.reached gate.old; written = Some sink.old.written; handed = (H.sees house.old).handed; keepers = (H.sees house.old).keepers } })
@@ -118,12 +124,12 @@ pub(crate) fn answer_all<H: House, C: Clock, E: Entropy, G: Gate>(
     let mut pages = 0;
     'requests: for index in 0..REQUESTS {
         let page = answer_next(
-            alloc, paths, inbox, house, source, sink, clock, entropy, gate, index,
+            alloc, paths, inbox, recent, house, source, sink, clock, entropy, gate, index,
         )?;
         pages = pages_with(pages, page);
     }
     let Some(ended) = serve_turn(
-        alloc, paths, house, source, sink, clock, entropy, gate, inbox, REQUESTS,
+        alloc, paths, house, source, sink, clock, entropy, gate, inbox, recent, REQUESTS,
     ) else {
         return Err(Stop::Unanswered);
     };

@@ -3,6 +3,7 @@ pub mod Fixed
 pub mod Told
 pub mod Stories
 mod Made
+mod Again
 pub mod Grow
 mod Progress
 mod Ends

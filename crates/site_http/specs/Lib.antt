@@ -4,3 +4,4 @@ pub mod Fixed
 pub mod Connection
 pub mod Turn
 pub mod Work
+pub mod Recent

@@ -1,5 +1,6 @@
 -- What one turn of a connection does: the next request, and its reply.
 use Rattle.std.specs.Prelude.{ℕ, List, [], ◌∷◌, ◌++◌, ◌≡◌, ◌≤◌, ◌<◌, ◌⊎◌, Option, Some, None, Bool, true, false, drop, length}
+use Rattle.std.specs.Arc.{arc_value}
 use Rattle.content_state.specs.declared.ask.Ask.{Ask}
 use Rattle.content_state.specs.State.{State}
 use Rattle.site_io.specs.declared.device.Point.{Point}
@@ -116,6 +117,7 @@ ToldOnTheWay points points-after =
 -- the bytes of a text that was made
 abbrev pub bytes_of : Made → List ℕ
 bytes_of (made.Text text) = text.items
+bytes_of (made.Again reply) = (arc_value reply).text.items
 bytes_of (made.Short text) = text.items
 bytes_of (made.Fixed text) = text.now
 

@@ -1,8 +1,10 @@
 //! One reply.
-ghost use Rattle.std.specs.Prelude.{◌≡◌, ◌∷◌, ◌≤◌, [], ℕ, List, Option, IfOk, OnOk, OnErr, is_some};
+ghost use Rattle.std.specs.Prelude.{◌≡◌, ◌∷◌, ◌≤◌, [], ℕ, List, Option, IfOk, IfSome, OnOk, OnErr, is_some};
+ghost use Rattle.std.specs.Arc.{arc_value};
 ghost use Rattle.std.specs.Option.{option_copied};
 ghost use Rattle.content_state.specs.Ask.{IsAsk};
-ghost use Rattle.site_house.specs.House.{Moves, Stays, history_of};
+ghost use Rattle.site_house.specs.House.{HouseView, Moves, Stays, history_of};
+ghost use Rattle.site_house.specs.Bins.{IsSeenIn};
 ghost use Rattle.site_io.specs.Reached.{and_point};
 ghost use Rattle.site_io.specs.Series.{GivesInTurn, last_moment, last_word};
 ghost use Rattle.site_io.specs.Told.{after};
@@ -11,14 +13,16 @@ ghost use Rattle.edit_bodies.specs.Bodies.{sent_of};
 ghost use Rattle.edit_bodies.specs.Commands.{draws};
 ghost use Rattle.site_house.specs.History.{newest};
 ghost use Rattle.site_http.specs.Called.{ask_of, called, called_of, ToRead};
+ghost use Rattle.site_http.specs.Recent.{AreRecent};
 ghost use Rattle.site_http.specs.Reply.{Says, listed};
 ghost use Rattle.site_http.specs.Turn.{bytes_of, Committed, CountsOutcome, Makes, OnSeen, Replies, ToldOnTheWay};
 
 use crate::call::{Asked, Call, Reading, asked_by};
+use crate::recent::{RecentReplies, RecentReply};
 use crate::refusal::memory_text;
-use crate::reply::{Reply, reply_on};
+use crate::reply::reply_on;
 use arrayvec::ArrayVec;
-use content_state::Ask;
+use content_state::{Ask, State};
 use edit_bodies::{Body, Words, command_of, draws};
 use edit_paths::{Edit, EditPaths};
 use edit_replies::{done_text, keeper_text, refused_text};
@@ -27,6 +31,7 @@ use site_commands::{Answer, Command};
 use site_house::House;
 use site_io::{Clock, Entropy, Failed, Gate, Point, Sink, write_whole};
 use std::alloc::{AllocError, Global};
+use std::sync::Arc;
 
 /// What became of a reply.
 #[derive(Clone, Copy, Debug, PartialEq, Eq)]
@@ -35,10 +40,11 @@ pub enum Outcome {
     WriteFault,
 }
 
-/// The text of a reply. One that tells of an edit that was made takes no memory.
+/// The text of a reply. One that tells of an edit that was made takes no memory, and one that may be given again is shared.
 #[derive(Drop)]
 pub enum Made {
     Text(Vec<u8>),
+    Again(Arc<RecentReply>),
     Short(ArrayVec<u8, 512>),
     Fixed(&'static [u8]),
 }
@@ -50,33 +56,74 @@ impl Made {
     {
         match self {
             Made::Text(text) => text.as_slice(),
+            Made::Again(reply) => reply.text.as_slice(),
             Made::Short(text) => text.as_slice(),
             Made::Fixed(text) => text,
         }
     }
 }
 
-/// What is answered on the newest state, without changing it. Others may edit while what is kept of its page is looked for.
-fn read<H: House, G: Gate>(
-    alloc: Global,
-    house: &mut H,
-    gate: &mut G,
+/// The text of a reply that changes nothing, and how many elements were built for it, up to the greatest u64.
+#[derive(Drop)]
+struct Said {
+    made: Made,
+    built: u64,
+}
+
+/// The reply to what was asked to read, where it was given on the same state not long ago.
+fn again(
+    recent: &RecentReplies,
+    state: &State,
     reading: Reading,
     ask: &Ask,
     now: u64,
     closing: bool,
-) -> Result<Reply, AllocError>
+) -> Option<Arc<RecentReply>>
     requires { IsAsk ask.now }
+    ensures { IfSome result (λ reply. (house : HouseView) → AreRecent house recent.now → IsSeenIn house state.now → Says reading state.now ask.now now closing (arc_value reply).text.items 0) }
+{
+    match reading {
+        Reading::Page if !closing => recent.find(ask, state.number(), now),
+        _ => None,
+    }
+}
+
+/// What is answered on the newest state, without changing it: what was answered on it not long ago, or else what is made now. Others
+/// may edit while what is kept of its page is looked for.
+fn read<H: House, G: Gate>(
+    alloc: Global,
+    house: &mut H,
+    gate: &mut G,
+    recent: &mut RecentReplies,
+    reading: Reading,
+    ask: &Ask,
+    now: u64,
+    closing: bool,
+) -> Result<Said, AllocError>
+    requires right { IsAsk ask.now }
+    requires recent { AreRecent (H.sees house.old) recent.old }
     ensures moves { Moves (H.sees house.old) (H.sees house.new) }
     ensures stays { Stays (H.sees house.old) (H.sees house.new) }
-    ensures says { IfOk result (λ r. OnSeen (H.sees house.old) (H.sees house.new) (λ state. Says reading state ask.now now closing r.text.items r.built)) }
+    ensures says { IfOk result (λ said. OnSeen (H.sees house.old) (H.sees house.new) (λ state. Says reading state ask.now now closing (bytes_of said.made) said.built)) }
     ensures told { OnOk result (G.reached gate.new ≡ and_point (G.reached gate.old) AfterSnapshot) }
     ensures on_the_way { OnErr result (ToldOnTheWay (G.reached gate.old) (G.reached gate.new)) }
+    ensures recent { AreRecent (H.sees house.new) recent.new }
 {
-    let state = house.snapshot(alloc)?;
+    let newest = house.snapshot(alloc)?;
+    let state: &State = &newest;
     gate.reach(Point::AfterSnapshot);
-    let reply = reply_on(alloc, house, &state, reading, ask, now, closing)?;
-    Ok(reply)
+    if let Some(reply) = again(recent, state, reading, ask, now, closing) {
+        return Ok(Said {
+            made: Made::Again(reply),
+            built: 0,
+        });
+    }
+    let reply = reply_on(alloc, house, state, reading, ask, now, closing)?;
+    let made = recent.made(alloc, ask, state.number(), now, reply.text, reply.last);
+    Ok(Said {
+        made,
+        built: reply.built,
+    })
 }
 
 /// The words of chance that an edit takes, if it takes any.
@@ -141,6 +188,7 @@ fn reading_reply<H: House, G: Gate>(
     alloc: Global,
     house: &mut H,
     gate: &mut G,
+    recent: &mut RecentReplies,
     reading: Reading,
     ask: &Ask,
     now: u64,
@@ -148,16 +196,18 @@ fn reading_reply<H: House, G: Gate>(
 ) -> Made
     requires moment { now ≤ last_moment }
     requires right { IsAsk ask.now }
+    requires recent { AreRecent (H.sees house.old) recent.old }
     ensures moves { Moves (H.sees house.old) (H.sees house.new) }
+    ensures recent { AreRecent (H.sees house.new) recent.new }
     ensures makes { (words : Option (List ℕ)) → Makes
         (record { house = H.sees house.old; words = words; points = G.reached gate.old })
         (record { house = H.sees house.new; words = words; points = G.reached gate.new })
         (ToRead reading) ask.now now closing result }
 {
-    match read(alloc, house, gate, reading, ask, now, closing) {
-        Ok(reply) => {
-            gate.reach(Point::BeforeReply(reply.built));
-            Made::Text(reply.text)
+    match read(alloc, house, gate, recent, reading, ask, now, closing) {
+        Ok(said) => {
+            gate.reach(Point::BeforeReply(said.built));
+            said.made
         }
         Err(_) => {
             gate.reach(Point::BeforeReply(0));
@@ -172,13 +222,16 @@ fn reply_to<H: House, E: Entropy, G: Gate>(
     house: &mut H,
     entropy: &mut E,
     gate: &mut G,
+    recent: &mut RecentReplies,
     asked: &Asked,
     now: u64,
     closing: bool,
 ) -> Made
     requires moment { now ≤ last_moment }
     requires right { IsAsk asked.now.ask }
+    requires recent { AreRecent (H.sees house.old) recent.old }
     ensures moves { Moves (H.sees house.old) (H.sees house.new) }
+    ensures recent { AreRecent (H.sees house.new) recent.new }
     ensures makes { Makes
         (record { house = H.sees house.old; words = E.given entropy.old; points = G.reached gate.old })
         (record { house = H.sees house.new; words = E.given entropy.new; points = G.reached gate.new })
@@ -187,7 +240,7 @@ fn reply_to<H: House, E: Entropy, G: Gate>(
 {
     match &asked.call {
         Call::Reading(reading) => reading_reply(
-            alloc, house, gate, *reading, &asked.ask, now, closing,
+            alloc, house, gate, recent, *reading, &asked.ask, now, closing,
         ),
         Call::Edit(edit, body) => {
             let words = draw(entropy, draws(edit, body));
@@ -215,13 +268,16 @@ fn reply_made<H: House, E: Entropy, G: Gate>(
     house: &mut H,
     entropy: &mut E,
     gate: &mut G,
+    recent: &mut RecentReplies,
     request: Request,
     now: u64,
     closing: bool,
 ) -> Made
     requires moment { now ≤ last_moment }
     requires right { IsAsk (ask_of request) }
+    requires recent { AreRecent (H.sees house.old) recent.old }
     ensures moves { Moves (H.sees house.old) (H.sees house.new) }
+    ensures recent { AreRecent (H.sees house.new) recent.new }
     ensures makes { Makes
         (record { house = H.sees house.old; words = E.given entropy.old; points = G.reached gate.old })
         (record { house = H.sees house.new; words = E.given entropy.new; points = G.reached gate.new })
@@ -229,7 +285,7 @@ fn reply_made<H: House, E: Entropy, G: Gate>(
     ensures words { GivesInTurn last_word (E.words entropy.old) (E.words entropy.new) (E.given entropy.old) (E.given entropy.new) }
 {
     match asked_by(alloc, paths, request) {
-        Ok(asked) => reply_to(alloc, house, entropy, gate, &asked, now, closing),
+        Ok(asked) => reply_to(alloc, house, entropy, gate, recent, &asked, now, closing),
         Err(_) => {
             gate.reach(Point::BeforeReply(0));
             Made::Fixed(memory_text(closing))
@@ -246,11 +302,14 @@ pub fn answer<H: House, O: Sink, C: Clock, E: Entropy, G: Gate>(
     clock: &mut C,
     entropy: &mut E,
     gate: &mut G,
+    recent: &mut RecentReplies,
     request: Request,
     closing: bool,
 ) -> Outcome
-    requires { IsAsk (ask_of request) }
+    requires right { IsAsk (ask_of request) }
+    requires recent { AreRecent (H.sees house.old) recent.old }
     ensures moves { Moves (H.sees house.old) (H.sees house.new) }
+    ensures recent { AreRecent (H.sees house.new) recent.new }
     ensures replies { Replies result
         (record { given = C.given clock.old; words = E.given entropy.old; points = G.reached gate.old; written = O.written sink.old; handed = (H.sees house.old).handed; keepers = (H.sees house.old).keepers })
         (record { given = C.given clock.new; words = E.given entropy.new; points = G.reached gate.new; written = O.written sink.new; handed = (H.sees house.new).handed; keepers = (H.sees house.new).keepers })
@@ -260,7 +319,9 @@ pub fn answer<H: House, O: Sink, C: Clock, E: Entropy, G: Gate>(
     ensures cause { CountsOutcome result (O.faults sink.old) (O.faults sink.new) }
 {
     let now = clock.now();
-    let made = reply_made(alloc, paths, house, entropy, gate, request, now, closing);
+    let made = reply_made(
+        alloc, paths, house, entropy, gate, recent, request, now, closing,
+    );
     match write_whole(sink, made.bytes()) {
         Ok(()) => Outcome::Written,
         Err(Failed) => Outcome::WriteFault,

@@ -1,14 +1,16 @@
 //! A connection, from its first byte to its end.
-ghost use Rattle.std.specs.Prelude.{◌≡◌, ℕ, List};
+ghost use Rattle.std.specs.Prelude.{◌≡◌, ℕ, List, IfSome};
 ghost use Rattle.content_state.specs.declared.commit.Commit.{Commit};
 ghost use Rattle.site_house.specs.House.{Moves, history_of};
 ghost use Rattle.site_io.specs.Series.{GivesInTurn, last_moment, last_word};
 ghost use Rattle.site_io.specs.declared.ended.Ended.{Ended as End};
 ghost use Rattle.site_house.specs.History.{History, longer, newest};
+ghost use Rattle.site_http.specs.Recent.{AreRecent};
 ghost use Rattle.site_http.specs.Connection.{AreAsks, Around, Connection, CountsReads, CountsWrites};
 
 use crate::desk::Desk;
 use crate::next::Inbox;
+use crate::recent::RecentReplies;
 use crate::turn::{LIMIT, turn};
 use edit_paths::EditPaths;
 use site_house::House;
@@ -59,7 +61,9 @@ pub fn serve_next<H: House, S: Source, O: Sink, C: Clock, E: Entropy, G: Gate>(
     entropy: &mut E,
     gate: &mut G,
 ) -> Ended
+    requires recent { IfSome desk.old (λ d. AreRecent (H.sees house.old) d.recent) }
     ensures moves { Moves (H.sees house.old) (H.sees house.new) }
+    ensures recent { IfSome desk.new (λ d. AreRecent (H.sees house.new) d.recent) }
     ensures connection { Connection result
         (record { left = S.left source.old; out = record { given = C.given clock.old; words = E.given entropy.old; points = G.reached gate.old; written = O.written sink.old; handed = (H.sees house.old).handed; keepers = (H.sees house.old).keepers } })
         (record { left = S.left source.new; out = record { given = C.given clock.new; words = E.given entropy.new; points = G.reached gate.new; written = O.written sink.new; handed = (H.sees house.new).handed; keepers = (H.sees house.new).keepers } })
@@ -73,19 +77,27 @@ pub fn serve_next<H: House, S: Source, O: Sink, C: Clock, E: Entropy, G: Gate>(
         let made = Desk::new(alloc).ok();
         drop(mem::replace(desk, made));
     }
-    let Some(Desk { paths, inbox }) = desk else {
+    let Some(
+        Desk {
+            paths,
+            inbox,
+            recent,
+        },
+    ) = desk
+    else {
         return Ended::OutOfMemory;
     };
     serve_at(
-        alloc, paths, inbox, house, source, sink, clock, entropy, gate,
+        alloc, paths, inbox, recent, house, source, sink, clock, entropy, gate,
     )
 }
 
-/// The same with routers and an inbox, whatever came into it before.
+/// The same with routers, an inbox, whatever came into it before, and the replies that were given not long ago.
 fn serve_at<H: House, S: Source, O: Sink, C: Clock, E: Entropy, G: Gate>(
     alloc: Global,
     paths: &EditPaths,
     inbox: &mut Inbox,
+    recent: &mut RecentReplies,
     house: &mut H,
     source: &mut S,
     sink: &mut O,
@@ -93,7 +105,9 @@ fn serve_at<H: House, S: Source, O: Sink, C: Clock, E: Entropy, G: Gate>(
     entropy: &mut E,
     gate: &mut G,
 ) -> Ended
+    requires recent { AreRecent (H.sees house.old) recent.old }
     ensures moves { Moves (H.sees house.old) (H.sees house.new) }
+    ensures recent { AreRecent (H.sees house.new) recent.new }
     ensures connection { Connection result
         (record { left = S.left source.old; out = record { given = C.given clock.old; words = E.given entropy.old; points = G.reached gate.old; written = O.written sink.old; handed = (H.sees house.old).handed; keepers = (H.sees house.old).keepers } })
         (record { left = S.left source.new; out = record { given = C.given clock.new; words = E.given entropy.new; points = G.reached gate.new; written = O.written sink.new; handed = (H.sees house.new).handed; keepers = (H.sees house.new).keepers } })
@@ -106,7 +120,7 @@ fn serve_at<H: House, S: Source, O: Sink, C: Clock, E: Entropy, G: Gate>(
     inbox.clear();
     'requests: for index in 0..LIMIT {
         if let Some(ended) = turn(
-            alloc, paths, house, source, sink, clock, entropy, gate, inbox, index,
+            alloc, paths, house, source, sink, clock, entropy, gate, inbox, recent, index,
         ) {
             return ended;
         }

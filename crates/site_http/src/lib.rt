@@ -6,6 +6,7 @@ mod call;
 mod connection;
 mod desk;
 mod next;
+mod recent;
 mod refusal;
 mod reply;
 mod shown;
@@ -19,5 +20,6 @@ pub use http_heads::{
     reply_head,
 };
 pub use next::Inbox;
+pub use recent::RecentReplies;
 pub use turn::turn as serve_turn;
 pub use worker::{Worked, work};

@@ -1,9 +1,10 @@
 //! The text of a reply on a state.
-ghost use Rattle.std.specs.Prelude.{◌≡◌, IfOk, IsTrue, length};
+ghost use Rattle.std.specs.Prelude.{◌≡◌, IfOk, IfSome, IsTrue, None, false, length};
 ghost use Rattle.content_state.specs.Ask.{IsAsk};
 ghost use Rattle.site_house.specs.House.{Moves, Stays};
 ghost use Rattle.site_house.specs.Bins.{IsSeenIn};
 ghost use Rattle.site_http.specs.Reply.{page_head, method_body, method_text, IsPageReply, Says};
+ghost use Rattle.site_http.specs.Recent.{IsReplyUntil};
 ghost use Rattle.http_heads.specs.Reply.{reply_text, is_reply_status};
 
 use crate::call::Reading;
@@ -41,11 +42,25 @@ fn page_text(alloc: Global, head: &ReplyHead, body: &Body) -> Result<Vec<u8>, Al
     Ok(text)
 }
 
-/// A reply, and how many elements were built for it, up to the greatest u64.
+/// A reply, how many elements were built for it, up to the greatest u64, and until which moment, in seconds since 1970, it may be
+/// given again, if it may.
 #[derive(Drop)]
 pub struct Reply {
     pub text: Vec<u8>,
     pub built: u64,
+    pub last: Option<u64>,
+}
+
+/// Until when the reply of a page may be given again that may be shown until a last moment: where no cookie was sent, and the
+/// connection goes on.
+fn until(ask: &Ask, closing: bool, last: u64) -> Option<u64>
+    ensures { IfSome result (λ l. (l ≡ last) × (closing ≡ false) × (ask.now.cookie ≡ None)) }
+{
+    if closing || ask.cookie.is_some() {
+        None
+    } else {
+        Some(last)
+    }
 }
 
 /// The reply of a page.
@@ -62,6 +77,7 @@ fn page_reply<H: House>(
     ensures moves { Moves (H.sees house.old) (H.sees house.new) }
     ensures stays { Stays (H.sees house.old) (H.sees house.new) }
     ensures says { IfOk result (λ r. IsPageReply state.now ask.now now closing r.text.items r.built) }
+    ensures again { IfOk result (λ r. IfSome r.last (λ last. IsReplyUntil state.now ask.now now last r.text.items)) }
 {
     let page = shown_page(alloc, house, state, ask, now)?;
     let head = ReplyHead {
@@ -78,6 +94,7 @@ fn page_reply<H: House>(
     Ok(Reply {
         text,
         built: page.built,
+        last: until(ask, closing, page.last),
     })
 }
 
@@ -86,6 +103,7 @@ fn page_reply<H: House>(
 fn method_reply(alloc: Global, number: u64, closing: bool) -> Result<Reply, AllocError>
     ensures text { IfOk result (λ r. r.text.items ≡ method_text number closing) }
     ensures built { IfOk result (λ r. r.built ≡ 0) }
+    ensures last { IfOk result (λ r. r.last ≡ None) }
 {
     let head = ReplyHead {
         status: 405,
@@ -98,7 +116,11 @@ fn method_reply(alloc: Global, number: u64, closing: bool) -> Result<Reply, Allo
         close: closing,
     };
     let text = text_of(alloc, &head, b"{\"code\":\"method\"}")?;
-    Ok(Reply { text, built: 0 })
+    Ok(Reply {
+        text,
+        built: 0,
+        last: None,
+    })
 }
 
 /// What is answered on a state that the house has seen, at a moment, without changing it.
@@ -117,6 +139,7 @@ pub fn reply_on<H: House>(
     ensures moves { Moves (H.sees house.old) (H.sees house.new) }
     ensures stays { Stays (H.sees house.old) (H.sees house.new) }
     ensures says { IfOk result (λ r. Says reading state.now ask.now now closing r.text.items r.built) }
+    ensures again { IfOk result (λ r. IfSome r.last (λ last. IsReplyUntil state.now ask.now now last r.text.items)) }
 {
     match reading {
         Reading::Page => {
@@ -129,11 +152,19 @@ pub fn reply_on<H: House>(
         }
         Reading::NoMedia => {
             let text = media_text(alloc, state.number(), closing)?;
-            Ok(Reply { text, built: 0 })
+            Ok(Reply {
+                text,
+                built: 0,
+                last: None,
+            })
         }
         Reading::BadJson => {
             let text = bad_json_text(alloc, state.number(), closing)?;
-            Ok(Reply { text, built: 0 })
+            Ok(Reply {
+                text,
+                built: 0,
+                last: None,
+            })
         }
     }
 }

@@ -5,6 +5,7 @@ ghost use Rattle.http_heads.specs.Reply.{is_reply_status};
 ghost use Rattle.render_array.specs.Shown.{IsPage, page_count};
 ghost use Rattle.site_house.specs.House.{Moves, Stays};
 ghost use Rattle.site_house.specs.Bins.{IsSeenIn};
+ghost use Rattle.kept_pages.specs.Lasting.{Lasts};
 ghost use Rattle.site_http.specs.Reply.{IsBuiltFor};
 
 use content_state::{Ask, State};
@@ -30,6 +31,7 @@ pub fn shown_page<H: House>(
     ensures status { IfOk result (λ p. IsTrue (is_reply_status p.status)) }
     ensures built_for { IfOk result (λ p. IsBuiltFor state.now ask.now now p.built) }
     ensures at_most { IfOk result (λ p. p.built ≤ min (page_count state.now.rows ask.now now) 18446744073709551615) }
+    ensures lasts { IfOk result (λ p. Lasts state.now ask.now now p.last p.status p.body) }
 {
     let viewer = viewer_of(state, ask, now);
     let page = render_page(alloc, house, state, &viewer, ask, now)?;

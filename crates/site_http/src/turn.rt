@@ -3,10 +3,12 @@ ghost use Rattle.std.specs.Prelude.{◌≡◌, ◌≤◌, ◌<◌, Some};
 ghost use Rattle.site_house.specs.House.{Moves, history_of};
 ghost use Rattle.site_io.specs.Series.{GivesInTurn, last_moment, last_word};
 ghost use Rattle.site_house.specs.History.{newest};
+ghost use Rattle.site_http.specs.Recent.{AreRecent};
 ghost use Rattle.site_http.specs.Turn.{Turned, TurnReads, TurnWrites};
 
 use crate::answer::{Outcome, answer};
 use crate::next::{Inbox, Next, Trouble};
+use crate::recent::RecentReplies;
 use crate::refusal::write_refusal;
 use edit_paths::EditPaths;
 use site_house::House;
@@ -16,7 +18,7 @@ use std::alloc::Global;
 /// The number of replies that a connection gets.
 pub const LIMIT: u64 = 1000;
 
-/// Takes a request and answers it. None is to go on.
+/// Takes a request and answers it, with what was answered not long ago where that is the same. None is to go on.
 pub fn turn<H: House, S: Source, O: Sink, C: Clock, E: Entropy, G: Gate>(
     alloc: Global,
     paths: &EditPaths,
@@ -27,10 +29,13 @@ pub fn turn<H: House, S: Source, O: Sink, C: Clock, E: Entropy, G: Gate>(
     entropy: &mut E,
     gate: &mut G,
     inbox: &mut Inbox,
+    recent: &mut RecentReplies,
     index: u64,
 ) -> Option<Ended>
-    requires { index < LIMIT }
+    requires within { index < LIMIT }
+    requires recent { AreRecent (H.sees house.old) recent.old }
     ensures moves { Moves (H.sees house.old) (H.sees house.new) }
+    ensures recent { AreRecent (H.sees house.new) recent.new }
     ensures turned { Turned result
         (record { left = S.left source.old; out = record { given = C.given clock.old; words = E.given entropy.old; points = G.reached gate.old; written = O.written sink.old; handed = (H.sees house.old).handed; keepers = (H.sees house.old).keepers } })
         (record { left = S.left source.new; out = record { given = C.given clock.new; words = E.given entropy.new; points = G.reached gate.new; written = O.written sink.new; handed = (H.sees house.new).handed; keepers = (H.sees house.new).keepers } })
@@ -56,7 +61,7 @@ pub fn turn<H: House, S: Source, O: Sink, C: Clock, E: Entropy, G: Gate>(
     let closes = request.closes;
     let closing = closes || index + 1 == LIMIT;
     match answer(
-        alloc, paths, house, sink, clock, entropy, gate, request, closing,
+        alloc, paths, house, sink, clock, entropy, gate, recent, request, closing,
     ) {
         Outcome::Written => { if closes { Some(Ended::Asked) } else { None } }
         Outcome::WriteFault => Some(Ended::WriteFault),

@@ -1,5 +1,6 @@
 //! Sources and sinks over readers and writers of the standard library, which tell what those tell.
 ghost use Rattle.std.specs.Prelude.{◌≡◌, ◌≤◌, true, false, OnErr, OnOk};
+ghost use Rattle.site_io.specs.Memory.{up};
 ghost use Rattle.site_io.specs.Told.{Rose};
 
 use crate::device::{Failed, Sink, Source};
@@ -104,6 +105,7 @@ impl<W: Write + Drop> Writing<W> {
         ensures written { self.new.written ≡ self.old.written }
         ensures owes { self.new.owes_flush ≡ self.old.owes_flush }
         ensures cause { Rose self.old.faults self.new.faults }
+        ensures once { self.new.faults ≡ up self.old.faults }
         ensures never_falls { self.old.faults ≤ self.new.faults }
     {
         self.faults = self.faults.saturating_add(1);
@@ -112,13 +114,14 @@ impl<W: Write + Drop> Writing<W> {
 
     /// Flushes the writer, where the flush after the last write failed: bytes that were written may be held back by it.
     ///
-    /// `Failed` comes exactly where that fails again and the count of faults rose in this call. Each write begins with
+    /// `Failed` comes exactly where that fails again and the count of faults rose in this call, by one. Each write begins with
     /// this; so call it once the last write is made.
     pub fn settle(&mut self) -> Result<(), Failed>
         ensures written { self.new.written ≡ self.old.written }
         ensures settled { OnOk result (self.new.owes_flush ≡ false) }
         ensures owed { OnErr result ((self.old.owes_flush ≡ true) × (self.new.owes_flush ≡ true)) }
         ensures cause { OnErr result (Rose self.old.faults self.new.faults) }
+        ensures once { OnErr result (self.new.faults ≡ up self.old.faults) }
         ensures steady { OnOk result (self.new.faults ≡ self.old.faults) }
         ensures never_falls { self.old.faults ≤ self.new.faults }
     {

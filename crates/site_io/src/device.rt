@@ -1,5 +1,6 @@
 //! The devices, as traits.
 ghost use Rattle.std.specs.Prelude.{◌≡◌, ◌≤◌, ◌<◌, ℕ, List, [], ◌∷◌, ◌++◌, Option, length, take, OnOk, OnErr, IfOk};
+ghost use Rattle.site_io.specs.Memory.{up};
 ghost use Rattle.site_io.specs.Told.{before, after, IsNothingLeft, Rose};
 ghost use Rattle.site_io.specs.Series.{GivesInTurn, last_moment, last_word};
 
@@ -18,13 +19,14 @@ pub trait Source {
     /// Reads up to as many bytes as the buffer has places, to its front, and answers how many.
     ///
     /// 0 into a buffer that isn't empty is the end of the input, for good. `Failed` comes exactly where the count of
-    /// faults rose in this call, and then no byte was taken.
+    /// faults rose in this call, by one, and then no byte was taken.
     fn read(&mut self, buffer: &mut [u8]) -> Result<usize, Failed>
         ensures fits { IfOk result (λ n. n ≤ length buffer.old) }
         ensures told { IfOk result (λ n. left self.old ≡ before (take n buffer.new) (left self.new)) }
         ensures end { IfOk result (λ n. n ≡ 0 → 0 < length buffer.old → IsNothingLeft (left self.old)) }
         ensures failed { OnErr result (left self.new ≡ left self.old) }
         ensures cause { OnErr result (Rose (faults self.old) (faults self.new)) }
+        ensures once { OnErr result (faults self.new ≡ up (faults self.old)) }
         ensures steady { OnOk result (faults self.new ≡ faults self.old) }
         ensures never_falls { faults self.old ≤ faults self.new };
 
@@ -43,13 +45,14 @@ pub trait Sink {
 
     /// Writes a front of the piece, and answers how many bytes that is: at least one, where the piece isn't empty.
     ///
-    /// `Failed` comes exactly where the count of faults rose in this call, and then no byte was written.
+    /// `Failed` comes exactly where the count of faults rose in this call, by one, and then no byte was written.
     fn write(&mut self, piece: &[u8]) -> Result<usize, Failed>
         ensures fits { IfOk result (λ n. n ≤ length piece.now) }
         ensures some { IfOk result (λ n. 0 < length piece.now → 0 < n) }
         ensures told { IfOk result (λ n. written self.new ≡ after (written self.old) (take n piece.now)) }
         ensures failed { OnErr result (written self.new ≡ written self.old) }
         ensures cause { OnErr result (Rose (faults self.old) (faults self.new)) }
+        ensures once { OnErr result (faults self.new ≡ up (faults self.old)) }
         ensures steady { OnOk result (faults self.new ≡ faults self.old) }
         ensures never_falls { faults self.old ≤ faults self.new };
 

@@ -1,5 +1,6 @@
 //! What gives connections, and what gives leave to take one more.
 ghost use Rattle.std.specs.Prelude.{◌≡◌, ◌≤◌, ◌+◌, ℕ, List, Bool, true, false, Option, IfOk, OnOk, OnErr, if◌then◌else◌};
+ghost use Rattle.site_io.specs.Memory.{up};
 ghost use Rattle.site_io.specs.Told.{Rose};
 
 use crate::device::{Failed, Sink, Source};
@@ -31,7 +32,7 @@ pub trait Door {
 
     /// Waits for a connection and takes it. The one before it must have been given back.
     ///
-    /// `Failed` comes exactly where the count of faults rose in this call, and then no connection was taken.
+    /// `Failed` comes exactly where the count of faults rose in this call, by one, and then no connection was taken.
     fn accept(&mut self) -> Result<(Self::In, Self::Out), Failed>
         requires { is_out self.old ≡ false }
         ensures next { IfOk result (λ line. IsNext (coming self.old) (record { left = Self.In.left line.0; written = Self.Out.written line.1 })) }
@@ -41,6 +42,7 @@ pub trait Door {
         ensures none_out { OnErr result (is_out self.new ≡ is_out self.old) }
         ensures returned { returned self.new ≡ returned self.old }
         ensures cause { OnErr result (Rose (faults self.old) (faults self.new)) }
+        ensures once { OnErr result (faults self.new ≡ up (faults self.old)) }
         ensures steady { OnOk result (faults self.new ≡ faults self.old) }
         ensures never_falls { faults self.old ≤ faults self.new };
 

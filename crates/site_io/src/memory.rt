@@ -125,6 +125,7 @@ impl Source for MemorySource {
         ensures end { IfOk result (λ n. n ≡ 0 → 0 < length buffer.old → self.old.left ≡ []) }
         ensures failed { OnErr result (self.new.left ≡ self.old.left) }
         ensures cause { OnErr result (Rose self.old.calls.faults self.new.calls.faults) }
+        ensures once { OnErr result (self.new.calls.faults ≡ up self.old.calls.faults) }
         ensures steady { OnOk result (self.new.calls.faults ≡ self.old.calls.faults) }
         ensures never_falls { self.old.calls.faults ≤ self.new.calls.faults }
         ensures exact { IfOk result (λ n. n ≡ read_size self.old (length buffer.old)) }
@@ -208,6 +209,7 @@ impl Sink for MemorySink {
         ensures told { IfOk result (λ n. Some self.new.written ≡ after (Some self.old.written) (take n piece.now)) }
         ensures failed { OnErr result (self.new.written ≡ self.old.written) }
         ensures cause { OnErr result (Rose self.old.calls.faults self.new.calls.faults) }
+        ensures once { OnErr result (self.new.calls.faults ≡ up self.old.calls.faults) }
         ensures steady { OnOk result (self.new.calls.faults ≡ self.old.calls.faults) }
         ensures never_falls { self.old.calls.faults ≤ self.new.calls.faults }
         ensures exact { IfOk result (λ n. n ≡ write_size self.old (length piece.now)) }

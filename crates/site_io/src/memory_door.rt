@@ -1,7 +1,7 @@
 //! A door in memory, which tells what it gives and what it is given back.
 ghost use Rattle.std.specs.Prelude.{◌≡◌, ◌≤◌, ◌++◌, ◌∷◌, [], Some, true, false, map, IfOk, OnOk, OnErr, IsOk, ◌↔◌};
 ghost use Rattle.site_io.specs.Told.{Rose};
-ghost use Rattle.site_io.specs.Memory.{fresh, next_fails, passed, failed};
+ghost use Rattle.site_io.specs.Memory.{fresh, next_fails, passed, failed, up};
 ghost use Rattle.site_io.specs.Doors.{IsNext, later_lines, and_back};
 ghost use Rattle.site_io.specs.MemoryDoors.{line_of, back_of, MemoryDoor as MemoryDoorValue, is_none_left};
 
@@ -104,6 +104,7 @@ impl Door for MemoryDoor {
         ensures none_out { OnErr result (self.new.is_out ≡ self.old.is_out) }
         ensures returned { Some self.new.returned ≡ Some self.old.returned }
         ensures cause { OnErr result (Rose self.old.calls.faults self.new.calls.faults) }
+        ensures once { OnErr result (self.new.calls.faults ≡ up self.old.calls.faults) }
         ensures steady { OnOk result (self.new.calls.faults ≡ self.old.calls.faults) }
         ensures never_falls { self.old.calls.faults ≤ self.new.calls.faults }
         ensures exactly_listed { IsOk result ↔ ((next_fails self.old.calls ≡ false) × (is_none_left self.old ≡ false)) }

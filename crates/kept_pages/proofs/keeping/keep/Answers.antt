@@ -24,4 +24,4 @@ returns-in_ok-keep_redirect-in-Some-clause-told g c =
     offered_second c.args.reader.now shelves c.args.bin c.args.subject.now (arc_value c.args.entry.now)
     (made_is_fresh c.args.reader.now c.args.subject.now (arc_value c.args.entry.now) c.requires.made) (option_copied c.args.told) (arc_value c.in-Some.contexts) _ _
     (one_second c.in_ok-redirect_to.field-0 _ c.in-Some.contexts c.in-Some.is (rw c.deref.ensures at c.in_ok-redirect_to.ensures)) p
-    (subst (λ (l : List Context). Puts p.after c.args.bin (key_by (visit c.args.reader.now) c.args.subject.now l) (Whole (arc_value c.args.entry.now)) (g.H.House.sees c.keep_at-in-Some.new.house)) (c.as_slice.ensures.same ∙ c.deref-in-Some.ensures) (f p.after p.is)))
+    (subst (λ (l : List Context). Puts p.after c.args.bin (key_by (visit c.args.reader.now) c.args.subject.now l) (Whole (arc_value c.args.entry.now)) (g.H.House.sees c.keep_at-in-Some.new.house)) (c.as_slice.ensures.same ∙ c.deref-in-Some-2.ensures) (f p.after p.is)))

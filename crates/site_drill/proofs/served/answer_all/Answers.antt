@@ -1,4 +1,4 @@
-use Rattle.std.proofs.Common.{◌≡◌, ◌+◌, ◌-◌, ◌≤◌, ◌++◌, List, ℕ, Some, refl, sym, subst, arith}
+use Rattle.std.proofs.Common.{◌≡◌, ◌+◌, ◌≤◌, List, ℕ, Some, refl, sym, subst, arith}
 use Rattle.std.proofs.lemmas.Result.{err_from_is_err_and}
 use Rattle.site_house.proofs.Moving.{moves_same, moves_on}
 use Rattle.site_house.specs.History.{newest}
@@ -18,9 +18,10 @@ requests-init g c =
     let old : Around = (record { left = Some c.args.source.now; out = record { given = g.C.Clock.given c.args.clock.now; words = g.E.Entropy.given c.args.entropy.now; points = g.G.Gate.reached c.args.gate.now; written = Some c.args.sink.now.written; handed = (g.H.House.sees c.args.house.now).handed; keepers = (g.H.House.sees c.args.house.now).keepers } }) in
     record {
       moves = moves_same house;
-      underway = subst (λ (b : List ℕ). Underway old old (history_of house) (newest (history_of house)) 0 0 (newest (history_of house)) b) (sym c.requires) (begun old (history_of house));
+      underway = subst (λ (b : List ℕ). Underway old old (history_of house) (newest (history_of house)) 0 0 (newest (history_of house)) b) (sym c.requires.empty) (begun old (history_of house));
       moments = turn_same (g.C.Clock.moments c.args.clock.now) (g.C.Clock.given c.args.clock.now);
       few = omega arith;
+      recent = c.requires.recent;
     }
 
 pub requests-preserved : goal.requests-preserved
@@ -33,6 +34,7 @@ requests-preserved g c =
       underway = subst (λ (n : ℕ). Underway (record { left = Some c.args.source.now; out = record { given = g.C.Clock.given c.args.clock.now; words = g.E.Entropy.given c.args.entropy.now; points = g.G.Gate.reached c.args.gate.now; written = Some c.args.sink.now.written; handed = (g.H.House.sees c.args.house.now).handed; keepers = (g.H.House.sees c.args.house.now).keepers } }) (record { left = Some c.answer_next.new.source; out = record { given = g.C.Clock.given c.answer_next.new.clock; words = g.E.Entropy.given c.answer_next.new.entropy; points = g.G.Gate.reached c.answer_next.new.gate; written = Some c.answer_next.new.sink.written; handed = (g.H.House.sees c.answer_next.new.house).handed; keepers = (g.H.House.sees c.answer_next.new.house).keepers } }) (history_of house) low (c.requests.index + 1) n (newest (history_of house)) c.answer_next.new.inbox) (sym c.pages_with-pages.ensures) next;
       moments = turn_more c.requests.invariant.moments c.answer_next.ensures.moments;
       few = subst (λ (n : ℕ). n ≤ c.requests.index + 1) (sym c.pages_with-pages.ensures) (pages_few c.requests.pages c.requests.index c.in_ok-page.page c.requests.invariant.few);
+      recent = c.answer_next.ensures.recent;
     }
 
 pub returns-in_err-page-clause-stopped : goal.returns-in_err-page-clause-stopped

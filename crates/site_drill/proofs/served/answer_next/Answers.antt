@@ -16,7 +16,7 @@ returns-clause-took g c =
 
 pub returns-in-Some-clause-stopped : goal.returns-in-Some-clause-stopped
 returns-in-Some-clause-stopped g c =
-    let early = c.requires in
+    let early = c.requires.within in
     early_stops
     (record { left = Some c.args.source.now; out = record { given = g.C.Clock.given c.args.clock.now; words = g.E.Entropy.given c.args.entropy.now; points = g.G.Gate.reached c.args.gate.now; written = Some c.args.sink.now.written; handed = (g.H.House.sees c.args.house.now).handed; keepers = (g.H.House.sees c.args.house.now).keepers } })
     (record { left = Some c.turn.new.source; out = record { given = g.C.Clock.given c.turn.new.clock; words = g.E.Entropy.given c.turn.new.entropy; points = g.G.Gate.reached c.turn.new.gate; written = Some c.turn.new.sink.written; handed = (g.H.House.sees c.turn.new.house).handed; keepers = (g.H.House.sees c.turn.new.house).keepers } })

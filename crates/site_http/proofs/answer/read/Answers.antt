@@ -1,11 +1,39 @@
+use Rattle.std.proofs.Common.{◌∙◌, sym}
+use Rattle.kept_pages.proofs.Entries.{seen_on}
+use Rattle.site_house.proofs.Moving.{moves_same, moves_on}
 use Rattle.site_http.proofs.Made.{newest_seen, said_on}
+use Rattle.site_http.proofs.Again.{recent_stay}
 use Rattle.site_http.proofs.answer.read.Goals as goal
 
 pub reply_on-requires-clause-seen : goal.reply_on-requires-clause-seen
 reply_on-requires-clause-seen g c =
-    rw c.deref.ensures (newest_seen (g.H.House.sees c.snapshot.new.self) c.in_ok-state.state.value c.in_ok-state.ensures.state c.in_ok-state.ensures.valid)
+    newest_seen (g.H.House.sees c.snapshot.new.self) c.deref-state.result.now (c.deref-state.ensures ∙ c.in_ok-newest.ensures.state) c.in_ok-newest.ensures.valid
+
+pub returns-in-Some-clause-says : goal.returns-in-Some-clause-says
+returns-in-Some-clause-says g c =
+    let house = g.H.House.sees c.snapshot.new.self in
+    let is = c.deref-state.ensures ∙ c.in_ok-newest.ensures.state in
+    said_on (g.H.House.sees c.args.house.now) house house c.deref-state.result.now c.args.reading c.args.ask.now c.args.now c.args.closing c.in-Some.reply.value.text.items 0
+    c.in_ok-newest.ensures.moves c.in_ok-newest.ensures.valid is (moves_same house)
+    (c.in-Some.ensures house (recent_stay c.args.recent.now c.in_ok-newest.ensures.moves c.requires.recent) (newest_seen house c.deref-state.result.now is c.in_ok-newest.ensures.valid))
+
+pub returns-in-Some-clause-recent : goal.returns-in-Some-clause-recent
+returns-in-Some-clause-recent g c = recent_stay c.args.recent.now c.in_ok-newest.ensures.moves c.requires.recent
+
+pub returns-in_err-reply-clause-recent : goal.returns-in_err-reply-clause-recent
+returns-in_err-reply-clause-recent g c = recent_stay c.args.recent.now (moves_on c.in_ok-newest.ensures.moves c.reply_on.ensures.moves) c.requires.recent
 
 pub returns-clause-says : goal.returns-clause-says
 returns-clause-says g c =
-    said_on _ (g.H.House.sees c.snapshot.new.self) (g.H.House.sees c.reply_on.new.house) c.in_ok-state.state.value c.args.reading c.args.ask.now c.args.now c.args.closing c.in_ok-reply.reply.text.items c.in_ok-reply.reply.built
-    c.in_ok-state.ensures.moves c.in_ok-state.ensures.valid c.in_ok-state.ensures.state c.in_ok-reply.ensures.moves (rw c.deref.ensures at c.in_ok-reply.ensures.says)
+    rw c.made-made.ensures.text
+    (said_on (g.H.House.sees c.args.house.now) (g.H.House.sees c.snapshot.new.self) (g.H.House.sees c.reply_on.new.house) c.deref-state.result.now c.args.reading c.args.ask.now c.args.now c.args.closing c.in_ok-reply.reply.text.items c.in_ok-reply.reply.built
+    c.in_ok-newest.ensures.moves c.in_ok-newest.ensures.valid (c.deref-state.ensures ∙ c.in_ok-newest.ensures.state) c.reply_on.ensures.moves c.in_ok-reply.ensures.says)
+
+pub returns-clause-recent : goal.returns-clause-recent
+returns-clause-recent g c =
+    let house = g.H.House.sees c.snapshot.new.self in
+    let is = c.deref-state.ensures ∙ c.in_ok-newest.ensures.state in
+    c.made-made.ensures.recent (g.H.House.sees c.reply_on.new.house) c.deref-state.result.now
+    (seen_on house (g.H.House.sees c.reply_on.new.house) c.deref-state.result.now c.reply_on.ensures.moves (newest_seen house c.deref-state.result.now is c.in_ok-newest.ensures.valid))
+    (sym c.number.ensures) c.requires.right c.in_ok-reply.ensures.again
+    (recent_stay c.args.recent.now (moves_on c.in_ok-newest.ensures.moves c.reply_on.ensures.moves) c.requires.recent)

@@ -20,6 +20,7 @@ requests-init g c =
       progress = subst (λ (b : List ℕ). Progress old old (history_of house) 1000 (newest (history_of house)) 0 (newest (history_of house)) b) (sym c.clear.ensures) (begun old (history_of house) 1000);
       moments = turn_same (g.C.Clock.moments c.args.clock.now) (g.C.Clock.given c.args.clock.now);
       words = turn_same (g.E.Entropy.words c.args.entropy.now) (g.E.Entropy.given c.args.entropy.now);
+      recent = c.requires.recent;
       reading = refl;
       writing = refl;
     }
@@ -43,6 +44,7 @@ requests-preserved g c = record {
   progress = goes_in {house = g.H.House.sees c.requests.house} {house' = g.H.House.sees c.turn.new.house} c.turn.new.inbox (omega arith) c.in_default.ensures.moves c.requests.invariant.progress c.in_default.ensures.turned;
   moments = turn_more c.requests.invariant.moments c.in_default.ensures.moments;
   words = turn_more c.requests.invariant.words c.in_default.ensures.words;
+  recent = c.in_default.ensures.recent;
   reading = c.in_default.ensures.reads ∙ c.requests.invariant.reading;
   writing = c.in_default.ensures.writes ∙ c.requests.invariant.writing;
 }

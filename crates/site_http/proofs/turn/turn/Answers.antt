@@ -34,5 +34,5 @@ returns-in-WriteFault-clause-turned g c =
       replied = search rules;
     })
 
-pub answer-requires : goal.answer-requires
-answer-requires g c = are_asks _ c.in-Request.request c.in-Request.ensures.fetches.decides.0 c.in-Request.ensures.fetches.decides.1
+pub answer-requires-clause-right : goal.answer-requires-clause-right
+answer-requires-clause-right g c = are_asks _ c.in-Request.request c.in-Request.ensures.fetches.decides.0 c.in-Request.ensures.fetches.decides.1

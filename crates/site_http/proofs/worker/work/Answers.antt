@@ -24,6 +24,7 @@ connections-preserved g c =
       moves = moves_on before.moves served.ensures.moves;
       moments = turn_more before.moments served.ensures.moments;
       words = turn_more before.words served.ensures.words;
+      recent = served.ensures.recent;
       none_out = c.done.ensures.none_out;
       same = c.if-not-more.ensures.same ∙ before.same;
       steady = c.done.ensures.steady ∙ c.in-Ok.ensures.steady ∙ before.steady;

@@ -1,6 +1,7 @@
-use Rattle.std.proofs.Common.{◌≡◌, false}
+use Rattle.std.proofs.Common.{◌≡◌, false, IfSome}
 use Rattle.site_house.specs.House.{Moves, history_of}
 use Rattle.site_io.specs.Series.{GivesInTurn, last_moment, last_word}
+use Rattle.site_http.specs.Recent.{AreRecent}
 use Rattle.site_http.specs.Work.{ServesBetween}
 use Rattle.site_http.proofs.worker.work.Given as goal
 
@@ -13,6 +14,7 @@ invariant-connections g l = record {
   moves : Moves (g.H.House.sees l.fn.house) (g.H.House.sees l.house);
   moments : GivesInTurn last_moment (g.C.Clock.moments l.fn.clock) (g.C.Clock.moments l.clock) (g.C.Clock.given l.fn.clock) (g.C.Clock.given l.clock);
   words : GivesInTurn last_word (g.E.Entropy.words l.fn.entropy) (g.E.Entropy.words l.entropy) (g.E.Entropy.given l.fn.entropy) (g.E.Entropy.given l.entropy);
+  recent : IfSome l.desk (λ d. AreRecent (g.H.House.sees l.house) d.recent);
   none_out : g.D.Door.is_out l.door ≡ false;
   same : g.M.More.name l.more ≡ g.M.More.name l.fn.more;
   steady : g.D.Door.faults l.door ≡ g.D.Door.faults l.fn.door;

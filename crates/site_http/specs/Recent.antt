@@ -1,0 +1,39 @@
+-- Replies that may be given again.
+-- https://www.rfc-editor.org/rfc/rfc9111#section-4.2
+use Rattle.std.specs.Prelude.{ℕ, List, ◌≡◌, ◌≤◌, false, Option, None, IfSome, All}
+use Rattle.std.specs.Arc.{arc_value}
+use Rattle.std.specs.declared.sync.Arc.{Arc}
+use Rattle.std.specs.declared.alloc.Global.{Global}
+use Rattle.content_state.specs.State.{State}
+use Rattle.content_state.specs.declared.ask.Ask.{Ask}
+use Rattle.content_state.specs.Ask.{IsAsk}
+use Rattle.site_house.specs.House.{HouseView}
+use Rattle.site_house.specs.Bins.{IsSeenIn}
+use Rattle.site_http.specs.declared.recent.RecentReply.{RecentReply}
+use Rattle.site_http.specs.Reply.{IsPageReply}
+
+-- No cookie was sent, and the text is the reply of the page on the state at each moment from this one until the last; nothing is
+-- built for it.
+pub record IsReplyUntil (state : State) (ask : Ask) (moment last : ℕ) (text : List ℕ) : Type 0 where
+  pub cookie : ask.cookie ≡ None
+  pub again : (later : ℕ) → moment ≤ later → later ≤ last → IsPageReply state ask later false text 0
+
+-- a request without a cookie asks for a reply's target, on the state of its number, at one of its moments
+pub record Fits (reply : RecentReply) (number : ℕ) (ask : Ask) (moment : ℕ) : Type 0 where
+  pub number_is : reply.number ≡ number
+  pub from : reply.from ≤ moment
+  pub until : moment ≤ reply.until
+  pub cookie : ask.cookie ≡ None
+  pub target : reply.target ≡ ask.target
+
+-- A reply may be given again: it was given on a state that the house has seen, and each request that it fits has the same reply
+-- there.
+pub record IsRecent (house : HouseView) (reply : RecentReply) : Type 0 where
+  pub state : State
+  pub seen : IsSeenIn house state
+  pub number_is : state.number ≡ reply.number
+  pub again : (ask : Ask) (moment : ℕ) → IsAsk ask → Fits reply state.number ask moment → IsPageReply state ask moment false reply.text.items 0
+
+-- so may each that stands at a place
+abbrev pub AreRecent : HouseView → List (Option (Arc RecentReply Global)) → Type 0
+AreRecent house places = All (λ place. IfSome place (λ reply. IsRecent house (arc_value reply))) places

@@ -1,0 +1,160 @@
+//! Replies that were given not long ago, and may be given again.
+ghost use Rattle.std.specs.Prelude.{◌≡◌, ◌<◌, ◌↔◌, IfOk, IfSome, IsTrue};
+ghost use Rattle.std.specs.Arc.{arc_value};
+ghost use Rattle.content_state.specs.Ask.{IsAsk};
+ghost use Rattle.content_state.specs.State.{State};
+ghost use Rattle.site_house.specs.House.{HouseView};
+ghost use Rattle.site_house.specs.Bins.{IsSeenIn};
+ghost use Rattle.site_http.specs.Recent.{Fits, IsRecent, AreRecent, IsReplyUntil};
+ghost use Rattle.site_http.specs.Turn.{bytes_of};
+
+use crate::answer::Made;
+use content_rows::{Duplicate, Text};
+use content_state::Ask;
+use std::alloc::{AllocError, Global};
+use std::marker::Model;
+use std::sync::Arc;
+
+/// How many replies are remembered, at most.
+const PLACES: usize = 64;
+
+/// No longer reply is remembered, in bytes.
+const LONGEST: usize = 65_536;
+
+/// The reply of a page that may be given again as it is: to a request for the same target without a cookie, on the state of
+/// this number, at a moment between these, in seconds since 1970 (RFC 9111, section 4.2).
+#[derive(Drop)]
+pub struct RecentReply {
+    pub target: Text,
+    pub number: u64,
+    pub from: u64,
+    pub until: u64,
+    pub text: Vec<u8>,
+}
+
+impl RecentReply {
+    /// Whether it may be given to a request, on the state of a number, at a moment.
+    fn fits(&self, ask: &Ask, number: u64, now: u64) -> bool
+        ensures { IsTrue result ↔ Fits self.now number ask.now now }
+    {
+        self.number == number
+            && self.from <= now
+            && now <= self.until
+            && ask.cookie.is_none()
+            && self.target.equals(&ask.target)
+    }
+}
+
+/// The place of a target among those of replies, by the hash of Fowler, Noll and Vo.
+/// <https://www.rfc-editor.org/rfc/rfc9923>
+fn place_of(target: &[u8]) -> usize
+    ensures { result < PLACES }
+{
+    let mut hash: u64 = 0xcbf2_9ce4_8422_2325;
+    'bytes: for byte in target {
+        hash = (hash ^ u64::from(*byte)).wrapping_mul(0x0100_0000_01b3);
+    }
+    (hash % 64) as usize
+}
+
+/// The replies that a worker gave not long ago and may give again, each at the place of its target, where a later one takes its
+/// place. Contracts see them as the list of these places.
+pub struct RecentReplies {
+    places: Vec<Option<Arc<RecentReply>>>,
+}
+
+impl Drop for RecentReplies {
+    fn drop(self) {
+        let RecentReplies { places: _ } = self;
+    }
+}
+
+impl Model for RecentReplies {
+    ghost use Rattle.std.specs.Prelude.{List, Option};
+    ghost use Rattle.std.specs.declared.sync.Arc.{Arc};
+    ghost use Rattle.std.specs.declared.alloc.Global.{Global};
+    ghost use Rattle.site_http.specs.declared.recent.RecentReply.{RecentReply};
+
+    ghost Value = { List (Option (Arc RecentReply Global)) };
+
+    ghost view = { λ r. r.places.items };
+}
+
+impl RecentReplies {
+    /// None yet. `Err` only where memory is wanting.
+    pub fn new(alloc: Global) -> Result<RecentReplies, AllocError>
+        ensures { IfOk result (λ recent. (house : HouseView) → AreRecent house recent) }
+    {
+        let mut places = Vec::with_capacity(alloc, PLACES)?;
+        'places: for _ in 0..PLACES {
+            places.push(None)?;
+        }
+        Ok(RecentReplies { places })
+    }
+
+    /// The reply that may be given again to a request, on the state of a number, at a moment, where it is remembered.
+    pub fn find(&self, ask: &Ask, number: u64, now: u64) -> Option<Arc<RecentReply>>
+        ensures fits { IfSome result (λ reply. Fits (arc_value reply) number ask.now now) }
+        ensures recent { IfSome result (λ reply. (house : HouseView) → AreRecent house self.now → IsRecent house (arc_value reply)) }
+    {
+        let Some(Some(reply)) = self.places.get(place_of(ask.target.as_slice())) else {
+            return None;
+        };
+        if reply.fits(ask, number, now) {
+            Arc::try_clone(reply).ok()
+        } else {
+            None
+        }
+    }
+
+    /// Remembers a reply, at the place of its target.
+    fn remember(&mut self, reply: &Arc<RecentReply>)
+        ensures { (house : HouseView) → AreRecent house self.old → IsRecent house (arc_value reply.now) → AreRecent house self.new }
+    {
+        let place = place_of(reply.target.as_slice());
+        if let Ok(shared) = Arc::try_clone(reply)
+            && place < self.places.len()
+        {
+            self.places[place] = Some(shared);
+        }
+    }
+
+    /// The text of a reply, on the state of a number, at a moment. Where it may be given again until a last moment it is
+    /// remembered, unless it is long or memory is wanting for that.
+    pub fn made(
+        &mut self,
+        alloc: Global,
+        ask: &Ask,
+        number: u64,
+        now: u64,
+        text: Vec<u8>,
+        last: Option<u64>,
+    ) -> Made
+        ensures text { bytes_of result ≡ text.items }
+        ensures recent { (house : HouseView) → (state : State) → IsSeenIn house state → state.number ≡ number → IsAsk ask.now → IfSome last (λ l. IsReplyUntil state ask.now now l text.items) → AreRecent house self.old → AreRecent house self.new }
+    {
+        let Some(until) = last else {
+            return Made::Text(text);
+        };
+        if LONGEST < text.len() {
+            return Made::Text(text);
+        }
+        let Ok(target) = ask.target.duplicate(alloc) else {
+            return Made::Text(text);
+        };
+        let reply = RecentReply {
+            target,
+            number,
+            from: now,
+            until,
+            text,
+        };
+        match Arc::new(alloc, reply) {
+            Ok(shared) => {
+                self.remember(&shared);
+                Made::Again(shared)
+            }
+            Err(refused) => Made::Text(refused.value.text),
+        }
+    }
+}
