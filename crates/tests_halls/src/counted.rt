@@ -157,6 +157,9 @@ const PAGE: &str = "GET /node/1 HTTP/1.1\r\nHost: a\r\n\r\n";
 
 const BY_ABC: &str = "GET /node/1 HTTP/1.1\r\nHost: a\r\nCookie: SESS=abc\r\n\r\n";
 
+// A cookie that names no session: its page is nobody's, and its reply isn't given to others.
+const BY_NOBODY: &str = "GET /node/1 HTTP/1.1\r\nHost: a\r\nCookie: SESS=nobody\r\n\r\n";
+
 const FRONT: &str = "GET /node HTTP/1.1\r\nHost: a\r\n\r\n";
 
 const NOWHERE: &str = "GET /node/9 HTTP/1.1\r\nHost: a\r\n\r\n";
@@ -176,6 +179,14 @@ fn what_is_kept_is_not_built(rt: HostRuntime) {
             moments: &[1000],
             requests: &[PAGE, PAGE, BY_ABC, BY_ABC],
             built: [2, 0, 2, 0, 0, 0, 0, 0],
+            pieces: &[],
+        },
+        // A page, for visitors, and for a cookie that names nobody.
+        Case {
+            placed: "",
+            moments: &[1000],
+            requests: &[PAGE, BY_NOBODY, PAGE, BY_NOBODY],
+            built: [2, 0, 0, 0, 0, 0, 0, 0],
             pieces: &[],
         },
         // A page that leads nowhere.
@@ -280,4 +291,31 @@ fn a_page_lasts_as_long_as_what_it_shows(rt: HostRuntime) {
         let (text, _) = served(&rt, case).expect(&rt, "memory");
         assert!(rt; in_order(&text, case.pieces));
     }
+}
+
+// How often a hall is asked for what is kept, by these requests of one connection over the site.
+fn looks(rt: &HostRuntime, requests: &'static [&'static str]) -> Result<u64, AllocError> {
+    let alloc = rt.alloc();
+    let case = Case {
+        placed: "",
+        moments: &[1000],
+        requests,
+        built: [0; 8],
+        pieces: &[],
+    };
+    let mut sink = MemorySink::new(alloc, 400_000)?;
+    let mut house = house(alloc, case.placed)?;
+    let answered = answered(rt, alloc, &mut house, &case, &mut sink).is_ok();
+    let looks = house.into_hall().tally().looks;
+    if answered { Ok(looks) } else { Err(AllocError) }
+}
+
+#[test]
+fn a_reply_is_given_again(rt: HostRuntime) {
+    let once = looks(&rt, &[PAGE]).expect(&rt, "memory");
+    let twice = looks(&rt, &[PAGE, PAGE]).expect(&rt, "memory");
+    let by_nobody = looks(&rt, &[PAGE, BY_NOBODY]).expect(&rt, "memory");
+    assert!(rt; once > 0);
+    assert!(rt; twice == once);
+    assert!(rt; by_nobody > once);
 }
