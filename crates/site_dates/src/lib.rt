@@ -5,8 +5,6 @@
 #![tactic(auto)]
 
 mod civil;
-#[cfg(test)]
-mod tests;
 mod text;
 
 pub use civil::{CivilDate, ClockTime, LAST_MOMENT, date_of, time_of};

@@ -1,9 +1,11 @@
 //! Tests of what pages are made of and sites are kept in, by public calls alone: tags, counts, results, roles, grants, rows and cells,
-//! edits on a state, a keeper in memory, and digests of passwords.
+//! edits on a state, a keeper in memory, digests of passwords, and texts of dates.
 #![tactic(auto)]
 
 #[cfg(test)]
 mod counting;
+#[cfg(test)]
+mod dates;
 #[cfg(test)]
 mod edits;
 #[cfg(test)]

@@ -32,7 +32,7 @@ module _ {S : Type 0} (noted : S → Option HallNote) where
   HallsAreTakenOut = (slots seat : ℕ) (me : Me S Note) (taken : ℕ) → slots ≡ 1 → taken ≢ 0 → me.0.fresh ≡ false → me.0.hall ≡ None → me.1 ≡ []
       → Allows (KeepsRule noted) slots seat me 1 (λ n. either (n == 0) taken n) (TakesOut noted me)
 
-  -- The gate becomes 2 where it was 1, at a seat that has no hall and waits for it.
+  -- The gate becomes 2 where it was 1, at a seat that has nothing out of the slot: it waits for the hall.
   abbrev pub GatesAreMarked : Type 0
   GatesAreMarked = (slots seat : ℕ) (me : Me S Note) → slots ≡ 1 → me.0.fresh ≡ false → me.1 ≡ []
       → Allows (KeepsRule noted) slots seat me 1 (λ n. either (n == 1) 2 n) (λ _ new. Marks me new)

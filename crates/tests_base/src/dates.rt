@@ -1,6 +1,6 @@
 //! Dates and moments against what Python's `datetime` prints of them.
 
-use crate::{date_text, moment_text};
+use site_dates::{date_text, moment_text};
 
 #[test]
 fn texts_of_moments(rt: HostRuntime) {
