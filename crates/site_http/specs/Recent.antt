@@ -10,6 +10,8 @@ use Rattle.content_state.specs.Ask.{IsAsk}
 use Rattle.site_house.specs.House.{HouseView}
 use Rattle.site_house.specs.Bins.{IsSeenIn}
 use Rattle.site_http.specs.declared.recent.RecentReply.{RecentReply}
+use Rattle.site_http.specs.declared.recent.Given.{Given}
+use Rattle.site_http.specs.declared.recent.Given.TheVariants as given
 use Rattle.site_http.specs.Reply.{IsPageReply}
 
 -- No cookie was sent, and the text is the reply of the page on the state at each moment from this one until the last; nothing is
@@ -37,3 +39,8 @@ pub record IsRecent (house : HouseView) (reply : RecentReply) : Type 0 where
 -- so may each that stands at a place
 abbrev pub AreRecent : HouseView → List (Option (Arc RecentReply Global)) → Type 0
 AreRecent house places = All (λ place. IfSome place (λ reply. IsRecent house (arc_value reply))) places
+
+-- the bytes of a text that is given
+abbrev pub given_bytes : Given → List ℕ
+given_bytes (given.Text text) = text.items
+given_bytes (given.Again reply) = (arc_value reply).text.items

@@ -13,12 +13,12 @@ ghost use Rattle.edit_bodies.specs.Bodies.{sent_of};
 ghost use Rattle.edit_bodies.specs.Commands.{draws};
 ghost use Rattle.site_house.specs.History.{newest};
 ghost use Rattle.site_http.specs.Called.{ask_of, called, called_of, ToRead};
-ghost use Rattle.site_http.specs.Recent.{AreRecent};
+ghost use Rattle.site_http.specs.Recent.{given_bytes, AreRecent};
 ghost use Rattle.site_http.specs.Reply.{Says, listed};
 ghost use Rattle.site_http.specs.Turn.{bytes_of, Committed, CountsOutcome, Makes, OnSeen, Replies, ToldOnTheWay};
 
 use crate::call::{Asked, Call, Reading, asked_by};
-use crate::recent::{RecentReplies, RecentReply};
+use crate::recent::{Given, RecentReplies, RecentReply};
 use crate::refusal::memory_text;
 use crate::reply::reply_on;
 use arrayvec::ArrayVec;
@@ -66,7 +66,7 @@ impl Made {
 /// The text of a reply that changes nothing, and how many elements were built for it, up to the greatest u64.
 #[derive(Drop)]
 struct Said {
-    made: Made,
+    given: Given,
     built: u64,
 }
 
@@ -104,7 +104,7 @@ fn read<H: House, G: Gate>(
     requires recent { AreRecent (H.sees house.old) recent.old }
     ensures moves { Moves (H.sees house.old) (H.sees house.new) }
     ensures stays { Stays (H.sees house.old) (H.sees house.new) }
-    ensures says { IfOk result (λ said. OnSeen (H.sees house.old) (H.sees house.new) (λ state. Says reading state ask.now now closing (bytes_of said.made) said.built)) }
+    ensures says { IfOk result (λ said. OnSeen (H.sees house.old) (H.sees house.new) (λ state. Says reading state ask.now now closing (given_bytes said.given) said.built)) }
     ensures told { OnOk result (G.reached gate.new ≡ and_point (G.reached gate.old) AfterSnapshot) }
     ensures on_the_way { OnErr result (ToldOnTheWay (G.reached gate.old) (G.reached gate.new)) }
     ensures recent { AreRecent (H.sees house.new) recent.new }
@@ -114,14 +114,14 @@ fn read<H: House, G: Gate>(
     gate.reach(Point::AfterSnapshot);
     if let Some(reply) = again(recent, state, reading, ask, now, closing) {
         return Ok(Said {
-            made: Made::Again(reply),
+            given: Given::Again(reply),
             built: 0,
         });
     }
     let reply = reply_on(alloc, house, state, reading, ask, now, closing)?;
-    let made = recent.made(alloc, ask, state.number(), now, reply.text, reply.last);
+    let given = recent.given(alloc, ask, state.number(), now, reply.text, reply.last);
     Ok(Said {
-        made,
+        given,
         built: reply.built,
     })
 }
@@ -183,6 +183,16 @@ fn edited<H: House>(
     }
 }
 
+/// What is given, as the text of a reply. It is so late, since the texts of edits have room of their own, which is moved with them.
+fn made_of(given: Given) -> Made
+    ensures { bytes_of result ≡ given_bytes given }
+{
+    match given {
+        Given::Text(text) => Made::Text(text),
+        Given::Again(reply) => Made::Again(reply),
+    }
+}
+
 /// The text of the reply to what was asked to read. The gate is told of it.
 fn reading_reply<H: House, G: Gate>(
     alloc: Global,
@@ -207,7 +217,7 @@ fn reading_reply<H: House, G: Gate>(
     match read(alloc, house, gate, recent, reading, ask, now, closing) {
         Ok(said) => {
             gate.reach(Point::BeforeReply(said.built));
-            said.made
+            made_of(said.given)
         }
         Err(_) => {
             gate.reach(Point::BeforeReply(0));

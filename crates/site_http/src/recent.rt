@@ -5,10 +5,8 @@ ghost use Rattle.content_state.specs.Ask.{IsAsk};
 ghost use Rattle.content_state.specs.State.{State};
 ghost use Rattle.site_house.specs.House.{HouseView};
 ghost use Rattle.site_house.specs.Bins.{IsSeenIn};
-ghost use Rattle.site_http.specs.Recent.{Fits, IsRecent, AreRecent, IsReplyUntil};
-ghost use Rattle.site_http.specs.Turn.{bytes_of};
+ghost use Rattle.site_http.specs.Recent.{given_bytes, Fits, IsRecent, AreRecent, IsReplyUntil};
 
-use crate::answer::Made;
 use content_rows::{Duplicate, Text};
 use content_state::Ask;
 use std::alloc::{AllocError, Global};
@@ -43,6 +41,13 @@ impl RecentReply {
             && ask.cookie.is_none()
             && self.target.equals(&ask.target)
     }
+}
+
+/// The text of a reply that changes nothing: its own, or one that may be given again, which is shared.
+#[derive(Drop)]
+pub enum Given {
+    Text(Vec<u8>),
+    Again(Arc<RecentReply>),
 }
 
 /// The place of a target among those of replies, by the hash of Fowler, Noll and Vo.
@@ -121,7 +126,7 @@ impl RecentReplies {
 
     /// The text of a reply, on the state of a number, at a moment. Where it may be given again until a last moment it is
     /// remembered, unless it is long or memory is wanting for that.
-    pub fn made(
+    pub fn given(
         &mut self,
         alloc: Global,
         ask: &Ask,
@@ -129,18 +134,18 @@ impl RecentReplies {
         now: u64,
         text: Vec<u8>,
         last: Option<u64>,
-    ) -> Made
-        ensures text { bytes_of result ≡ text.items }
+    ) -> Given
+        ensures text { given_bytes result ≡ text.items }
         ensures recent { (house : HouseView) → (state : State) → IsSeenIn house state → state.number ≡ number → IsAsk ask.now → IfSome last (λ l. IsReplyUntil state ask.now now l text.items) → AreRecent house self.old → AreRecent house self.new }
     {
         let Some(until) = last else {
-            return Made::Text(text);
+            return Given::Text(text);
         };
         if LONGEST < text.len() {
-            return Made::Text(text);
+            return Given::Text(text);
         }
         let Ok(target) = ask.target.duplicate(alloc) else {
-            return Made::Text(text);
+            return Given::Text(text);
         };
         let reply = RecentReply {
             target,
@@ -152,9 +157,9 @@ impl RecentReplies {
         match Arc::new(alloc, reply) {
             Ok(shared) => {
                 self.remember(&shared);
-                Made::Again(shared)
+                Given::Again(shared)
             }
-            Err(refused) => Made::Text(refused.value.text),
+            Err(refused) => Given::Text(refused.value.text),
         }
     }
 }

@@ -25,7 +25,7 @@ returns-in_err-reply-clause-recent g c = recent_stay c.args.recent.now (moves_on
 
 pub returns-clause-says : goal.returns-clause-says
 returns-clause-says g c =
-    rw c.made-made.ensures.text
+    rw c.given-given.ensures.text
     (said_on (g.H.House.sees c.args.house.now) (g.H.House.sees c.snapshot.new.self) (g.H.House.sees c.reply_on.new.house) c.deref-state.result.now c.args.reading c.args.ask.now c.args.now c.args.closing c.in_ok-reply.reply.text.items c.in_ok-reply.reply.built
     c.in_ok-newest.ensures.moves c.in_ok-newest.ensures.valid (c.deref-state.ensures ∙ c.in_ok-newest.ensures.state) c.reply_on.ensures.moves c.in_ok-reply.ensures.says)
 
@@ -33,7 +33,10 @@ pub returns-clause-recent : goal.returns-clause-recent
 returns-clause-recent g c =
     let house = g.H.House.sees c.snapshot.new.self in
     let is = c.deref-state.ensures ∙ c.in_ok-newest.ensures.state in
-    c.made-made.ensures.recent (g.H.House.sees c.reply_on.new.house) c.deref-state.result.now
+    c.given-given.ensures.recent (g.H.House.sees c.reply_on.new.house) c.deref-state.result.now
     (seen_on house (g.H.House.sees c.reply_on.new.house) c.deref-state.result.now c.reply_on.ensures.moves (newest_seen house c.deref-state.result.now is c.in_ok-newest.ensures.valid))
     (sym c.number.ensures) c.requires.right c.in_ok-reply.ensures.again
     (recent_stay c.args.recent.now (moves_on c.in_ok-newest.ensures.moves c.reply_on.ensures.moves) c.requires.recent)
+
+pub returns-in_err-newest-clause-recent : goal.returns-in_err-newest-clause-recent
+returns-in_err-newest-clause-recent g c = recent_stay c.args.recent.now c.in_err-newest.ensures.moves c.requires.recent

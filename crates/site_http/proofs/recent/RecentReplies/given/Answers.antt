@@ -1,7 +1,7 @@
 use Rattle.std.proofs.Common.{sym, subst, IfSome}
 use Rattle.site_http.specs.Recent.{IsRecent, IsReplyUntil}
 use Rattle.site_http.proofs.Again.{made_recent}
-use Rattle.site_http.proofs.recent.RecentReplies.made.Goals as goal
+use Rattle.site_http.proofs.recent.RecentReplies.given.Goals as goal
 
 pub returns-in-Ok-new-clause-recent : goal.returns-in-Ok-new-clause-recent
 returns-in-Ok-new-clause-recent c house state seen number right until are =
