@@ -46,13 +46,21 @@ same_value _ _ = false
 abbrev pub same_context_value : ContextValue → ContextValue → Bool
 same_context_value a b = bytes_eq (context_text a.context) (context_text b.context) && same_value a.value b.value
 
--- of texts and names the bytes are hashed, of permissions and grants how many there are, and of a context with its value the value
--- alone: under the keys of one thing mostly stand the same contexts
+-- Of texts the bytes are hashed, of permissions and grants how many there are, of the language and the theme, which all pages share,
+-- nothing; and of a context with its value the value alone: under the keys of one thing mostly stand the same contexts.
 abbrev pub text_writes : List ℕ → fed.HashWrites
 text_writes text = fed.slice fed.u8 text
 
+abbrev pub permissions_writes : Permissions → fed.HashWrites
+permissions_writes permissions.All = []
+permissions_writes (permissions.These texts) = fed.usize (length texts)
+
+abbrev pub grants_writes : ViewGrants → fed.HashWrites
+grants_writes grants.All = []
+grants_writes (grants.These held) = fed.usize (length held)
+
 abbrev pub value_writes : AnyValue → fed.HashWrites
-value_writes (any.Name name) = text_writes name
+value_writes (any.Name name) = []
 value_writes (any.Text text) = text_writes text
 value_writes (any.Argument None) = []
 value_writes (any.Argument (Some text)) = text_writes text
@@ -60,10 +68,8 @@ value_writes (any.User uid) = fed.u32 uid
 value_writes (any.Flag flag) = fed.bool flag
 value_writes (any.Names names) = fed.slice text_writes names
 value_writes (any.Session token) = fed.option text_writes token
-value_writes (any.Permissions permissions.All) = []
-value_writes (any.Permissions (permissions.These texts)) = fed.usize (length texts)
-value_writes (any.Grants grants.All) = []
-value_writes (any.Grants (grants.These held)) = fed.usize (length held)
+value_writes (any.Permissions permissions) = permissions_writes permissions
+value_writes (any.Grants grants) = grants_writes grants
 
 abbrev pub context_value_writes : ContextValue → fed.HashWrites
 context_value_writes v = value_writes v.value

@@ -4,7 +4,9 @@ ghost use Rattle.std.specs.Cmp.{partial_equiv_from_equiv};
 ghost use Rattle.cache_contexts.specs.Same.{same_permissions, same_grants};
 
 use cacheability::{Context, Name};
-use content_rows::{Items, Permissions, Text, ViewGrants};
+use content_rows::{Duplicate, Items, Permissions, Text, ViewGrants};
+use site_access::Shared;
+use std::alloc::{AllocError, Global};
 use std::hash::{Hash, Hasher};
 
 /// The value of a cache context, whichever it is.
@@ -24,9 +26,9 @@ pub enum AnyValue {
     /// A session's token, where there is a session.
     Session(Option<Name>),
     /// What a viewer is permitted; everything equals no list.
-    Permissions(Permissions),
+    Permissions(Shared<Permissions>),
     /// The grants by which a viewer may view nodes; all equals no list.
-    Grants(ViewGrants),
+    Grants(Shared<ViewGrants>),
 }
 
 impl Drop for AnyValue {
@@ -45,6 +47,22 @@ impl Drop for AnyValue {
     }
 }
 
+impl Duplicate for AnyValue {
+    fn duplicate(&self, alloc: Global) -> Result<Self, AllocError> {
+        Ok(match self {
+            AnyValue::Name(name) => AnyValue::Name(*name),
+            AnyValue::Text(text) => AnyValue::Text(text.duplicate(alloc)?),
+            AnyValue::Argument(text) => AnyValue::Argument(text.duplicate(alloc)?),
+            AnyValue::User(uid) => AnyValue::User(*uid),
+            AnyValue::Flag(flag) => AnyValue::Flag(*flag),
+            AnyValue::Names(names) => AnyValue::Names(names.duplicate(alloc)?),
+            AnyValue::Session(token) => AnyValue::Session(*token),
+            AnyValue::Permissions(held) => AnyValue::Permissions(held.share()?),
+            AnyValue::Grants(held) => AnyValue::Grants(held.share()?),
+        })
+    }
+}
+
 /// A cache context with its value.
 pub struct ContextValue {
     pub context: Context,
@@ -57,6 +75,15 @@ impl Drop for ContextValue {
             context: _,
             value: _,
         } = self;
+    }
+}
+
+impl Duplicate for ContextValue {
+    fn duplicate(&self, alloc: Global) -> Result<Self, AllocError> {
+        Ok(ContextValue {
+            context: self.context,
+            value: self.value.duplicate(alloc)?,
+        })
     }
 }
 
@@ -77,8 +104,10 @@ impl PartialEq for AnyValue {
             (AnyValue::Flag(one), AnyValue::Flag(two)) => one == two,
             (AnyValue::Names(one), AnyValue::Names(two)) => one.as_slice() == two.as_slice(),
             (AnyValue::Session(one), AnyValue::Session(two)) => one == two,
-            (AnyValue::Permissions(one), AnyValue::Permissions(two)) => same_permissions(one, two),
-            (AnyValue::Grants(one), AnyValue::Grants(two)) => same_grants(one, two),
+            (AnyValue::Permissions(one), AnyValue::Permissions(two)) => {
+                same_permissions(one.get(), two.get())
+            }
+            (AnyValue::Grants(one), AnyValue::Grants(two)) => same_grants(one.get(), two.get()),
             _ => false,
         }
     }
@@ -100,17 +129,20 @@ impl Hash for AnyValue {
 
     fn hash<H: Hasher>(&self, state: &mut H) {
         match self {
-            AnyValue::Name(name) => name.hash(state),
             AnyValue::Text(text) | AnyValue::Argument(Some(text)) => text.as_slice().hash(state),
             AnyValue::User(uid) => uid.hash(state),
             AnyValue::Flag(flag) => flag.hash(state),
             AnyValue::Names(names) => names.as_slice().hash(state),
             AnyValue::Session(token) => token.hash(state),
-            AnyValue::Permissions(Permissions::These(texts)) => texts.len().hash(state),
-            AnyValue::Grants(ViewGrants::These(grants)) => grants.len().hash(state),
-            AnyValue::Argument(None)
-            | AnyValue::Permissions(Permissions::All)
-            | AnyValue::Grants(ViewGrants::All) => {}
+            AnyValue::Permissions(permissions) => match permissions.get() {
+                Permissions::All => {}
+                Permissions::These(texts) => texts.len().hash(state),
+            },
+            AnyValue::Grants(grants) => match grants.get() {
+                ViewGrants::All => {}
+                ViewGrants::These(grants) => grants.len().hash(state),
+            },
+            AnyValue::Name(_) | AnyValue::Argument(None) => {}
         }
     }
 }

@@ -5,32 +5,34 @@ ghost use Rattle.content_state.specs.Route.{front_path};
 ghost use Rattle.content_state.specs.Rows.{menu_of};
 ghost use Rattle.content_state.specs.Viewer.{roles_of};
 ghost use Rattle.site_lists.specs.Paging.{value_in};
+ghost use Rattle.site_access.specs.Account.{IsAccountOf};
 ghost use Rattle.cache_contexts.specs.Values.{visit_on, valued, as_any};
 
 use crate::context_value::{AnyValue, ContextValue};
 use cacheability::{Context, Name};
 use content_rows::{Duplicate, Items, Text};
 use content_state::{Ask, State, Viewer};
-use site_access::{permissions, view_grants};
+use site_access::Account;
 use site_lists::{active_trail, query_value};
 use std::alloc::{AllocError, Global};
 use user_roles::role_names;
 
-/// The value of a context on a state, for a viewer and what is asked for. Nothing in it depends on the moment. `Err` only
-/// where memory is wanting.
+/// The value of a context on a state, for the viewer of an account there and what is asked for. Nothing in it depends on the
+/// moment, and what the viewer is permitted and granted is shared with the account. `Err` only where memory is wanting.
 /// <https://www.drupal.org/docs/drupal-apis/cache-api/cache-contexts>
 pub fn value(
     alloc: Global,
     state: &State,
-    viewer: &Viewer,
+    account: &Account,
     ask: &Ask,
     context: Context,
 ) -> Result<ContextValue, AllocError>
-    ensures { IfOk result (λ found. (moment : ℕ) → found ≡ valued (visit_on state.now viewer.now ask.now moment) context) }
+    requires { IsAccountOf state.now.rows account.now.viewer account.now }
+    ensures { IfOk result (λ found. (moment : ℕ) → found ≡ valued (visit_on state.now account.now.viewer ask.now moment) context) }
 {
     Ok(ContextValue {
         context,
-        value: any_value(alloc, state, viewer, ask, context)?,
+        value: any_value(alloc, state, account, ask, context)?,
     })
 }
 
@@ -38,15 +40,16 @@ pub fn value(
 pub fn values(
     alloc: Global,
     state: &State,
-    viewer: &Viewer,
+    account: &Account,
     ask: &Ask,
     contexts: &[Context],
 ) -> Result<Items<ContextValue>, AllocError>
-    ensures { IfOk result (λ found. (moment : ℕ) → found ≡ map (valued (visit_on state.now viewer.now ask.now moment)) contexts.now) }
+    requires { IsAccountOf state.now.rows account.now.viewer account.now }
+    ensures { IfOk result (λ found. (moment : ℕ) → found ≡ map (valued (visit_on state.now account.now.viewer ask.now moment)) contexts.now) }
 {
     let mut found = Vec::with_capacity(alloc, contexts.len())?;
     'contexts: for &context in contexts {
-        found.push(value(alloc, state, viewer, ask, context)?)?;
+        found.push(value(alloc, state, account, ask, context)?)?;
     }
     Ok(Items::from_vec(found))
 }
@@ -55,19 +58,21 @@ pub fn values(
 fn any_value(
     alloc: Global,
     state: &State,
-    viewer: &Viewer,
+    account: &Account,
     ask: &Ask,
     context: Context,
 ) -> Result<AnyValue, AllocError>
-    ensures { IfOk result (λ found. found ≡ as_any context (value_on (visit_on state.now viewer.now ask.now 0) context)) }
+    requires { IsAccountOf state.now.rows account.now.viewer account.now }
+    ensures { IfOk result (λ found. found ≡ as_any context (value_on (visit_on state.now account.now.viewer ask.now 0) context)) }
 {
+    let viewer = &account.viewer;
     Ok(match context {
         Context::Language => AnyValue::Name(language()),
         Context::Theme => AnyValue::Name(theme()),
         Context::User => AnyValue::User(viewer.uid),
         Context::UserRoles => AnyValue::Names(roles(alloc, state, viewer)?),
-        Context::UserPermissions => AnyValue::Permissions(permissions(alloc, state, viewer)?),
-        Context::NodeGrantsView => AnyValue::Grants(view_grants(alloc, state, viewer)?),
+        Context::UserPermissions => AnyValue::Permissions(account.permissions.share()?),
+        Context::NodeGrantsView => AnyValue::Grants(account.grants.share()?),
         Context::Url => AnyValue::Text(ask.target.duplicate(alloc)?),
         Context::UrlPath => AnyValue::Text(ask.path.duplicate(alloc)?),
         Context::IsFront => AnyValue::Flag(is_front(state, ask.path.as_slice())),

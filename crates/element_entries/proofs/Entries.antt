@@ -17,7 +17,7 @@ use Rattle.cache_contexts.proofs.Tests.{at_tail, head_or_tail, nowhere}
 use Rattle.cache_entries.specs.declared.entry.Entry.{Entry}
 use Rattle.cache_entries.specs.Entries.{pieces_of, needs_of, Has, IsClosed}
 use Rattle.element_entries.specs.declared.making.Joined.{Joined}
-use Rattle.element_entries.specs.declared.reader.Reader.{Reader}
+use Rattle.element_entries.specs.Readers.{Reader}
 use Rattle.element_entries.specs.Keys.{visit}
 use Rattle.element_entries.specs.Making.{needs_of as needs_joined, IsEntryOf}
 use Rattle.element_entries.specs.Laws.{EntriesAreMadeOn, EntriesAreFresh}
@@ -81,11 +81,11 @@ module _ (r : Reader) (j : Joined) (e : Entry) (of : IsEntryOf r j e) where
 pub made_on : EntriesAreMadeOn
 made_on p s r j e of makes closed = record {
   made_at = of.made_at;
-  has = subst (λ (m : ℕ). Has p s (visit_on r.state.now r.viewer.now r.ask.now m) e) (sym of.made_moment) (record {
+  has = subst (λ (m : ℕ). Has p s (visit_on r.state r.viewer r.ask m) e) (sym of.made_moment) (record {
     makes = whole_still r j e of p makes;
     closed = subst (λ (ps : List (Part Hole)). IsClosed s (pieces_of ps)) (sym of.segments) closed;
   });
-  values = subst (λ (m : ℕ). e.values ≡ map (valued (visit_on r.state.now r.viewer.now r.ask.now m)) e.cacheability.contexts) (sym of.made_moment) of.values;
+  values = subst (λ (m : ℕ). e.values ≡ map (valued (visit_on r.state r.viewer r.ask m)) e.cacheability.contexts) (sym of.made_moment) of.values;
   sum = of.sum;
   rendered = (of.bubbles.tags_are tag.Rendered).1 (inl (inr refl));
 }

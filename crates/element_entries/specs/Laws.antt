@@ -7,7 +7,7 @@ use Rattle.cache_entries.specs.declared.key.Subject.{Subject}
 use Rattle.cache_entries.specs.Entries.{pieces_of, IsClosed, IsFresh}
 use Rattle.cache_entries.specs.Sound.{IsMadeOn}
 use Rattle.element_entries.specs.declared.making.Joined.{Joined}
-use Rattle.element_entries.specs.declared.reader.Reader.{Reader}
+use Rattle.element_entries.specs.Readers.{Reader}
 use Rattle.element_entries.specs.Keys.{visit}
 use Rattle.element_entries.specs.Making.{needs_of, IsEntryOf}
 
@@ -16,10 +16,10 @@ abbrev pub EntriesAreMadeOn : Type 0
 EntriesAreMadeOn =
     (p : Plan (Option ℕ)) (s : Subject) (r : Reader) (j : Joined) (e : Entry) → IsEntryOf r j e
     → MakesWhole p (visit r) j.status (pieces_of j.segments) j.libraries.items (needs_of j) → IsClosed s (pieces_of j.segments)
-    → IsMadeOn p s r.state.now r.viewer.now r.ask.now e
+    → IsMadeOn p s r.state r.viewer r.ask e
 
 -- It is fresh there, where it isn't over.
 abbrev pub EntriesAreFresh : Type 0
 EntriesAreFresh =
     (r : Reader) (j : Joined) (e : Entry) → IsEntryOf r j e → r.moment ≤ j.last
-    → IsFresh r.state.now r.viewer.now r.ask.now r.moment e
+    → IsFresh r.state r.viewer r.ask r.moment e

@@ -1,3 +1,4 @@
+pub mod Readers
 pub mod Keys
 pub mod Keeping
 pub mod Making

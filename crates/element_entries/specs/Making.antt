@@ -11,7 +11,7 @@ use Rattle.cache_contexts.specs.Values.{valued}
 use Rattle.cache_contexts.specs.LeftOut.{LeavesOut}
 use Rattle.cache_entries.specs.declared.entry.Entry.{Entry}
 use Rattle.element_entries.specs.declared.making.Joined.{Joined}
-use Rattle.element_entries.specs.declared.reader.Reader.{Reader}
+use Rattle.element_entries.specs.Readers.{Reader}
 use Rattle.element_entries.specs.Keys.{visit, required}
 
 -- what it depends on
@@ -36,7 +36,7 @@ pub record IsEntryOf (r : Reader) (j : Joined) (e : Entry) : Type 0 where
   pub last : e.last ≡ j.last
   pub status : e.status ≡ j.status
   pub bubbles : Bubbles r j.cacheability e.cacheability
-  pub made_at : e.made_at ≡ r.state.now.number
+  pub made_at : e.made_at ≡ r.state.number
   pub made_moment : e.made_moment ≡ r.moment
   pub values : e.values ≡ map (valued (visit r)) e.cacheability.contexts
-  pub sum : e.sum ≡ sum_of r.state.now.counts e.cacheability.tags
+  pub sum : e.sum ≡ sum_of r.state.counts e.cacheability.tags

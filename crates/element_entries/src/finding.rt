@@ -5,8 +5,9 @@ ghost use Rattle.cache_contexts.specs.Values.{valued};
 ghost use Rattle.cache_entries.specs.Entries.{IsFresh, HasSumOfNumber};
 ghost use Rattle.element_entries.specs.Keys.{visit};
 
+use crate::keys::values_for;
 use crate::reader::Reader;
-use cache_contexts::{ContextValue, values};
+use cache_contexts::ContextValue;
 use cache_entries::{Entry, fresh, fresh_on_log};
 use cacheability::Context;
 use std::alloc::{AllocError, Global};
@@ -15,10 +16,10 @@ use std::sync::Arc;
 /// Whether an entry is fresh for a reader: its contexts have the same values, its tags were invalidated as often, and it is
 /// not too early or too late to show it. `Err` only where memory is wanting.
 pub fn is_fresh(alloc: Global, reader: &Reader<'_>, entry: &Entry) -> Result<bool, AllocError>
-    ensures { IfOk result (λ b. IsTrue b ↔ IsFresh reader.now.state.now reader.now.viewer.now reader.now.ask.now reader.now.moment entry.now) }
+    ensures { IfOk result (λ b. IsTrue b ↔ IsFresh reader.now.state reader.now.viewer reader.now.ask reader.now.moment entry.now) }
 {
     let contexts = entry.cacheability.contexts();
-    let now = values(alloc, reader.state, reader.viewer, reader.ask, contexts)?;
+    let now = values_for(alloc, reader, contexts)?;
     Ok(fresh(reader.state, entry, now.as_slice(), reader.moment))
 }
 
@@ -32,8 +33,8 @@ fn is_fresh_by(
     known: &[ContextValue],
 ) -> Result<bool, AllocError>
     requires valued { known.now ≡ map (valued (visit reader.now)) contexts.now }
-    requires of_log { HasSumOfNumber reader.now.state.now entry.now }
-    ensures { IfOk result (λ b. IsTrue b ↔ IsFresh reader.now.state.now reader.now.viewer.now reader.now.ask.now reader.now.moment entry.now) }
+    requires of_log { HasSumOfNumber reader.now.state entry.now }
+    ensures { IfOk result (λ b. IsTrue b ↔ IsFresh reader.now.state reader.now.viewer reader.now.ask reader.now.moment entry.now) }
 {
     if same_contexts(entry.cacheability.contexts(), contexts) {
         Ok(fresh_on_log(reader.state, entry, known, reader.moment))
@@ -43,7 +44,7 @@ fn is_fresh_by(
 }
 
 /// Whether contexts are the same, in the same order.
-fn same_contexts(one: &[Context], two: &[Context]) -> bool
+pub(crate) fn same_contexts(one: &[Context], two: &[Context]) -> bool
     ensures { IsTrue result ↔ (one.now ≡ two.now) }
 {
     one == two
@@ -59,9 +60,9 @@ pub fn if_fresh(
     known: &[ContextValue],
 ) -> Result<Option<Arc<Entry>>, AllocError>
     requires valued { known.now ≡ map (valued (visit reader.now)) contexts.now }
-    requires of_log { HasSumOfNumber reader.now.state.now (arc_value entry) }
-    ensures fresh { IfOk result (λ found. IfSome found (λ e. (arc_value e ≡ arc_value entry) × IsFresh reader.now.state.now reader.now.viewer.now reader.now.ask.now reader.now.moment (arc_value e))) }
-    ensures stale { IfOk result (λ found. found ≡ None → IsFresh reader.now.state.now reader.now.viewer.now reader.now.ask.now reader.now.moment (arc_value entry) → ⊥) }
+    requires of_log { HasSumOfNumber reader.now.state (arc_value entry) }
+    ensures fresh { IfOk result (λ found. IfSome found (λ e. (arc_value e ≡ arc_value entry) × IsFresh reader.now.state reader.now.viewer reader.now.ask reader.now.moment (arc_value e))) }
+    ensures stale { IfOk result (λ found. found ≡ None → IsFresh reader.now.state reader.now.viewer reader.now.ask reader.now.moment (arc_value entry) → ⊥) }
 {
     if is_fresh_by(alloc, reader, &entry, contexts, known)? {
         Ok(Some(entry))

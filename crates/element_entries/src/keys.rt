@@ -1,14 +1,12 @@
 //! Under which keys elements are kept.
-ghost use Rattle.std.specs.Prelude.{◌≡◌, ◌++◌, IfOk, IfSome, OnOk, map};
-ghost use Rattle.std.specs.List.{position};
-ghost use Rattle.std.specs.Str.{bytes_eq};
-ghost use Rattle.cacheability.specs.Context.{context_text};
+ghost use Rattle.std.specs.Prelude.{◌≡◌, IfOk, map};
 ghost use Rattle.cache_contexts.specs.Values.{valued};
-ghost use Rattle.element_entries.specs.Keys.{visit, required, key_by, AreValued};
+ghost use Rattle.element_entries.specs.Keys.{visit, required, key_by};
 
+use crate::finding::same_contexts;
 use crate::reader::Reader;
-use cache_contexts::{ContextValue, value, values};
-use cache_entries::{Key, Subject};
+use cache_contexts::{ContextValue, values};
+use cache_entries::{Entry, Key, Subject};
 use cacheability::Context;
 use content_rows::{Duplicate, Items};
 use std::alloc::{AllocError, Global};
@@ -32,6 +30,18 @@ pub fn duplicate_subject(alloc: Global, subject: &Subject) -> Result<Subject, Al
     })
 }
 
+/// The values that contexts have for a reader, in their order. What the reader's viewer is permitted and granted is shared with its
+/// account. `Err` only where memory is wanting.
+pub fn values_for(
+    alloc: Global,
+    reader: &Reader<'_>,
+    contexts: &[Context],
+) -> Result<Items<ContextValue>, AllocError>
+    ensures { IfOk result (λ found. found ≡ map (valued (visit reader.now)) contexts.now) }
+{
+    values(alloc, reader.state, reader.account, reader.ask, contexts)
+}
+
 /// The first key of what is kept, with the values of the required contexts for a reader. `Err` only where memory is wanting.
 pub fn first_key(alloc: Global, reader: &Reader<'_>, subject: Subject) -> Result<Key, AllocError>
     ensures { IfOk result (λ key. key ≡ key_by (visit reader.now) subject required) }
@@ -39,7 +49,7 @@ pub fn first_key(alloc: Global, reader: &Reader<'_>, subject: Subject) -> Result
     let contexts = required_contexts();
     Ok(Key {
         subject,
-        values: values(alloc, reader.state, reader.viewer, reader.ask, &contexts)?,
+        values: values_for(alloc, reader, &contexts)?,
     })
 }
 
@@ -54,65 +64,42 @@ pub fn key_of(
 {
     Ok(Key {
         subject: duplicate_subject(alloc, subject)?,
-        values: values(alloc, reader.state, reader.viewer, reader.ask, contexts)?,
+        values: values_for(alloc, reader, contexts)?,
     })
 }
 
-/// The values that contexts have for a reader, in their order, where some are known: those are taken over, since permissions and
-/// grants are dear to compute. `Err` only where memory is wanting.
-pub fn values_where_known(
+/// The key of what is kept, with the values that these contexts have for a reader, as `key_of` gives it, beside an entry that has the
+/// values of its contexts for the reader: where they are the same, its values are copied and not found again. `Err` only where
+/// memory is wanting.
+pub fn key_beside(
+    alloc: Global,
+    reader: &Reader<'_>,
+    subject: &Subject,
+    contexts: &[Context],
+    entry: &Entry,
+) -> Result<Key, AllocError>
+    requires { entry.now.values ≡ map (valued (visit reader.now)) entry.now.cacheability.contexts }
+    ensures { IfOk result (λ key. key ≡ key_by (visit reader.now) subject.now contexts.now) }
+{
+    Ok(Key {
+        subject: duplicate_subject(alloc, subject)?,
+        values: values_beside(alloc, reader, contexts, entry)?,
+    })
+}
+
+/// The values that contexts have for a reader, in their order, beside an entry that has those of its contexts.
+fn values_beside(
     alloc: Global,
     reader: &Reader<'_>,
     contexts: &[Context],
-    known: Items<ContextValue>,
+    entry: &Entry,
 ) -> Result<Items<ContextValue>, AllocError>
-    requires { AreValued (visit reader.now) known }
+    requires { entry.now.values ≡ map (valued (visit reader.now)) entry.now.cacheability.contexts }
     ensures { IfOk result (λ found. found ≡ map (valued (visit reader.now)) contexts.now) }
 {
-    let mut found = Vec::with_capacity(alloc, contexts.len())?;
-    let mut known = known.into_vec();
-    add_values(alloc, reader, contexts, &mut known, &mut found)?;
-    Ok(Items::from_vec(found))
-}
-
-/// Adds the values that contexts have for a reader, in their order: those that are known are taken out. `Err` only where memory is
-/// wanting.
-fn add_values(
-    alloc: Global,
-    reader: &Reader<'_>,
-    contexts: &[Context],
-    known: &mut Vec<ContextValue>,
-    found: &mut Vec<ContextValue>,
-) -> Result<(), AllocError>
-    requires { AreValued (visit reader.now) known.old.items }
-    ensures { OnOk result (found.new.items ≡ found.old.items ++ map (valued (visit reader.now)) contexts.now) }
-{
-    'contexts: for &context in contexts {
-        found.push(value_where_known(alloc, reader, context, known)?)?;
+    if same_contexts(entry.cacheability.contexts(), contexts) {
+        entry.values.duplicate(alloc)
+    } else {
+        values_for(alloc, reader, contexts)
     }
-    Ok(())
-}
-
-/// The value of a context for a reader: taken out of those that are known, or found.
-fn value_where_known(
-    alloc: Global,
-    reader: &Reader<'_>,
-    context: Context,
-    known: &mut Vec<ContextValue>,
-) -> Result<ContextValue, AllocError>
-    requires { AreValued (visit reader.now) known.old.items }
-    ensures value { IfOk result (λ found. found ≡ valued (visit reader.now) context) }
-    ensures rest { AreValued (visit reader.now) known.new.items }
-{
-    match place_of(known, &context) {
-        Some(place) => Ok(known.remove(place)),
-        None => value(alloc, reader.state, reader.viewer, reader.ask, context),
-    }
-}
-
-/// Where the value of a context stands.
-fn place_of(values: &[ContextValue], context: &Context) -> Option<usize>
-    ensures { result ≡ position (λ v. bytes_eq (context_text v.context) (context_text context.now)) values.now }
-{
-    values.iter().position(|value| value.context == *context)
 }

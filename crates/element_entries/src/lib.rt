@@ -11,7 +11,7 @@ mod reader;
 
 pub use finding::{if_fresh, is_fresh};
 pub use keeping::{may_keep, redirect_to};
-pub use keys::{duplicate_subject, first_key, key_of, required_contexts, values_where_known};
+pub use keys::{duplicate_subject, first_key, key_beside, key_of, required_contexts, values_for};
 pub use laws::entries_are_made_on_states;
 pub use making::{Joined, entry_of};
 pub use reader::Reader;

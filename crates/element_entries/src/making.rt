@@ -5,8 +5,9 @@ ghost use Rattle.cacheability.specs.declared.tag.Tag.TheVariants as tag;
 ghost use Rattle.element_entries.specs.Keys.{required};
 ghost use Rattle.element_entries.specs.Making.{Bubbles, IsEntryOf};
 
+use crate::keys::values_for;
 use crate::reader::Reader;
-use cache_contexts::{optimise, values};
+use cache_contexts::optimise;
 use cache_entries::Entry;
 use cacheability::{Cacheability, Context, Tag};
 use content_rows::Items;
@@ -48,7 +49,12 @@ fn bubbled(
     ensures { IfOk result (λ said. Bubbles reader.now cacheability said) }
 {
     add_required(&mut cacheability)?;
-    let said = optimise(alloc, reader.state, reader.viewer, cacheability.contexts())?;
+    let said = optimise(
+        alloc,
+        reader.state(),
+        reader.viewer(),
+        cacheability.contexts(),
+    )?;
     Ok(Cacheability {
         tags: cacheability.tags.union(alloc, &said.tags)?,
         contexts: said.contexts,
@@ -69,13 +75,7 @@ pub fn entry_of(alloc: Global, reader: &Reader<'_>, joined: Joined) -> Result<En
         status,
     } = joined;
     let cacheability = bubbled(alloc, reader, cacheability)?;
-    let values = values(
-        alloc,
-        reader.state,
-        reader.viewer,
-        reader.ask,
-        cacheability.contexts(),
-    )?;
+    let values = values_for(alloc, reader, cacheability.contexts())?;
     let sum = reader.state.counts().sum(cacheability.tags());
     Ok(Entry {
         segments,

@@ -35,7 +35,7 @@ use Rattle.kept_pages.specs.Went.{Went, Done, Found, Built, then_went, number_bu
 use Rattle.kept_pages.specs.Held.{Shelves, IsTold, StaysKept, HeldBy, Held, IsToldBy, SeenIn, Closes, Goes, Tells, BuiltUp}
 use Rattle.kept_pages.specs.declared.looking.Seen.{Seen}
 use Rattle.kept_pages.proofs.Shelves.{stays-refl, stays-then}
-use Rattle.element_entries.specs.declared.reader.Reader.{Reader}
+use Rattle.element_entries.specs.Readers.{Reader}
 use Rattle.site_house.specs.House.{HouseView}
 
 -- one after the other

@@ -1,7 +1,6 @@
 -- What was found, and what was made.
-use Rattle.std.proofs.Common.{ℕ, List, [], ◌∷◌, ◌≡◌, ◌+◌, refl, sym, ◌∙◌, ap, subst, arith, Option, Some, None, IfSome, inl, inr, map, length, take, length-append}
+use Rattle.std.proofs.Common.{ℕ, List, [], ◌∷◌, ◌≡◌, ◌+◌, sym, ◌∙◌, ap, subst, arith, Option, Some, None, IfSome, inl, inr, map, length, take, length-append}
 use Rattle.std.proofs.lemmas.List.{take-append-le, length-take-le}
-use Rattle.std.proofs.lemmas.List.Elements.{All-map}
 use Rattle.std.specs.Arc.{arc_value}
 use Rattle.std.specs.declared.sync.Arc.{Arc}
 use Rattle.std.specs.declared.alloc.Global.{Global}
@@ -31,8 +30,8 @@ use Rattle.render_array.proofs.Leaves.{fragment_closed, page_closed}
 use Rattle.fragment_cache.proofs.Fresh.{fresh_is_shown}
 use Rattle.page_meaning.specs.Meaning.{meaning}
 use Rattle.element_entries.specs.declared.making.Joined.{Joined}
-use Rattle.element_entries.specs.declared.reader.Reader.{Reader}
-use Rattle.element_entries.specs.Keys.{visit, AreValued}
+use Rattle.element_entries.specs.Readers.{Reader}
+use Rattle.element_entries.specs.Keys.{visit}
 use Rattle.element_entries.specs.Making.{needs_of, IsEntryOf}
 use Rattle.element_entries.proofs.Entries.{made_on}
 use Rattle.site_house.specs.House.{HouseView, Moves, Stays}
@@ -62,14 +61,14 @@ seen_on old new s moves seen = record {
 }
 
 pub reads_on : {old new : HouseView} {r : Reader} → Steady old new → Reads old r → Reads new r
-reads_on {old} {new} {r} steady reads = record { seen = seen_on old new r.state.now steady.moves reads.seen; right = reads.right }
+reads_on {old} {new} {r} steady reads = record { seen = seen_on old new r.state steady.moves reads.seen; right = reads.right }
 
 -- what was found and is fresh may be shown
 pub fresh_here : (house : HouseView) (r : Reader) (key : Key) (o : Option (Arc Entry Global)) (was : Arc Entry Global) (seen : Found) → seen ≡ found.Entry was → IsSoundIn house key seen → Reads house r
-    → IfSome o (λ e. (arc_value e ≡ arc_value was) × IsFresh r.state.now r.viewer.now r.ask.now r.moment (arc_value e)) → IfSome o (λ e. IsHere meaning key.subject (visit r) (arc_value e))
+    → IfSome o (λ e. (arc_value e ≡ arc_value was) × IsFresh r.state r.viewer r.ask r.moment (arc_value e)) → IfSome o (λ e. IsHere meaning key.subject (visit r) (arc_value e))
 fresh_here house r key None was seen is sound reads h = tt
 fresh_here house r key (Some e) was seen is sound reads h =
-    fresh_is_shown meaning house.base house.seen key (arc_value e) r.state.now r.viewer.now r.ask.now r.moment reads.seen reads.right
+    fresh_is_shown meaning house.base house.seen key (arc_value e) r.state r.viewer r.ask r.moment reads.seen reads.right
     (subst (IsSound meaning house.base house.seen key) (sym h.0) (subst (IsSoundIn house key) is sound)) h.1
 
 -- there is one state of each number in a log
@@ -83,22 +82,22 @@ one_of_number base log s t one other same =
     one.state_is ∙ ap (λ (n : ℕ). replay base (take n log)) counts ∙ sym other.state_is
 
 -- what was found has the sum of its state, where that is the one that is read
-pub found_has_sum : (house : HouseView) (r : Reader) (key : Key) (was : Arc Entry Global) (seen : Found) → seen ≡ found.Entry was → IsSoundIn house key seen → Reads house r → HasSumOfNumber r.state.now (arc_value was)
+pub found_has_sum : (house : HouseView) (r : Reader) (key : Key) (was : Arc Entry Global) (seen : Found) → seen ≡ found.Entry was → IsSoundIn house key seen → Reads house r → HasSumOfNumber r.state (arc_value was)
 found_has_sum house r key was seen is sound reads same =
     let made : IsSound meaning house.base house.seen key (arc_value was) = subst (IsSoundIn house key) is sound in
-    made.made_on.sum ∙ ap (λ (x : State). sum_of x.counts (arc_value was).cacheability.tags) (one_of_number house.base house.seen made.state r.state.now made.of_log reads.seen (sym made.made_on.made_at ∙ same))
+    made.made_on.sum ∙ ap (λ (x : State). sum_of x.counts (arc_value was).cacheability.tags) (one_of_number house.base house.seen made.state r.state made.of_log reads.seen (sym made.made_on.made_at ∙ same))
 
 -- what was made for a reader may be shown to it, and is fresh
 module _ (r : Reader) (s : Subject) (e : Entry) (made : IsMadeFor r s e) where
   pub made_is_here : IsHere meaning s (visit r) e
   made_is_here = record {
-    has = subst (λ (m : ℕ). Has (meaning s) s (visit_on r.state.now r.viewer.now r.ask.now m) e) made.moment made.made_on.has;
+    has = subst (λ (m : ℕ). Has (meaning s) s (visit_on r.state r.viewer r.ask m) e) made.moment made.made_on.has;
     not_over = made.not_over;
   }
 
-  pub made_is_fresh : IsFresh r.state.now r.viewer.now r.ask.now r.moment e
+  pub made_is_fresh : IsFresh r.state r.viewer r.ask r.moment e
   made_is_fresh = record {
-    values_are = subst (λ (m : ℕ). e.values ≡ map (valued (visit_on r.state.now r.viewer.now r.ask.now m)) e.cacheability.contexts) made.moment made.made_on.values;
+    values_are = subst (λ (m : ℕ). e.values ≡ map (valued (visit_on r.state r.viewer r.ask m)) e.cacheability.contexts) made.moment made.made_on.values;
     sum = made.made_on.sum;
     not_before = (let same = made.moment in omega arith);
     not_after = made.not_over;
@@ -114,15 +113,13 @@ no_parts (Place Meta ∷ ps) only f h = elim (head_or_tail Meta (open_places ps)
 ]
 no_parts (Place (FragmentHole g) ∷ ps) only f h = absurd only
 
--- the values that it has are those of their contexts
-pub entry_valued : (r : Reader) (s : Subject) (e : Entry) → IsMadeFor r s e → AreValued (visit r) e.values
+-- it has the values of its contexts
+pub entry_valued : (r : Reader) (s : Subject) (e : Entry) → IsMadeFor r s e → e.values ≡ map (valued (visit r)) e.cacheability.contexts
 entry_valued r s e made =
-    let same : e.values ≡ map (valued (visit r)) e.cacheability.contexts =
-    subst (λ (m : ℕ). e.values ≡ map (valued (visit_on r.state.now r.viewer.now r.ask.now m)) e.cacheability.contexts) made.moment made.made_on.values in
-    subst (AreValued (visit r)) (sym same) (All-map (λ c. c ≡ valued (visit r) c.context) (valued (visit r)) e.cacheability.contexts (λ k d short. refl))
+    subst (λ (m : ℕ). e.values ≡ map (valued (visit_on r.state r.viewer r.ask m)) e.cacheability.contexts) made.moment made.made_on.values
 
 -- an entry of what was put together for a reader was made for it
-pub entry_made_for : (r : Reader) (s : Subject) (j : Joined) (e : Entry) → IsWhole (meaning s) (visit r) j → IsClosed s (pieces_of j.segments) → IsAskedFor s r.viewer.now r.ask.now → IsEntryOf r j e → IsMadeFor r s e
+pub entry_made_for : (r : Reader) (s : Subject) (j : Joined) (e : Entry) → IsWhole (meaning s) (visit r) j → IsClosed s (pieces_of j.segments) → IsAskedFor s r.viewer r.ask → IsEntryOf r j e → IsMadeFor r s e
 entry_made_for r s j e is closed asked of = record {
   made_on = made_on (meaning s) s r j e of
       (subst (λ ps. MakesWhole (meaning s) (visit r) j.status ps j.libraries.items (needs_of j)) (sym (same_pieces j.segments)) is.makes)
@@ -133,8 +130,8 @@ entry_made_for r s j e is closed asked of = record {
 }
 
 -- no part of a whole fragment is open, nor of a whole page
-pub fragment_has_no_parts : (r : Reader) (f : Fragment) (j : Joined) → IsWhole (whole r.ask.now.path (element.Fragment f)) (visit r) j → HasNoParts (pieces_of j.segments)
-fragment_has_no_parts r f j is = no_parts (pieces_of j.segments) (fragment_closed r.ask.now.path f (visit r) j.status (pieces_of j.segments) is.makes.attached (needs_of j) is.makes.made)
+pub fragment_has_no_parts : (r : Reader) (f : Fragment) (j : Joined) → IsWhole (whole r.ask.path (element.Fragment f)) (visit r) j → HasNoParts (pieces_of j.segments)
+fragment_has_no_parts r f j is = no_parts (pieces_of j.segments) (fragment_closed r.ask.path f (visit r) j.status (pieces_of j.segments) is.makes.attached (needs_of j) is.makes.made)
 
-pub page_has_no_parts : (r : Reader) (j : Joined) → IsWhole (whole r.ask.now.path element.Page) (visit r) j → HasNoParts (pieces_of j.segments)
-page_has_no_parts r j is = no_parts (pieces_of j.segments) (page_closed r.ask.now.path (visit r) j.status (pieces_of j.segments) is.makes.attached (needs_of j) is.makes.made)
+pub page_has_no_parts : (r : Reader) (j : Joined) → IsWhole (whole r.ask.path element.Page) (visit r) j → HasNoParts (pieces_of j.segments)
+page_has_no_parts r j is = no_parts (pieces_of j.segments) (page_closed r.ask.path (visit r) j.status (pieces_of j.segments) is.makes.attached (needs_of j) is.makes.made)

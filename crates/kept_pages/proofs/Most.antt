@@ -28,7 +28,7 @@ use Rattle.render_array.specs.Shown.{OnlyMeta, page_count}
 use Rattle.render_array.proofs.Leaves.{fragment_closed}
 use Rattle.page_meaning.specs.Lazy.{is_lazy}
 use Rattle.page_meaning.specs.Meaning.{meaning, open_if, in_frame, for_everybody}
-use Rattle.element_entries.specs.declared.reader.Reader.{Reader}
+use Rattle.element_entries.specs.Readers.{Reader}
 use Rattle.site_house.specs.House.{HouseView}
 use Rattle.kept_pages.specs.Needed.{Visits, OfPlace, either_shape, NeededBelow, OfFragment, stays_lazy, NeededInFrame, OfFrame, OfWhole, OfTarget, ForSession, OfRequest}
 use Rattle.kept_pages.specs.Went.{Went, Done, number_built}

@@ -33,7 +33,7 @@ use Rattle.page_meaning.proofs.Frames.{page_filled}
 use Rattle.renderer.proofs.Joining.{no_later}
 use Rattle.renderer.proofs.Standing.{some_below}
 use Rattle.element_entries.specs.declared.making.Joined.{Joined}
-use Rattle.element_entries.specs.declared.reader.Reader.{Reader}
+use Rattle.element_entries.specs.Readers.{Reader}
 use Rattle.element_entries.specs.Keys.{visit}
 use Rattle.element_entries.specs.Making.{needs_of}
 use Rattle.kept_pages.specs.Needed.{stays_lazy, tags_of_lazy}
@@ -113,7 +113,7 @@ frame_shown (fragment.Node n m) child v x own libraries needs lazy tags made = m
 
 -- ---- whether a fragment is lazy was asked
 
-pub asks_block : (r : Reader) (name : List ℕ) (f : Fragment) (old new : Joined) (lazy : Bool) → f ≡ fragment.Block name → TellsOn r.state.now (is_lazy name) old.cacheability lazy new.cacheability → new ≡ record old { cacheability = new.cacheability } → AsksLazy (visit r) f old lazy new
+pub asks_block : (r : Reader) (name : List ℕ) (f : Fragment) (old new : Joined) (lazy : Bool) → f ≡ fragment.Block name → TellsOn r.state (is_lazy name) old.cacheability lazy new.cacheability → new ≡ record old { cacheability = new.cacheability } → AsksLazy (visit r) f old lazy new
 asks_block r name f old new lazy is tells same = subst (λ x. AsksLazy (visit r) x old lazy new) (sym is) (record {
   told = (tells (visit r) refl).result;
   tags = (tells (visit r) refl).tags;

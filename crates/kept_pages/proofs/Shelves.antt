@@ -19,13 +19,13 @@ use Rattle.cache_entries.specs.declared.kept.Found.TheVariants as found
 use Rattle.cache_entries.specs.declared.kept.Kept.{Kept as Offer}
 use Rattle.cache_entries.specs.Entries.{IsFresh}
 use Rattle.fragment_cache.specs.Bins.{Bins, Shelf, Thing, Whole, Towards, shelf_of, with_shelf, thing_of, thing_found, IsAbsent, MovesUp, LooksIn, Replaces, KeepsAt}
-use Rattle.element_entries.specs.declared.reader.Reader.{Reader}
+use Rattle.element_entries.specs.Readers.{Reader}
 use Rattle.element_entries.specs.Keeping.{MayKeep, second_contexts}
 use Rattle.element_entries.specs.Keys.{visit, required, key_by}
 use Rattle.site_house.specs.House.{HouseView}
 use Rattle.site_house.specs.Bins.{LooksAt, LooksUp, KeepsUnder, KeepsAt as KeepsInHouse, unkept_by}
 use Rattle.kept_pages.specs.declared.looking.Seen.{Seen}
-use Rattle.kept_pages.specs.Held.{Shelves, IsTold, things_in, NothingLost, Rises, StaysKept, StandsFresh, HeldBy, Held, StandsAlone, SeenOnce, SeenIn, Landed, Puts, StandsBy, IsHeldBy, Offers, Closes}
+use Rattle.kept_pages.specs.Held.{Shelves, IsTold, looked_by, things_in, NothingLost, Rises, StaysKept, StandsFresh, HeldBy, Held, StandsAlone, SeenOnce, SeenIn, Landed, Puts, StandsBy, IsHeldBy, Offers, Closes}
 
 pub stays-refl : (s : Shelves) → StaysKept s s
 stays-refl s = record { things = λ b. same_refl (things_in s b); dropped = refl; unkept = refl }
@@ -112,7 +112,7 @@ module _ (r : Reader) (old : Shelves) (b : Bin) (key : Key) where
   some_none x e = cc
 
   saw_entry : (was : Entry) (o : Option (Arc Entry Global)) (bins : Bins) (new : HouseView) → new.bins ≡ Some bins → new.unkept ≡ old.unkept → LooksIn old.bins b key (Some (Whole was)) bins
-      → IfSome o (λ e. (arc_value e ≡ was) × IsFresh r.state.now r.viewer.now r.ask.now r.moment (arc_value e)) → (o ≡ None → IsFresh r.state.now r.viewer.now r.ask.now r.moment was → ⊥)
+      → IfSome o (λ e. (arc_value e ≡ was) × IsFresh r.state r.viewer r.ask r.moment (arc_value e)) → (o ≡ None → IsFresh r.state r.viewer r.ask r.moment was → ⊥)
       → SeenOnce r old b key (record { entry = o; told = None }) new
   saw_entry was o bins new is same looks fresh stale = record {
     after = record { bins = bins; unkept = new.unkept };
@@ -120,14 +120,14 @@ module _ (r : Reader) (old : Shelves) (b : Bin) (key : Key) where
     stays = looked_up old b key (Some (Whole was)) bins new.unkept looks same (moved (things_in old b) key (Whole was) (shelf_of bins b).things up);
     here = here_of o fresh;
     towards = tt;
-    not_here = λ e x f. stale e (subst (IsFresh r.state.now r.viewer.now r.ask.now r.moment) (whole_is x was (up.only (Whole x) f.there)) f.fresh);
+    not_here = λ e x f. stale e (subst (IsFresh r.state r.viewer r.ask r.moment) (whole_is x was (up.only (Whole x) f.there)) f.fresh);
     not_towards = λ e x h. not_whole x was (up.only (Towards x) h);
   }
     where
       up : MovesUp (things_in old b) key (Whole was) (shelf_of bins b).things
       up = looks.looks.things
 
-      here_of : (o : Option (Arc Entry Global)) → IfSome o (λ e. (arc_value e ≡ was) × IsFresh r.state.now r.viewer.now r.ask.now r.moment (arc_value e)) → IfSome o (λ e. StandsFresh r (things_in old b) key (arc_value e))
+      here_of : (o : Option (Arc Entry Global)) → IfSome o (λ e. (arc_value e ≡ was) × IsFresh r.state r.viewer r.ask r.moment (arc_value e)) → IfSome o (λ e. StandsFresh r (things_in old b) key (arc_value e))
       here_of None h = tt
       here_of (Some e) h = record { there = subst (λ x. Contains (things_in old b) (key, Whole x)) (sym h.0) (stood (things_in old b) key (Whole was) (shelf_of bins b).things up); fresh = h.1 }
 
@@ -164,7 +164,7 @@ module _ (r : Reader) (house new : HouseView) (b : Bin) (key : Key) where
   at_shelves seen old told looks = subst (λ (o : Option Bins). LooksAt o b key (Ok seen) new.bins) told.bins looks.bins
 
   pub entry_seen : (was : Arc Entry Global) (seen : Answer) (o : Option (Arc Entry Global)) → seen ≡ found.Entry was → LooksUp house new b key (Ok seen)
-      → IfSome o (λ e. (arc_value e ≡ arc_value was) × IsFresh r.state.now r.viewer.now r.ask.now r.moment (arc_value e)) → (o ≡ None → IsFresh r.state.now r.viewer.now r.ask.now r.moment (arc_value was) → ⊥)
+      → IfSome o (λ e. (arc_value e ≡ arc_value was) × IsFresh r.state r.viewer r.ask r.moment (arc_value e)) → (o ≡ None → IsFresh r.state r.viewer r.ask r.moment (arc_value was) → ⊥)
       → (old : Shelves) → IsTold house old → SeenOnce r old b key (record { entry = o; told = None }) new
   entry_seen was seen o is looks fresh stale old told =
       let k = at_shelves seen old told looks in
@@ -381,6 +381,11 @@ lent None given same = ap option_copied same
 lent (Some x) None h = absurd h
 lent (Some x) (Some y) h = ap Some h
 
+-- where there is no second key, the first one was looked at last
+pub looked_first : (told : Option (List Context)) (contexts : List Context) → second_contexts told contexts ≡ None → looked_by told ≡ required
+looked_first None contexts none = refl
+looked_first (Some c) contexts none = absurd (let same = none in cc)
+
 -- the contexts of a second key, if there is one
 pub no_second : (o : Option (Arc (List Context) Global)) (second : Option (List Context)) → o ≡ None → option_map arc_value o ≡ second → second ≡ None
 no_second o second is same = sym same ∙ ap (option_map arc_value) is
@@ -388,7 +393,7 @@ no_second o second is same = sym same ∙ ap (option_map arc_value) is
 pub one_second : (o : Option (Arc (List Context) Global)) (second : Option (List Context)) (x : Arc (List Context) Global) → o ≡ Some x → option_map arc_value o ≡ second → second ≡ Some (arc_value x)
 one_second o second x is same = sym same ∙ ap (option_map arc_value) is
 
-module _ (r : Reader) (old : Shelves) (b : Bin) (s : Subject) (e : Entry) (fresh : IsFresh r.state.now r.viewer.now r.ask.now r.moment e) where
+module _ (r : Reader) (old : Shelves) (b : Bin) (s : Subject) (e : Entry) (fresh : IsFresh r.state r.viewer r.ask r.moment e) where
   pub offered_first : (told : Option (List Context)) (new : HouseView) → second_contexts told e.cacheability.contexts ≡ None → Puts old b (key_by (visit r) s required) (Whole e) new → Offers r old b s told e new
   offered_first told new is p = record {
     after = p.after;

@@ -4,7 +4,7 @@ use Rattle.cacheability.specs.declared.context.Context.{Context}
 use Rattle.cache_entries.specs.declared.entry.Entry.{Entry}
 use Rattle.cache_entries.specs.declared.key.Subject.{Subject}
 use Rattle.cache_entries.specs.declared.kept.Bin.{Bin}
-use Rattle.element_entries.specs.declared.reader.Reader.{Reader}
+use Rattle.element_entries.specs.Readers.{Reader}
 use Rattle.element_entries.specs.Keeping.{MayKeep, second_contexts}
 use Rattle.site_house.specs.House.{HouseView}
 use Rattle.kept_pages.specs.Held.{Shelves, IsTold, NothingLost, Rises, StaysKept, HeldBy, Held, IsHeldBy, ClosesTo, Goes, Tells}

@@ -10,7 +10,7 @@ use Rattle.cache_entries.specs.declared.key.Subject.{Subject}
 use Rattle.cache_entries.specs.declared.kept.Bin.{Bin}
 use Rattle.cache_entries.specs.Entries.{IsFresh}
 use Rattle.fragment_cache.specs.Bins.{Bins, Thing, Whole, Towards, shelf_of}
-use Rattle.element_entries.specs.declared.reader.Reader.{Reader}
+use Rattle.element_entries.specs.Readers.{Reader}
 use Rattle.element_entries.specs.Keeping.{MayKeep, second_contexts}
 use Rattle.element_entries.specs.Keys.{visit, required, key_by}
 use Rattle.site_house.specs.House.{HouseView}
@@ -53,7 +53,7 @@ pub record StaysKept (old new : Shelves) : Type 0 where
 -- a fresh entry stands at a key
 pub record StandsFresh (r : Reader) (things : List (Key × Thing)) (key : Key) (e : Entry) : Type 0 where
   pub there : Contains things (key, Whole e)
-  pub fresh : IsFresh r.state.now r.viewer.now r.ask.now r.moment e
+  pub fresh : IsFresh r.state r.viewer r.ask r.moment e
 
 -- or at the second key, which the redirect at the first gives
 pub record StandsBehind (r : Reader) (things : List (Key × Thing)) (s : Subject) (e : Entry) : Type 0 where
@@ -89,6 +89,11 @@ pub record SeenOnce (r : Reader) (old : Shelves) (b : Bin) (key : Key) (seen : S
 abbrev pub IsToldBy : Reader → Shelves → Bin → Subject → Option (List Context) → Type 0
 IsToldBy r shelves b s None = (c : List Context) → Contains (things_in shelves b) (key_by (visit r) s required, Towards c) → ⊥
 IsToldBy r shelves b s (Some c) = StandsAlone (things_in shelves b) (key_by (visit r) s required) c
+
+-- the contexts of the key that was looked at last, by what a redirect told
+abbrev pub looked_by : Option (List Context) → List Context
+looked_by None = required
+looked_by (Some contexts) = contexts
 
 -- a look at the first key, and at the second where a redirect gives it: it is held by what was seen, or isn't held; and what the
 -- redirect told

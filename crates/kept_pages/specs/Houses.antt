@@ -5,7 +5,7 @@ use Rattle.cache_entries.specs.declared.entry.Entry.{Entry}
 use Rattle.cache_entries.specs.declared.key.Subject.{Subject}
 use Rattle.cache_entries.specs.Sound.{IsAskedFor, IsMadeOn}
 use Rattle.page_meaning.specs.Meaning.{meaning}
-use Rattle.element_entries.specs.declared.reader.Reader.{Reader}
+use Rattle.element_entries.specs.Readers.{Reader}
 use Rattle.site_house.specs.House.{HouseView, Moves, Stays}
 use Rattle.site_house.specs.Bins.{IsSeenIn}
 
@@ -16,12 +16,12 @@ pub record Steady (old new : HouseView) : Type 0 where
 
 -- a reader reads a state that the house has seen, and asks for what its target says
 pub record Reads (house : HouseView) (r : Reader) : Type 0 where
-  pub seen : IsSeenIn house r.state.now
-  pub right : IsAsk r.ask.now
+  pub seen : IsSeenIn house r.state
+  pub right : IsAsk r.ask
 
 -- an entry was made for a reader, of something that it asks for, and may be shown to it
 pub record IsMadeFor (r : Reader) (s : Subject) (e : Entry) : Type 0 where
-  pub made_on : IsMadeOn (meaning s) s r.state.now r.viewer.now r.ask.now e
+  pub made_on : IsMadeOn (meaning s) s r.state r.viewer r.ask e
   pub moment : e.made_moment ≡ r.moment
   pub not_over : r.moment ≤ e.last
-  pub asked : IsAskedFor s r.viewer.now r.ask.now
+  pub asked : IsAskedFor s r.viewer r.ask

@@ -1,7 +1,7 @@
 -- What is kept is used, and what may be kept is.
 -- https://www.drupal.org/docs/drupal-apis/cache-api/cache-api
 use Rattle.std.specs.Prelude.{ℕ, ◌≡◌, min}
-use Rattle.element_entries.specs.declared.reader.Reader.{Reader}
+use Rattle.element_entries.specs.Readers.{Reader}
 use Rattle.element_entries.specs.Keeping.{MayKeep}
 use Rattle.site_house.specs.House.{HouseView}
 use Rattle.kept_pages.specs.Held.{Shelves, IsTold, NothingLost, Held}

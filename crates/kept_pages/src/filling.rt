@@ -1,5 +1,5 @@
 //! Elements whose places are filled in, with what is found, or else with what is built.
-ghost use Rattle.std.specs.Prelude.{◌≡◌, ◌∷◌, [], IfOk, IfSome, OnOk};
+ghost use Rattle.std.specs.Prelude.{◌≡◌, ◌∷◌, [], IfOk, IfSome, OnOk, option_map};
 ghost use Rattle.std.specs.Arc.{arc_value};
 ghost use Rattle.std.specs.Option.{option_copied};
 ghost use Rattle.html_out.specs.Segment.{part_of, parts_of};
@@ -11,17 +11,17 @@ ghost use Rattle.page_meaning.specs.Meaning.{meaning};
 ghost use Rattle.render_canvas.specs.Board.{pieces_of};
 ghost use Rattle.render_array.specs.declared.element.Element.TheVariants as element_is;
 ghost use Rattle.render_array.specs.Whole.{whole, fragment_level, shown_below};
-ghost use Rattle.element_entries.specs.Keys.{visit};
+ghost use Rattle.element_entries.specs.Keys.{visit, key_by};
 ghost use Rattle.kept_pages.specs.Houses.{Steady, Reads};
 ghost use Rattle.kept_pages.specs.Joins.{IsWhole, Joins};
 ghost use Rattle.kept_pages.specs.Needed.{Visits, OfFragment, InFragment, NeededBelow, NeededFor};
-ghost use Rattle.kept_pages.specs.Held.{Shelves, IsTold, SeenIn, Closes, Tells, BuiltUp};
+ghost use Rattle.kept_pages.specs.Held.{Shelves, IsTold, looked_by, SeenIn, Closes, Tells, BuiltUp};
 
 use crate::joining::{Begun, Child, Filled, add_bytes, add_child, begin, leave_open};
 use crate::keeping::keep_filled;
 use crate::looking::{Seen, look};
 use crate::places::fragment_at;
-use cache_entries::{Bin, Subject};
+use cache_entries::{Bin, Key, Subject};
 use cacheability::{Context, OrderedSet};
 use content_state::{Fragment, Hole};
 use element_entries::{Reader, first_key};
@@ -31,20 +31,22 @@ use renderer::element_level;
 use site_house::House;
 use std::alloc::{AllocError, Global};
 
-/// What is kept of a fragment, where it may be shown.
+/// What is kept of a fragment, where it may be shown, and the key that was looked at last.
 fn look_for<H: House>(
     alloc: Global,
     house: &mut H,
     reader: &Reader<'_>,
     fragment: &Fragment,
-) -> Result<Seen, AllocError>
+) -> Result<(Seen, Key), AllocError>
     requires { Reads (H.sees house.old) reader.now }
     ensures steady { Steady (H.sees house.old) (H.sees house.new) }
-    ensures here { IfOk result (λ seen. IfSome seen.entry (λ e. IsHere meaning (subject_is.Fragment fragment.now) (visit reader.now) (arc_value e))) }
-    ensures told { IfOk result (λ seen. (shelves : Shelves) → IsTold (H.sees house.old) shelves → SeenIn reader.now shelves bin_is.Fragments (subject_is.Fragment fragment.now) seen (H.sees house.new)) }
+    ensures here { IfOk result (λ looked. IfSome looked.0.entry (λ e. IsHere meaning (subject_is.Fragment fragment.now) (visit reader.now) (arc_value e))) }
+    ensures told { IfOk result (λ looked. (shelves : Shelves) → IsTold (H.sees house.old) shelves → SeenIn reader.now shelves bin_is.Fragments (subject_is.Fragment fragment.now) looked.0 (H.sees house.new)) }
+    ensures looked { IfOk result (λ looked. looked.1 ≡ key_by (visit reader.now) (subject_is.Fragment fragment.now) (looked_by (option_map arc_value looked.0.told))) }
 {
     let mut key = first_key(alloc, reader, Subject::Fragment(*fragment))?;
-    look(alloc, house, reader, Bin::Fragments, &mut key)
+    let seen = look(alloc, house, reader, Bin::Fragments, &mut key)?;
+    Ok((seen, key))
 }
 
 /// What stands in the place of a fragment that was put together, which is kept where it may be.
@@ -53,18 +55,21 @@ fn keep_whole<H: House>(
     house: &mut H,
     reader: &Reader<'_>,
     fragment: &Fragment,
+    key: Key,
     filled: Filled,
     told: Option<&OrderedSet<Context>>,
 ) -> Result<Child, AllocError>
     requires reads { Reads (H.sees house.old) reader.now }
-    requires whole { IsWhole (whole reader.now.ask.now.path (element_is.Fragment fragment.now)) (visit reader.now) filled.joined }
+    requires looked { key ≡ key_by (visit reader.now) (subject_is.Fragment fragment.now) (looked_by (option_copied told)) }
+    requires whole { IsWhole (whole reader.now.ask.path (element_is.Fragment fragment.now)) (visit reader.now) filled.joined }
     ensures steady { Steady (H.sees house.old) (H.sees house.new) }
     ensures here { IfOk result (λ child. IsHere meaning (subject_is.Fragment fragment.now) (visit reader.now) (arc_value child.entry)) }
     ensures built { IfOk result (λ child. child.built ≡ filled.built) }
     ensures told { IfOk result (λ child. (shelves : Shelves) → IsTold (H.sees house.old) shelves → Closes reader.now shelves bin_is.Fragments (subject_is.Fragment fragment.now) (option_copied told.entry) (arc_value child.entry) (H.sees house.new)) }
 {
-    let subject = Subject::Fragment(*fragment);
-    keep_filled(alloc, house, reader, Bin::Fragments, &subject, filled, told)
+    // Only the contract speaks of it.
+    let _fragment = fragment;
+    keep_filled(alloc, house, reader, Bin::Fragments, key, filled, told)
 }
 
 /// The element that a fragment is.
@@ -87,10 +92,10 @@ pub fn some_fragment<H: House>(
     ensures here { IfOk result (λ child. IsHere meaning (subject_is.Fragment fragment.now) (visit reader.now) (arc_value child.entry)) }
     ensures told { IfOk result (λ child. Tells reader.now (OfFragment (NeededBelow (fragment_level fragment.now) (visit reader.now)) (visit reader.now) fragment.now) (H.sees house.old) (H.sees house.new) 0 child.built) }
 {
-    let Seen { entry, told } = look_for(alloc, house, reader, fragment)?;
+    let (Seen { entry, told }, key) = look_for(alloc, house, reader, fragment)?;
     match entry {
         Some(entry) => Ok(Child { entry, built: 0 }),
-        None => built_fragment(alloc, house, reader, fragment, told.as_deref()),
+        None => built_fragment(alloc, house, reader, fragment, key, told.as_deref()),
     }
 }
 
@@ -101,15 +106,17 @@ fn built_fragment<H: House>(
     house: &mut H,
     reader: &Reader<'_>,
     fragment: &Fragment,
+    key: Key,
     told: Option<&OrderedSet<Context>>,
 ) -> Result<Child, AllocError>
-    requires { Reads (H.sees house.old) reader.now }
+    requires reads { Reads (H.sees house.old) reader.now }
+    requires looked { key ≡ key_by (visit reader.now) (subject_is.Fragment fragment.now) (looked_by (option_copied told)) }
     ensures steady { Steady (H.sees house.old) (H.sees house.new) }
     ensures here { IfOk result (λ child. IsHere meaning (subject_is.Fragment fragment.now) (visit reader.now) (arc_value child.entry)) }
     ensures told { IfOk result (λ child. BuiltUp reader.now (InFragment (visit reader.now) fragment.now) bin_is.Fragments (subject_is.Fragment fragment.now) (option_copied told.entry) (arc_value child.entry) (H.sees house.old) (H.sees house.new) child.built) }
 {
     let filled = fill(alloc, house, reader, element_of(fragment))?;
-    keep_whole(alloc, house, reader, fragment, filled, told)
+    keep_whole(alloc, house, reader, fragment, key, filled, told)
 }
 
 /// An element that is built, its places filled in.
@@ -122,8 +129,8 @@ fn fill<H: House>(
 ) -> Result<Filled, AllocError>
     requires { Reads (H.sees house.old) reader.now }
     ensures steady { Steady (H.sees house.old) (H.sees house.new) }
-    ensures whole { IfOk result (λ f. IsWhole (whole reader.now.ask.now.path element) (visit reader.now) f.joined) }
-    ensures told { IfOk result (λ f. Tells reader.now (NeededFor reader.now.ask.now.path (visit reader.now) element) (H.sees house.old) (H.sees house.new) 1 f.built) }
+    ensures whole { IfOk result (λ f. IsWhole (whole reader.now.ask.path element) (visit reader.now) f.joined) }
+    ensures told { IfOk result (λ f. Tells reader.now (NeededFor reader.now.ask.path (visit reader.now) element) (H.sees house.old) (H.sees house.new) 1 f.built) }
 {
     let Begun {
         segments,

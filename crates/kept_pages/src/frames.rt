@@ -11,18 +11,18 @@ ghost use Rattle.cache_entries.specs.Entries.{IsHere};
 ghost use Rattle.page_meaning.specs.Meaning.{meaning, framed};
 ghost use Rattle.render_canvas.specs.Board.{pieces_of};
 ghost use Rattle.render_array.specs.Whole.{fragment_level};
-ghost use Rattle.element_entries.specs.Keys.{visit};
+ghost use Rattle.element_entries.specs.Keys.{visit, key_by};
 ghost use Rattle.kept_pages.specs.Houses.{Steady, Reads};
 ghost use Rattle.kept_pages.specs.Joins.{IsWhole, TakesFragment, in_shared, Joins};
 ghost use Rattle.kept_pages.specs.Needed.{Visits, OfFragment, NeededBelow, NeededInFrame, InFrame, OfFrame};
-ghost use Rattle.kept_pages.specs.Held.{Tells, BuiltUp};
+ghost use Rattle.kept_pages.specs.Held.{looked_by, Tells, BuiltUp};
 
 use crate::filling::some_fragment;
 use crate::joining::{Begun, Child, Filled, add_bytes, add_child, begin, leave_open};
 use crate::keeping::keep_filled;
 use crate::looking::{Seen, look};
 use crate::places::is_left_open;
-use cache_entries::{Bin, Subject};
+use cache_entries::{Bin, Key, Subject};
 use cacheability::{Context, OrderedSet};
 use content_rows::Duplicate;
 use content_state::{Fragment, Hole};
@@ -41,15 +41,15 @@ pub fn some_frame<H: House>(
 ) -> Result<Child, AllocError>
     requires { Reads (H.sees house.old) reader.now }
     ensures steady { Steady (H.sees house.old) (H.sees house.new) }
-    ensures here { IfOk result (λ child. IsHere meaning (subject_is.Page reader.now.ask.now.path) (visit reader.now) (arc_value child.entry)) }
-    ensures told { IfOk result (λ child. Tells reader.now (OfFrame reader.now.ask.now.path (visit reader.now) (arc_value child.entry)) (H.sees house.old) (H.sees house.new) 0 child.built) }
+    ensures here { IfOk result (λ child. IsHere meaning (subject_is.Page reader.now.ask.path) (visit reader.now) (arc_value child.entry)) }
+    ensures told { IfOk result (λ child. Tells reader.now (OfFrame reader.now.ask.path (visit reader.now) (arc_value child.entry)) (H.sees house.old) (H.sees house.new) 0 child.built) }
 {
-    let subject = Subject::Page(reader.ask.path.duplicate(alloc)?);
+    let subject = Subject::Page(reader.ask().path.duplicate(alloc)?);
     let mut key = first_key(alloc, reader, subject)?;
     let Seen { entry, told } = look(alloc, house, reader, Bin::Dynamic, &mut key)?;
     match entry {
         Some(entry) => Ok(Child { entry, built: 0 }),
-        None => built_frame(alloc, house, reader, &key.subject, told.as_deref()),
+        None => built_frame(alloc, house, reader, key, told.as_deref()),
     }
 }
 
@@ -58,17 +58,18 @@ fn built_frame<H: House>(
     alloc: Global,
     house: &mut H,
     reader: &Reader<'_>,
-    subject: &Subject,
+    key: Key,
     told: Option<&OrderedSet<Context>>,
 ) -> Result<Child, AllocError>
     requires reads { Reads (H.sees house.old) reader.now }
-    requires asked { subject.now ≡ subject_is.Page reader.now.ask.now.path }
+    requires asked { key.subject ≡ subject_is.Page reader.now.ask.path }
+    requires looked { key ≡ key_by (visit reader.now) key.subject (looked_by (option_copied told)) }
     ensures steady { Steady (H.sees house.old) (H.sees house.new) }
-    ensures here { IfOk result (λ child. IsHere meaning (subject_is.Page reader.now.ask.now.path) (visit reader.now) (arc_value child.entry)) }
-    ensures told { IfOk result (λ child. BuiltUp reader.now (InFrame reader.now.ask.now.path (visit reader.now)) bin_is.Dynamic (subject_is.Page reader.now.ask.now.path) (option_copied told.entry) (arc_value child.entry) (H.sees house.old) (H.sees house.new) child.built) }
+    ensures here { IfOk result (λ child. IsHere meaning (subject_is.Page reader.now.ask.path) (visit reader.now) (arc_value child.entry)) }
+    ensures told { IfOk result (λ child. BuiltUp reader.now (InFrame reader.now.ask.path (visit reader.now)) bin_is.Dynamic (subject_is.Page reader.now.ask.path) (option_copied told.entry) (arc_value child.entry) (H.sees house.old) (H.sees house.new) child.built) }
 {
     let filled = build_frame(alloc, house, reader)?;
-    keep_filled(alloc, house, reader, Bin::Dynamic, subject, filled, told)
+    keep_filled(alloc, house, reader, Bin::Dynamic, key, filled, told)
 }
 
 /// The page of a path that is built as it is kept for whoever views it.
@@ -79,8 +80,8 @@ fn build_frame<H: House>(
 ) -> Result<Filled, AllocError>
     requires { Reads (H.sees house.old) reader.now }
     ensures steady { Steady (H.sees house.old) (H.sees house.new) }
-    ensures whole { IfOk result (λ f. IsWhole (framed reader.now.ask.now.path) (visit reader.now) f.joined) }
-    ensures told { IfOk result (λ f. Tells reader.now (InFrame reader.now.ask.now.path (visit reader.now)) (H.sees house.old) (H.sees house.new) 1 f.built) }
+    ensures whole { IfOk result (λ f. IsWhole (framed reader.now.ask.path) (visit reader.now) f.joined) }
+    ensures told { IfOk result (λ f. Tells reader.now (InFrame reader.now.ask.path (visit reader.now)) (H.sees house.old) (H.sees house.new) 1 f.built) }
 {
     let Begun {
         segments,

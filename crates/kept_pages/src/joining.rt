@@ -11,7 +11,7 @@ use cache_entries::Entry;
 use content_state::Hole;
 use element_entries::{Joined, Reader};
 use html_out::{Bytes, Segments};
-use render_array::{Element, build};
+use render_array::{Element, build_for};
 use render_canvas::Built;
 use std::alloc::{AllocError, Global};
 use std::sync::Arc;
@@ -39,7 +39,7 @@ pub struct Child {
 
 /// An element that is built, its places left open.
 pub fn begin(alloc: Global, reader: &Reader<'_>, element: &Element) -> Result<Begun, AllocError>
-    ensures { IfOk result (λ begun. Begins (plan_of reader.now.ask.now.path element.now) (visit reader.now) begun) }
+    ensures { IfOk result (λ begun. Begins (plan_of reader.now.ask.path element.now) (visit reader.now) begun) }
 {
     let Built {
         segments,
@@ -47,12 +47,12 @@ pub fn begin(alloc: Global, reader: &Reader<'_>, element: &Element) -> Result<Be
         libraries,
         last,
         status,
-    } = build(
+    } = build_for(
         alloc,
-        reader.state,
-        reader.viewer,
-        reader.ask,
-        reader.moment,
+        reader.state(),
+        reader.account(),
+        reader.ask(),
+        reader.moment(),
         element,
     )?;
     let joined = Joined {

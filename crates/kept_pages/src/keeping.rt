@@ -4,28 +4,26 @@ ghost use Rattle.std.specs.Arc.{arc_value};
 ghost use Rattle.std.specs.Option.{option_copied};
 ghost use Rattle.cache_entries.specs.Entries.{IsHere, IsClosed};
 ghost use Rattle.cache_entries.specs.Sound.{IsAskedFor};
-ghost use Rattle.fragment_cache.specs.Bins.{Whole, Towards};
+ghost use Rattle.fragment_cache.specs.Bins.{thing_of};
 ghost use Rattle.page_meaning.specs.Meaning.{meaning};
 ghost use Rattle.render_canvas.specs.Board.{pieces_of};
+ghost use Rattle.site_house.specs.Bins.{MayBeKeptIn};
 ghost use Rattle.element_entries.specs.Keys.{visit, required, key_by};
 ghost use Rattle.kept_pages.specs.Houses.{Steady, Reads, IsMadeFor};
 ghost use Rattle.kept_pages.specs.Joins.{IsWhole};
-ghost use Rattle.kept_pages.specs.Held.{Shelves, IsTold, Puts, Offers, Closes};
+ghost use Rattle.kept_pages.specs.Held.{Shelves, IsTold, looked_by, Puts, Offers, Closes};
 
 use crate::joining::{Child, Filled};
-use crate::values::copied_values;
 use cache_entries::{Bin, Entry, Kept, Key, Subject};
 use cacheability::{Context, OrderedSet};
 use element_entries::{
-    Reader, duplicate_subject, entry_of, may_keep, redirect_to, required_contexts,
-    values_where_known,
+    Reader, duplicate_subject, entry_of, first_key, key_beside, may_keep, redirect_to,
 };
 use site_house::House;
 use std::alloc::{AllocError, Global};
 use std::sync::Arc;
 
-/// The key of something with the values that these contexts have for a reader. Those of an entry that was made for the reader are
-/// copied, since permissions and grants are dear to compute.
+/// The key of something with the values that these contexts have for a reader, beside an entry that was made for the reader.
 fn key_by_entry(
     alloc: Global,
     reader: &Reader<'_>,
@@ -36,93 +34,62 @@ fn key_by_entry(
     requires { IsMadeFor reader.now subject.now entry.now }
     ensures { IfOk result (λ key. key ≡ key_by (visit reader.now) subject.now contexts.now) }
 {
-    let known = copied_values(alloc, entry.values.as_slice())?;
-    Ok(Key {
-        subject: duplicate_subject(alloc, subject)?,
-        values: values_where_known(alloc, reader, contexts, known)?,
-    })
+    key_beside(alloc, reader, subject, contexts, entry)
 }
 
-/// Keeps an entry under its key with the values of these contexts, or lets it go where the house has no memory for it.
-fn keep_at<H: House>(
+/// The first key of something, from the one that was looked at last.
+fn first_again(
     alloc: Global,
-    house: &mut H,
     reader: &Reader<'_>,
-    bin: Bin,
-    subject: &Subject,
-    entry: &Arc<Entry>,
-    contexts: &[Context],
-) -> Result<(), AllocError>
-    requires reads { Reads (H.sees house.old) reader.now }
-    requires made { IsMadeFor reader.now subject.now (arc_value entry.now) }
-    ensures steady { Steady (H.sees house.old) (H.sees house.new) }
-    ensures told { OnOk result ((shelves : Shelves) → IsTold (H.sees house.old) shelves → Puts shelves bin (key_by (visit reader.now) subject.now contexts.now) (Whole (arc_value entry.now)) (H.sees house.new)) }
+    key: Key,
+    told: Option<&OrderedSet<Context>>,
+) -> Result<Key, AllocError>
+    requires { key ≡ key_by (visit reader.now) key.subject (looked_by (option_copied told)) }
+    ensures { IfOk result (λ first. first ≡ key_by (visit reader.now) key.subject required) }
 {
-    let key = key_by_entry(alloc, reader, subject, contexts, entry)?;
-    let shared = Arc::try_clone(entry)?;
-    let _kept = house.keep(alloc, bin, key, Kept::Entry(shared));
-    Ok(())
+    match told {
+        None => Ok(key),
+        Some(_) => first_key(alloc, reader, duplicate_subject(alloc, &key.subject)?),
+    }
 }
 
-/// Keeps a redirect under the first key of something that an entry was made of, or lets it go where the house has no memory for it.
-fn keep_redirect<H: House>(
-    alloc: Global,
-    house: &mut H,
-    reader: &Reader<'_>,
-    bin: Bin,
-    subject: &Subject,
-    entry: &Entry,
-    contexts: &Arc<OrderedSet<Context>>,
-) -> Result<(), AllocError>
-    requires { IsMadeFor reader.now subject.now entry.now }
+/// Keeps something under a key, or lets it go where the house has no memory for it.
+fn offer<H: House>(alloc: Global, house: &mut H, bin: Bin, key: Key, kept: Kept)
+    requires { MayBeKeptIn (H.sees house.old) key kept }
     ensures steady { Steady (H.sees house.old) (H.sees house.new) }
-    ensures told { OnOk result ((shelves : Shelves) → IsTold (H.sees house.old) shelves → Puts shelves bin (key_by (visit reader.now) subject.now required) (Towards (arc_value contexts.now)) (H.sees house.new)) }
+    ensures told { (shelves : Shelves) → IsTold (H.sees house.old) shelves → Puts shelves bin key (thing_of kept) (H.sees house.new) }
 {
-    let first = key_by_entry(alloc, reader, subject, &required_contexts(), entry)?;
-    let shared = Arc::try_clone(contexts)?;
-    let _kept = house.keep(alloc, bin, first, Kept::Redirect(shared));
-    Ok(())
+    let _kept = house.keep(alloc, bin, key, kept);
 }
 
 /// Keeps an entry: under its first key, or, where it varies by more, under its second one, behind a redirect that takes over the
-/// contexts that one told.
+/// contexts that one told. The key is the one that was looked at last.
 fn keep<H: House>(
     alloc: Global,
     house: &mut H,
     reader: &Reader<'_>,
     bin: Bin,
-    subject: &Subject,
+    key: Key,
     entry: &Arc<Entry>,
     told: Option<&OrderedSet<Context>>,
 ) -> Result<(), AllocError>
     requires reads { Reads (H.sees house.old) reader.now }
-    requires made { IsMadeFor reader.now subject.now (arc_value entry.now) }
+    requires looked { key ≡ key_by (visit reader.now) key.subject (looked_by (option_copied told)) }
+    requires made { IsMadeFor reader.now key.subject (arc_value entry.now) }
     ensures steady { Steady (H.sees house.old) (H.sees house.new) }
-    ensures told { OnOk result ((shelves : Shelves) → IsTold (H.sees house.old) shelves → Offers reader.now shelves bin subject.now (option_copied told.entry) (arc_value entry.now) (H.sees house.new)) }
+    ensures told { OnOk result ((shelves : Shelves) → IsTold (H.sees house.old) shelves → Offers reader.now shelves bin key.subject (option_copied told.entry) (arc_value entry.now) (H.sees house.new)) }
 {
+    let shared = Arc::try_clone(entry)?;
     match redirect_to(alloc, told, &entry.cacheability.contexts)? {
-        None => keep_at(
-            alloc,
-            house,
-            reader,
-            bin,
-            subject,
-            entry,
-            &required_contexts(),
-        ),
+        None => offer(alloc, house, bin, key, Kept::Entry(shared)),
         Some(contexts) => {
-            keep_redirect(alloc, house, reader, bin, subject, entry, &contexts)?;
-            keep_at(
-                alloc,
-                house,
-                reader,
-                bin,
-                subject,
-                entry,
-                contexts.as_slice(),
-            )
+            let second = key_by_entry(alloc, reader, &key.subject, contexts.as_slice(), entry)?;
+            let first = first_again(alloc, reader, key, told)?;
+            offer(alloc, house, bin, first, Kept::Redirect(contexts));
+            offer(alloc, house, bin, second, Kept::Entry(shared));
         }
     }
+    Ok(())
 }
 
 /// Keeps an entry where it may be kept.
@@ -131,43 +98,45 @@ pub fn keep_if<H: House>(
     house: &mut H,
     reader: &Reader<'_>,
     bin: Bin,
-    subject: &Subject,
+    key: Key,
     entry: &Arc<Entry>,
     told: Option<&OrderedSet<Context>>,
 ) -> Result<(), AllocError>
     requires reads { Reads (H.sees house.old) reader.now }
-    requires made { IsMadeFor reader.now subject.now (arc_value entry.now) }
+    requires looked { key ≡ key_by (visit reader.now) key.subject (looked_by (option_copied told)) }
+    requires made { IsMadeFor reader.now key.subject (arc_value entry.now) }
     ensures steady { Steady (H.sees house.old) (H.sees house.new) }
-    ensures told { OnOk result ((shelves : Shelves) → IsTold (H.sees house.old) shelves → Closes reader.now shelves bin subject.now (option_copied told.entry) (arc_value entry.now) (H.sees house.new)) }
+    ensures told { OnOk result ((shelves : Shelves) → IsTold (H.sees house.old) shelves → Closes reader.now shelves bin key.subject (option_copied told.entry) (arc_value entry.now) (H.sees house.new)) }
 {
     if may_keep(bin, &entry.cacheability) {
-        keep(alloc, house, reader, bin, subject, entry, told)
+        keep(alloc, house, reader, bin, key, entry, told)
     } else {
         Ok(())
     }
 }
 
-/// An entry of what was put together, which is kept where it may be.
+/// An entry of what was put together, which is kept where it may be. The key is the one that was looked at last.
 pub fn keep_filled<H: House>(
     alloc: Global,
     house: &mut H,
     reader: &Reader<'_>,
     bin: Bin,
-    subject: &Subject,
+    key: Key,
     filled: Filled,
     told: Option<&OrderedSet<Context>>,
 ) -> Result<Child, AllocError>
     requires reads { Reads (H.sees house.old) reader.now }
-    requires whole { IsWhole (meaning subject.now) (visit reader.now) filled.joined }
-    requires closed { IsClosed subject.now (pieces_of filled.joined.segments) }
-    requires asked { IsAskedFor subject.now reader.now.viewer.now reader.now.ask.now }
+    requires looked { key ≡ key_by (visit reader.now) key.subject (looked_by (option_copied told)) }
+    requires whole { IsWhole (meaning key.subject) (visit reader.now) filled.joined }
+    requires closed { IsClosed key.subject (pieces_of filled.joined.segments) }
+    requires asked { IsAskedFor key.subject reader.now.viewer reader.now.ask }
     ensures steady { Steady (H.sees house.old) (H.sees house.new) }
-    ensures here { IfOk result (λ child. IsHere meaning subject.now (visit reader.now) (arc_value child.entry)) }
+    ensures here { IfOk result (λ child. IsHere meaning key.subject (visit reader.now) (arc_value child.entry)) }
     ensures built { IfOk result (λ child. child.built ≡ filled.built) }
-    ensures told { IfOk result (λ child. (shelves : Shelves) → IsTold (H.sees house.old) shelves → Closes reader.now shelves bin subject.now (option_copied told.entry) (arc_value child.entry) (H.sees house.new)) }
+    ensures told { IfOk result (λ child. (shelves : Shelves) → IsTold (H.sees house.old) shelves → Closes reader.now shelves bin key.subject (option_copied told.entry) (arc_value child.entry) (H.sees house.new)) }
 {
     let Filled { joined, built } = filled;
     let entry = Arc::new(alloc, entry_of(alloc, reader, joined)?)?;
-    keep_if(alloc, house, reader, bin, subject, &entry, told)?;
+    keep_if(alloc, house, reader, bin, key, &entry, told)?;
     Ok(Child { entry, built })
 }

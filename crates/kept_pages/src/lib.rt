@@ -9,7 +9,6 @@ mod keeping;
 mod looking;
 mod page;
 mod places;
-mod values;
 mod whole;
 
 pub use body::Body;

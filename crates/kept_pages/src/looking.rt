@@ -1,20 +1,18 @@
 //! Looking for what is kept.
-ghost use Rattle.std.specs.Prelude.{◌≡◌, IfOk, OnOk, IfSome, map};
+ghost use Rattle.std.specs.Prelude.{◌≡◌, IfOk, OnOk, IfSome, map, option_map};
 ghost use Rattle.std.specs.Arc.{arc_value};
 ghost use Rattle.cache_contexts.specs.Values.{valued};
 ghost use Rattle.cache_entries.specs.Entries.{IsHere};
 ghost use Rattle.page_meaning.specs.Meaning.{meaning};
 ghost use Rattle.element_entries.specs.Keys.{visit, required, key_by};
 ghost use Rattle.kept_pages.specs.Houses.{Steady, Reads};
-ghost use Rattle.kept_pages.specs.Held.{Shelves, IsTold, SeenOnce, SeenIn};
+ghost use Rattle.kept_pages.specs.Held.{Shelves, IsTold, looked_by, SeenOnce, SeenIn};
 
 use cache_entries::{Bin, Entry, Found, Key};
 use cacheability::{Context, OrderedSet};
-use content_rows::Items;
-use element_entries::{Reader, if_fresh, required_contexts, values_where_known};
+use element_entries::{Reader, if_fresh, required_contexts, values_for};
 use site_house::House;
 use std::alloc::{AllocError, Global};
-use std::mem;
 use std::sync::Arc;
 
 /// What was seen: an entry that may be shown, or the contexts that a redirect told.
@@ -56,7 +54,7 @@ fn look_once<H: House>(
 }
 
 /// What is kept of something, where it may be shown: at its first key, or at the second that a redirect there gives. The key is
-/// lent: a path or a target is copied once, and the second key takes the values over that the first has.
+/// lent, and is then the one that was looked at last: a path or a target is copied once, and what is built is kept under that key.
 pub fn look<H: House>(
     alloc: Global,
     house: &mut H,
@@ -69,7 +67,7 @@ pub fn look<H: House>(
     ensures steady { Steady (H.sees house.old) (H.sees house.new) }
     ensures here { IfOk result (λ seen. IfSome seen.entry (λ e. IsHere meaning key.old.subject (visit reader.now) (arc_value e))) }
     ensures told { IfOk result (λ seen. (shelves : Shelves) → IsTold (H.sees house.old) shelves → SeenIn reader.now shelves bin key.old.subject seen (H.sees house.new)) }
-    ensures subject { key.new.subject ≡ key.old.subject }
+    ensures looked { IfOk result (λ seen. key.new ≡ key_by (visit reader.now) key.old.subject (looked_by (option_map arc_value seen.told))) }
 {
     let contexts = required_contexts();
     let Seen { entry, told } = look_once(alloc, house, reader, bin, key, &contexts)?;
@@ -86,18 +84,15 @@ pub fn look<H: House>(
     }
 }
 
-/// Makes the first key of something that with the values of these contexts.
+/// Makes the key of something that with the values of these contexts.
 fn turn_to(
     alloc: Global,
     reader: &Reader<'_>,
     key: &mut Key,
     contexts: &[Context],
 ) -> Result<(), AllocError>
-    requires { key.old ≡ key_by (visit reader.now) key.old.subject required }
-    ensures turned { OnOk result (key.new ≡ key_by (visit reader.now) key.old.subject contexts.now) }
-    ensures subject { key.new.subject ≡ key.old.subject }
+    ensures { OnOk result (key.new ≡ key_by (visit reader.now) key.old.subject contexts.now) }
 {
-    let known = mem::replace(&mut key.values, Items::none(alloc));
-    key.values = values_where_known(alloc, reader, contexts, known)?;
+    key.values = values_for(alloc, reader, contexts)?;
     Ok(())
 }

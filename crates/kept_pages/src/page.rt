@@ -22,6 +22,7 @@ use crate::whole::{some_target, whole_page};
 use content_state::{Ask, State, Viewer};
 use element_entries::Reader;
 use renderer::meta_text;
+use site_access::Account;
 use site_house::House;
 use std::alloc::{AllocError, Global};
 
@@ -58,17 +59,13 @@ pub fn render_page<H: House>(
     ensures stays { Stays (H.sees house.old) (H.sees house.new) }
     ensures page { IfOk result (λ p. IsPage state.now.rows ask.now now p.status p.body) }
     ensures status { IfOk result (λ p. IsTrue (is_page_status p.status)) }
-    ensures built { IfOk result (λ p. Tells (record { state = state.entry; viewer = viewer.entry; ask = ask.entry; moment = now }) (OfRequest (visit_on state.now viewer.now ask.now now)) (H.sees house.old) (H.sees house.new) 0 p.built) }
-    ensures used { IfOk result (λ p. (shelves : Shelves) → IsTold (H.sees house.old) shelves → KeptAndUsed (record { state = state.entry; viewer = viewer.entry; ask = ask.entry; moment = now }) (OfRequest (visit_on state.now viewer.now ask.now now)) shelves (H.sees house.new) p.built) }
+    ensures built { IfOk result (λ p. Tells (record { state = state.now; viewer = viewer.now; ask = ask.now; moment = now }) (OfRequest (visit_on state.now viewer.now ask.now now)) (H.sees house.old) (H.sees house.new) 0 p.built) }
+    ensures used { IfOk result (λ p. (shelves : Shelves) → IsTold (H.sees house.old) shelves → KeptAndUsed (record { state = state.now; viewer = viewer.now; ask = ask.now; moment = now }) (OfRequest (visit_on state.now viewer.now ask.now now)) shelves (H.sees house.new) p.built) }
     ensures at_most { IfOk result (λ p. p.built ≤ min (page_count state.now.rows ask.now now) 18446744073709551615) }
     ensures lasts { IfOk result (λ p. Lasts state.now ask.now now p.last p.status p.body) }
 {
-    let reader = Reader {
-        state,
-        viewer,
-        ask,
-        moment: now,
-    };
+    let account = Account::new(alloc, state, viewer)?;
+    let reader = Reader::new(state, &account, ask, now);
     request_page(alloc, house, &reader)
 }
 
@@ -79,14 +76,14 @@ fn request_page<H: House>(
     reader: &Reader<'_>,
 ) -> Result<Page, AllocError>
     requires reads { Reads (H.sees house.old) reader.now }
-    requires viewer { reader.now.viewer.now ≡ named_viewer reader.now.state.now.rows reader.now.ask.now.cookie reader.now.moment }
+    requires viewer { reader.now.viewer ≡ named_viewer reader.now.state.rows reader.now.ask.cookie reader.now.moment }
     ensures steady { Steady (H.sees house.old) (H.sees house.new) }
-    ensures page { IfOk result (λ p. IsPage reader.now.state.now.rows reader.now.ask.now reader.now.moment p.status p.body) }
+    ensures page { IfOk result (λ p. IsPage reader.now.state.rows reader.now.ask reader.now.moment p.status p.body) }
     ensures status { IfOk result (λ p. IsTrue (is_page_status p.status)) }
-    ensures lasts { IfOk result (λ p. Lasts reader.now.state.now reader.now.ask.now reader.now.moment p.last p.status p.body) }
+    ensures lasts { IfOk result (λ p. Lasts reader.now.state reader.now.ask reader.now.moment p.last p.status p.body) }
     ensures told { IfOk result (λ p. Tells reader.now (OfRequest (visit reader.now)) (H.sees house.old) (H.sees house.new) 0 p.built) }
 {
-    match reader.viewer.session {
+    match reader.viewer().session {
         None => shared_page(alloc, house, reader),
         Some(_) => own_page(alloc, house, reader),
     }
@@ -99,12 +96,12 @@ fn shared_page<H: House>(
     reader: &Reader<'_>,
 ) -> Result<Page, AllocError>
     requires reads { Reads (H.sees house.old) reader.now }
-    requires nobody { reader.now.viewer.now.session ≡ None }
-    requires viewer { reader.now.viewer.now ≡ named_viewer reader.now.state.now.rows reader.now.ask.now.cookie reader.now.moment }
+    requires nobody { reader.now.viewer.session ≡ None }
+    requires viewer { reader.now.viewer ≡ named_viewer reader.now.state.rows reader.now.ask.cookie reader.now.moment }
     ensures steady { Steady (H.sees house.old) (H.sees house.new) }
-    ensures page { IfOk result (λ p. IsPage reader.now.state.now.rows reader.now.ask.now reader.now.moment p.status p.body) }
+    ensures page { IfOk result (λ p. IsPage reader.now.state.rows reader.now.ask reader.now.moment p.status p.body) }
     ensures status { IfOk result (λ p. IsTrue (is_page_status p.status)) }
-    ensures lasts { IfOk result (λ p. Lasts reader.now.state.now reader.now.ask.now reader.now.moment p.last p.status p.body) }
+    ensures lasts { IfOk result (λ p. Lasts reader.now.state reader.now.ask reader.now.moment p.last p.status p.body) }
     ensures told { IfOk result (λ p. Tells reader.now (OfTarget (visit reader.now)) (H.sees house.old) (H.sees house.new) 0 p.built) }
 {
     let Child { entry, built } = some_target(alloc, house, reader)?;
@@ -114,12 +111,12 @@ fn shared_page<H: House>(
 /// The page of a request for whoever has a session: nothing of the whole is kept.
 fn own_page<H: House>(alloc: Global, house: &mut H, reader: &Reader<'_>) -> Result<Page, AllocError>
     requires reads { Reads (H.sees house.old) reader.now }
-    requires viewer { reader.now.viewer.now ≡ named_viewer reader.now.state.now.rows reader.now.ask.now.cookie reader.now.moment }
+    requires viewer { reader.now.viewer ≡ named_viewer reader.now.state.rows reader.now.ask.cookie reader.now.moment }
     ensures steady { Steady (H.sees house.old) (H.sees house.new) }
-    ensures page { IfOk result (λ p. IsPage reader.now.state.now.rows reader.now.ask.now reader.now.moment p.status p.body) }
+    ensures page { IfOk result (λ p. IsPage reader.now.state.rows reader.now.ask reader.now.moment p.status p.body) }
     ensures status { IfOk result (λ p. IsTrue (is_page_status p.status)) }
-    ensures lasts { IfOk result (λ p. Lasts reader.now.state.now reader.now.ask.now reader.now.moment p.last p.status p.body) }
-    ensures told { IfOk result (λ p. Tells reader.now (OfWhole reader.now.ask.now.path (visit reader.now)) (H.sees house.old) (H.sees house.new) 0 p.built) }
+    ensures lasts { IfOk result (λ p. Lasts reader.now.state reader.now.ask reader.now.moment p.last p.status p.body) }
+    ensures told { IfOk result (λ p. Tells reader.now (OfWhole reader.now.ask.path (visit reader.now)) (H.sees house.old) (H.sees house.new) 0 p.built) }
 {
     let Filled { joined, built } = whole_page(alloc, house, reader)?;
     page_of(alloc, reader, Pieces::Own(joined), built)
@@ -132,11 +129,11 @@ fn page_of(
     pieces: Pieces,
     built: u64,
 ) -> Result<Page, AllocError>
-    requires viewer { reader.now.viewer.now ≡ named_viewer reader.now.state.now.rows reader.now.ask.now.cookie reader.now.moment }
+    requires viewer { reader.now.viewer ≡ named_viewer reader.now.state.rows reader.now.ask.cookie reader.now.moment }
     requires makes { MakesPage (visit reader.now) (status_in pieces) (pieces_of (parts_in pieces)) (libraries_in pieces) (last_in pieces) }
-    ensures page { IfOk result (λ p. IsPage reader.now.state.now.rows reader.now.ask.now reader.now.moment p.status p.body) }
+    ensures page { IfOk result (λ p. IsPage reader.now.state.rows reader.now.ask reader.now.moment p.status p.body) }
     ensures status { IfOk result (λ p. IsTrue (is_page_status p.status)) }
-    ensures lasts { IfOk result (λ p. Lasts reader.now.state.now reader.now.ask.now reader.now.moment p.last p.status p.body) }
+    ensures lasts { IfOk result (λ p. Lasts reader.now.state reader.now.ask reader.now.moment p.last p.status p.body) }
     ensures built { IfOk result (λ p. p.built ≡ built) }
 {
     let meta = meta_text(alloc, pieces.libraries())?;

@@ -39,7 +39,7 @@ pub fn is_left_open(
     ensures { IfOk result (λ lazy. AsksLazy (visit reader.now) fragment.now joined.old lazy joined.new) }
 {
     match fragment {
-        Fragment::Block(name) => is_lazy(reader.state, *name, &mut joined.cacheability),
+        Fragment::Block(name) => is_lazy(reader.state(), *name, &mut joined.cacheability),
         Fragment::Menu(_) => Ok(false),
         Fragment::Listing(_, _) => Ok(false),
         Fragment::TermListing(_) => Ok(false),

@@ -8,18 +8,18 @@ ghost use Rattle.cache_entries.specs.Entries.{IsHere};
 ghost use Rattle.page_meaning.specs.Meaning.{meaning};
 ghost use Rattle.render_array.specs.declared.element.Element.TheVariants as element_is;
 ghost use Rattle.render_array.specs.Whole.{whole};
-ghost use Rattle.element_entries.specs.Keys.{visit};
+ghost use Rattle.element_entries.specs.Keys.{visit, key_by};
 ghost use Rattle.kept_pages.specs.Houses.{Steady, Reads};
 ghost use Rattle.kept_pages.specs.Joins.{IsWhole};
 ghost use Rattle.kept_pages.specs.Needed.{InHoles, OfWhole, OfTarget};
-ghost use Rattle.kept_pages.specs.Held.{Tells, BuiltUp};
+ghost use Rattle.kept_pages.specs.Held.{looked_by, Tells, BuiltUp};
 
 use crate::filling::add_parts;
 use crate::frames::some_frame;
 use crate::joining::{Child, Filled, reopen};
 use crate::keeping::keep_filled;
 use crate::looking::{Seen, look};
-use cache_entries::{Bin, Subject};
+use cache_entries::{Bin, Key, Subject};
 use cacheability::{Context, OrderedSet};
 use content_rows::Duplicate;
 use element_entries::{Reader, first_key};
@@ -36,17 +36,17 @@ pub fn some_target<H: House>(
     reader: &Reader<'_>,
 ) -> Result<Child, AllocError>
     requires reads { Reads (H.sees house.old) reader.now }
-    requires nobody { reader.now.viewer.now.session ≡ None }
+    requires nobody { reader.now.viewer.session ≡ None }
     ensures steady { Steady (H.sees house.old) (H.sees house.new) }
-    ensures here { IfOk result (λ child. IsHere meaning (subject_is.Target reader.now.ask.now.target) (visit reader.now) (arc_value child.entry)) }
+    ensures here { IfOk result (λ child. IsHere meaning (subject_is.Target reader.now.ask.target) (visit reader.now) (arc_value child.entry)) }
     ensures told { IfOk result (λ child. Tells reader.now (OfTarget (visit reader.now)) (H.sees house.old) (H.sees house.new) 0 child.built) }
 {
-    let subject = Subject::Target(reader.ask.target.duplicate(alloc)?);
+    let subject = Subject::Target(reader.ask().target.duplicate(alloc)?);
     let mut key = first_key(alloc, reader, subject)?;
     let Seen { entry, told } = look(alloc, house, reader, Bin::Anonymous, &mut key)?;
     match entry {
         Some(entry) => Ok(Child { entry, built: 0 }),
-        None => built_target(alloc, house, reader, &key.subject, told.as_deref()),
+        None => built_target(alloc, house, reader, key, told.as_deref()),
     }
 }
 
@@ -55,18 +55,19 @@ fn built_target<H: House>(
     alloc: Global,
     house: &mut H,
     reader: &Reader<'_>,
-    subject: &Subject,
+    key: Key,
     told: Option<&OrderedSet<Context>>,
 ) -> Result<Child, AllocError>
     requires reads { Reads (H.sees house.old) reader.now }
-    requires nobody { reader.now.viewer.now.session ≡ None }
-    requires asked { subject.now ≡ subject_is.Target reader.now.ask.now.target }
+    requires nobody { reader.now.viewer.session ≡ None }
+    requires asked { key.subject ≡ subject_is.Target reader.now.ask.target }
+    requires looked { key ≡ key_by (visit reader.now) key.subject (looked_by (option_copied told)) }
     ensures steady { Steady (H.sees house.old) (H.sees house.new) }
-    ensures here { IfOk result (λ child. IsHere meaning (subject_is.Target reader.now.ask.now.target) (visit reader.now) (arc_value child.entry)) }
-    ensures told { IfOk result (λ child. BuiltUp reader.now (OfWhole reader.now.ask.now.path (visit reader.now)) bin_is.Anonymous (subject_is.Target reader.now.ask.now.target) (option_copied told.entry) (arc_value child.entry) (H.sees house.old) (H.sees house.new) child.built) }
+    ensures here { IfOk result (λ child. IsHere meaning (subject_is.Target reader.now.ask.target) (visit reader.now) (arc_value child.entry)) }
+    ensures told { IfOk result (λ child. BuiltUp reader.now (OfWhole reader.now.ask.path (visit reader.now)) bin_is.Anonymous (subject_is.Target reader.now.ask.target) (option_copied told.entry) (arc_value child.entry) (H.sees house.old) (H.sees house.new) child.built) }
 {
     let filled = whole_page(alloc, house, reader)?;
-    keep_filled(alloc, house, reader, Bin::Anonymous, subject, filled, told)
+    keep_filled(alloc, house, reader, Bin::Anonymous, key, filled, told)
 }
 
 /// The whole page of the path that is asked for: what is kept of it for whoever views it, found or built, and then what is lazy.
@@ -77,8 +78,8 @@ pub fn whole_page<H: House>(
 ) -> Result<Filled, AllocError>
     requires { Reads (H.sees house.old) reader.now }
     ensures steady { Steady (H.sees house.old) (H.sees house.new) }
-    ensures whole { IfOk result (λ f. IsWhole (whole reader.now.ask.now.path element_is.Page) (visit reader.now) f.joined) }
-    ensures told { IfOk result (λ f. Tells reader.now (OfWhole reader.now.ask.now.path (visit reader.now)) (H.sees house.old) (H.sees house.new) 0 f.built) }
+    ensures whole { IfOk result (λ f. IsWhole (whole reader.now.ask.path element_is.Page) (visit reader.now) f.joined) }
+    ensures told { IfOk result (λ f. Tells reader.now (OfWhole reader.now.ask.path (visit reader.now)) (H.sees house.old) (H.sees house.new) 0 f.built) }
 {
     let frame = some_frame(alloc, house, reader)?;
     fill_frame(alloc, house, reader, &frame)
@@ -92,9 +93,9 @@ fn fill_frame<H: House>(
     frame: &Child,
 ) -> Result<Filled, AllocError>
     requires reads { Reads (H.sees house.old) reader.now }
-    requires here { IsHere meaning (subject_is.Page reader.now.ask.now.path) (visit reader.now) (arc_value frame.now.entry) }
+    requires here { IsHere meaning (subject_is.Page reader.now.ask.path) (visit reader.now) (arc_value frame.now.entry) }
     ensures steady { Steady (H.sees house.old) (H.sees house.new) }
-    ensures whole { IfOk result (λ f. IsWhole (whole reader.now.ask.now.path element_is.Page) (visit reader.now) f.joined) }
+    ensures whole { IfOk result (λ f. IsWhole (whole reader.now.ask.path element_is.Page) (visit reader.now) f.joined) }
     ensures told { IfOk result (λ f. Tells reader.now (InHoles (visit reader.now) (arc_value frame.now.entry)) (H.sees house.old) (H.sees house.new) frame.now.built f.built) }
 {
     let mut filled = reopen(alloc, frame)?;

@@ -1,5 +1,6 @@
 //! Building an element.
 ghost use Rattle.std.specs.Prelude.{IfOk};
+ghost use Rattle.site_access.specs.Account.{IsAccountOf};
 ghost use Rattle.render_canvas.specs.Canvas.{Renders};
 ghost use Rattle.render_array.specs.Built.{fragment_shown, plan_of, Builds};
 
@@ -29,7 +30,22 @@ pub fn build(
     ensures { IfOk result (λ b. Builds (plan_of ask.now.path element.now) (record { rows = state.now.rows; viewer = viewer.now; ask = ask.now; moment = now }) b) }
 {
     let account = Account::new(alloc, state, viewer)?;
-    let mut canvas = Canvas::new(alloc, state, &account, ask, now);
+    build_for(alloc, state, &account, ask, now, element)
+}
+
+/// Builds an element as `build` does, for the viewer of an account on the state, which is made once for all that is shown.
+pub fn build_for(
+    alloc: Global,
+    state: &State,
+    account: &Account,
+    ask: &Ask,
+    now: u64,
+    element: &Element,
+) -> Result<Built, AllocError>
+    requires { IsAccountOf state.now.rows account.now.viewer account.now }
+    ensures { IfOk result (λ b. Builds (plan_of ask.now.path element.now) (record { rows = state.now.rows; viewer = account.now.viewer; ask = ask.now; moment = now }) b) }
+{
+    let mut canvas = Canvas::new(alloc, state, account, ask, now);
     let status = write_element(&mut canvas, ask, element);
     canvas.finish(status)
 }

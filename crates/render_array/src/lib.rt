@@ -12,5 +12,5 @@ mod pages;
 mod submitted;
 mod terms;
 
-pub use building::build;
+pub use building::{build, build_for};
 pub use element::Element;

@@ -9,6 +9,5 @@ mod deciding;
 mod reading;
 mod texts;
 
-pub use board::Board;
 pub use built::Built;
 pub use canvas::Canvas;

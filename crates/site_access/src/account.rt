@@ -9,6 +9,7 @@ ghost use Rattle.site_access.specs.Access.{owns};
 ghost use Rattle.site_access.specs.Account.{IsAccountOf, OnRows};
 
 use crate::permission;
+use crate::shared::Shared;
 use cacheability::Name;
 use content_rows::{Permissions, Role, User, ViewGrants};
 use content_state::{State, Viewer};
@@ -23,9 +24,9 @@ pub struct Account {
     /// Who views.
     pub viewer: Viewer,
     /// What the viewer is permitted.
-    pub permissions: Permissions,
+    pub permissions: Shared<Permissions>,
     /// The grants by which the viewer may view nodes.
-    pub grants: ViewGrants,
+    pub grants: Shared<ViewGrants>,
 }
 
 impl Account {
@@ -40,8 +41,8 @@ impl Account {
         let grants = grants_with(alloc, bypasses, user, roles.as_slice())?;
         Ok(Account {
             viewer: *viewer,
-            permissions,
-            grants,
+            permissions: Shared::new(alloc, permissions)?,
+            grants: Shared::new(alloc, grants)?,
         })
     }
 
@@ -49,7 +50,7 @@ impl Account {
     pub fn may(&self, permission: &[u8]) -> bool
         ensures { OnRows self.now (λ rows. result ≡ may rows self.now.viewer permission.now) }
     {
-        has(&self.permissions, permission)
+        has(self.permissions.get(), permission)
     }
 
     /// Whether the viewer is logged in and owns what belongs to this user.
@@ -58,31 +59,6 @@ impl Account {
     {
         self.viewer.uid != 0 && self.viewer.uid == uid
     }
-}
-
-/// What a viewer is permitted. `Err` only where memory is wanting.
-/// <https://www.drupal.org/docs/user_guide/en/user-concept.html>
-pub fn permissions(alloc: Global, state: &State, viewer: &Viewer) -> Result<Permissions, AllocError>
-    ensures { IfOk result (λ held. held ≡ viewer_permissions state.now.rows viewer.now) }
-{
-    let roles = present_roles(alloc, state, viewer)?;
-    permissions_of(alloc, viewer.uid, roles.as_slice())
-}
-
-/// The grants by which a viewer may view nodes: all, where access to nodes is bypassed. `Err` only
-/// where memory is wanting.
-/// <https://api.drupal.org/api/drupal/core!modules!node!node.api.php/function/hook_node_grants/10>
-pub fn view_grants(alloc: Global, state: &State, viewer: &Viewer) -> Result<ViewGrants, AllocError>
-    ensures { IfOk result (λ held. held ≡ view_grants_of state.now.rows viewer.now) }
-{
-    let (user, _) = state.user(viewer.uid);
-    let roles = present_roles(alloc, state, viewer)?;
-    let bypasses = is_permitted(
-        viewer.uid,
-        roles.as_slice(),
-        permission::bypass_node_access(),
-    );
-    grants_with(alloc, bypasses, user, roles.as_slice())
 }
 
 /// The grants by which one with this row, if there is one, and these roles may view nodes: all, where

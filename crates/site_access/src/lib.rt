@@ -9,15 +9,17 @@ mod laws;
 mod node;
 mod permission;
 mod route;
+mod shared;
 mod term;
 mod user;
 mod viewer;
 
 pub use access::{create_access, field_access, node_access};
-pub use account::{Account, permissions, view_grants};
+pub use account::Account;
 pub use field::field_in;
 pub use laws::{decisions_are_exact, plans_answer};
 pub use route::{route_access, route_plan_decides};
+pub use shared::Shared;
 pub use term::{term_access, term_plan_decides};
 pub use user::{user_access, user_plan_decides};
 pub use viewer::viewer_of;

@@ -154,7 +154,7 @@ impl Account {
         ensures { IfOk result (λ r. r ≡ vote_of (grants_allow op node.now self.now.grants) (Some (reason_is.Grant op n)) (depend_of_grants n)) }
     {
         let depends = grants_depend(alloc, n)?;
-        let allowed = match &self.grants {
+        let allowed = match self.grants.get() {
             ViewGrants::All => true,
             ViewGrants::These(held) => {
                 let records = records_of(alloc, node)?;

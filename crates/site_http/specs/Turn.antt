@@ -1,6 +1,5 @@
 -- What one turn of a connection does: the next request, and its reply.
 use Rattle.std.specs.Prelude.{ℕ, List, [], ◌∷◌, ◌++◌, ◌≡◌, ◌≤◌, ◌<◌, ◌⊎◌, Option, Some, None, Bool, true, false, drop, length}
-use Rattle.std.specs.Arc.{arc_value}
 use Rattle.content_state.specs.declared.ask.Ask.{Ask}
 use Rattle.content_state.specs.State.{State}
 use Rattle.site_io.specs.declared.device.Point.{Point}
@@ -22,7 +21,9 @@ use Rattle.site_http.specs.declared.next.Trouble.{Trouble}
 use Rattle.site_http.specs.declared.next.Trouble.TheVariants.{ReadFault, OutOfMemory}
 use Rattle.site_house.specs.History.{History, OnLog, newest, state_of}
 use Rattle.edit_bodies.specs.declared.words.Words.{Words}
+use Rattle.edit_replies.specs.Texts.{done_text}
 use Rattle.site_http.specs.Called.{Called, ToEdit, Wish}
+use Rattle.site_http.specs.Recent.{given_bytes}
 use Rattle.site_http.specs.Reply.{Story, IsAnswer, IsText, listed, refusal_text}
 use Rattle.site_http.specs.Connection.{Out, Around, Gave, and_points, raised, saying, cut_at, closes_after, CountsReads, CountsWrites}
 
@@ -114,11 +115,10 @@ abbrev pub ToldOnTheWay : Option (List Point) → Option (List Point) → Type 0
 ToldOnTheWay points points-after =
     (points-after ≡ and_points points []) ⊎ (points-after ≡ and_points points (AfterSnapshot ∷ []))
 
--- the bytes of a text that was made
+-- the bytes of a reply that was made
 abbrev pub bytes_of : Made → List ℕ
-bytes_of (made.Text text) = text.items
-bytes_of (made.Again reply) = (arc_value reply).text.items
-bytes_of (made.Short text) = text.items
+bytes_of (made.Given given) = given_bytes given
+bytes_of (made.Done done number closing) = done_text done number closing
 bytes_of (made.Fixed text) = text.now
 
 -- what stands around the making of a reply: the house, the words of chance that were given, and the points that were told

@@ -7,7 +7,7 @@ ghost use Rattle.site_house.specs.House.{HouseView, Moves, Stays, history_of};
 ghost use Rattle.site_house.specs.Bins.{IsSeenIn};
 ghost use Rattle.site_io.specs.Reached.{and_point};
 ghost use Rattle.site_io.specs.Series.{GivesInTurn, last_moment, last_word};
-ghost use Rattle.site_io.specs.Told.{after};
+ghost use Rattle.site_io.specs.Told.{after, AddsFront, Rose};
 ghost use Rattle.site_io.specs.declared.device.Point.TheVariants.{AfterSnapshot};
 ghost use Rattle.edit_bodies.specs.Bodies.{sent_of};
 ghost use Rattle.edit_bodies.specs.Commands.{draws};
@@ -21,13 +21,12 @@ use crate::call::{Asked, Call, Reading, asked_by};
 use crate::recent::{Given, RecentReplies, RecentReply};
 use crate::refusal::memory_text;
 use crate::reply::reply_on;
-use arrayvec::ArrayVec;
 use content_state::{Ask, State};
 use edit_bodies::{Body, Words, command_of, draws};
 use edit_paths::{Edit, EditPaths};
 use edit_replies::{done_text, keeper_text, refused_text};
 use http_heads::{Octets, Request};
-use site_commands::{Answer, Command};
+use site_commands::{Answer, Command, Done};
 use site_house::House;
 use site_io::{Clock, Entropy, Failed, Gate, Point, Sink, write_whole};
 use std::alloc::{AllocError, Global};
@@ -40,26 +39,30 @@ pub enum Outcome {
     WriteFault,
 }
 
-/// The text of a reply. One that tells of an edit that was made takes no memory, and one that may be given again is shared.
+/// A reply that is to be written. One that tells of an edit that was made takes no memory: its text is made as it is written.
 #[derive(Drop)]
 pub enum Made {
-    Text(Vec<u8>),
-    Again(Arc<RecentReply>),
-    Short(ArrayVec<u8, 512>),
+    /// The text of a page, or of what became of an edit that was refused.
+    Given(Given),
+    /// What an accepted edit did, the number of the state that it made, and whether the connection closes after the reply.
+    Done(Done, u64, bool),
+    /// A text that is always the same.
     Fixed(&'static [u8]),
 }
 
-impl Made {
-    /// Its bytes.
-    fn bytes(&self) -> &[u8]
-        ensures { result.now ≡ bytes_of self.now }
-    {
-        match self {
-            Made::Text(text) => text.as_slice(),
-            Made::Again(reply) => reply.text.as_slice(),
-            Made::Short(text) => text.as_slice(),
-            Made::Fixed(text) => text,
+/// Writes a reply, in as many pieces as the sink takes.
+fn write_made<O: Sink>(sink: &mut O, made: &Made) -> Result<(), Failed>
+    ensures whole { OnOk result (O.written sink.new ≡ after (O.written sink.old) (bytes_of made.now)) }
+    ensures front { OnErr result (AddsFront (O.written sink.old) (O.written sink.new) (bytes_of made.now)) }
+    ensures cause { OnErr result (Rose (O.faults sink.old) (O.faults sink.new)) }
+    ensures steady { OnOk result (O.faults sink.new ≡ O.faults sink.old) }
+{
+    match made {
+        Made::Given(given) => write_whole(sink, given.bytes()),
+        Made::Done(done, number, closing) => {
+            write_whole(sink, done_text(done, *number, *closing).as_slice())
         }
+        Made::Fixed(text) => write_whole(sink, text),
     }
 }
 
@@ -171,25 +174,15 @@ fn edited<H: House>(
         return Made::Fixed(memory_text(closing));
     };
     match house.commit(alloc, ask, sent_value(csrf), &command, now) {
-        Answer::Done(done, number) => Made::Short(done_text(&done, number, closing)),
+        Answer::Done(done, number) => Made::Done(done, number, closing),
         Answer::Refused(refusal, number) => {
             match refused_text(alloc, &refusal, number, closing) {
-                Ok(text) => Made::Text(text),
+                Ok(text) => Made::Given(Given::Text(text)),
                 Err(_) => Made::Fixed(memory_text(closing)),
             }
         }
         Answer::Keeper => Made::Fixed(keeper_text(closing)),
         Answer::OutOfMemory => Made::Fixed(memory_text(closing)),
-    }
-}
-
-/// What is given, as the text of a reply. It is so late, since the texts of edits have room of their own, which is moved with them.
-fn made_of(given: Given) -> Made
-    ensures { bytes_of result ≡ given_bytes given }
-{
-    match given {
-        Given::Text(text) => Made::Text(text),
-        Given::Again(reply) => Made::Again(reply),
     }
 }
 
@@ -217,7 +210,7 @@ fn reading_reply<H: House, G: Gate>(
     match read(alloc, house, gate, recent, reading, ask, now, closing) {
         Ok(said) => {
             gate.reach(Point::BeforeReply(said.built));
-            made_of(said.given)
+            Made::Given(said.given)
         }
         Err(_) => {
             gate.reach(Point::BeforeReply(0));
@@ -332,7 +325,7 @@ pub fn answer<H: House, O: Sink, C: Clock, E: Entropy, G: Gate>(
     let made = reply_made(
         alloc, paths, house, entropy, gate, recent, request, now, closing,
     );
-    match write_whole(sink, made.bytes()) {
+    match write_made(sink, &made) {
         Ok(()) => Outcome::Written,
         Err(Failed) => Outcome::WriteFault,
     }

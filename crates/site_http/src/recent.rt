@@ -50,6 +50,18 @@ pub enum Given {
     Again(Arc<RecentReply>),
 }
 
+impl Given {
+    /// Its bytes.
+    pub fn bytes(&self) -> &[u8]
+        ensures { result.now ≡ given_bytes self.now }
+    {
+        match self {
+            Given::Text(text) => text.as_slice(),
+            Given::Again(reply) => reply.text.as_slice(),
+        }
+    }
+}
+
 /// The place of a target among those of replies, by the hash of Fowler, Noll and Vo.
 /// <https://www.rfc-editor.org/rfc/rfc9923>
 fn place_of(target: &[u8]) -> usize
@@ -59,7 +71,7 @@ fn place_of(target: &[u8]) -> usize
     'bytes: for byte in target {
         hash = (hash ^ u64::from(*byte)).wrapping_mul(0x0100_0000_01b3);
     }
-    (hash % 64) as usize
+    (hash % PLACES as u64) as usize
 }
 
 /// The replies that a worker gave not long ago and may give again, each at the place of its target, where a later one takes its

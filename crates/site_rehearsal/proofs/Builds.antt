@@ -29,7 +29,7 @@ use Rattle.render_array.proofs.Leaves.{page_closed, fragment_closed}
 use Rattle.renderer.specs.declared.filled.Filled.{Filled}
 use Rattle.renderer.specs.Filled.{needs_of, IsWhole}
 use Rattle.renderer.proofs.Texts.{same_meta}
-use Rattle.element_entries.specs.declared.reader.Reader.{Reader}
+use Rattle.element_entries.specs.Readers.{Reader}
 use Rattle.element_entries.specs.Keys.{visit}
 use Rattle.element_entries.specs.Making.{IsEntryOf}
 use Rattle.element_entries.proofs.Entries.{made_on}
@@ -96,21 +96,21 @@ kept_fragment g state viewer ask now count f is = record {
 }
 
 -- its entry was made of what is kept of it
-pub entry_made : (r : Reader) (e : Element) (f : Filled) (entry : Entry) → IsKeptOf e r.state.now r.viewer.now r.ask.now r.moment f → IsEntryOf r (joined_of f) entry
-    → IsMadeOn (meaning (subject_of e r.ask.now)) (subject_of e r.ask.now) r.state.now r.viewer.now r.ask.now entry
-entry_made r e f entry is of = made_on (meaning (subject_of e r.ask.now)) (subject_of e r.ask.now) r (joined_of f) entry of
-    (subst (λ ps. MakesWhole (meaning (subject_of e r.ask.now)) (visit r) f.status ps f.libraries.items (needs_of f)) (sym (same_pieces f.segments)) is.makes)
-    (subst (λ ps. IsClosed (subject_of e r.ask.now) ps) (sym (same_pieces f.segments)) is.closed)
+pub entry_made : (r : Reader) (e : Element) (f : Filled) (entry : Entry) → IsKeptOf e r.state r.viewer r.ask r.moment f → IsEntryOf r (joined_of f) entry
+    → IsMadeOn (meaning (subject_of e r.ask)) (subject_of e r.ask) r.state r.viewer r.ask entry
+entry_made r e f entry is of = made_on (meaning (subject_of e r.ask)) (subject_of e r.ask) r (joined_of f) entry of
+    (subst (λ ps. MakesWhole (meaning (subject_of e r.ask)) (visit r) f.status ps f.libraries.items (needs_of f)) (sym (same_pieces f.segments)) is.makes)
+    (subst (λ ps. IsClosed (subject_of e r.ask) ps) (sym (same_pieces f.segments)) is.closed)
 
 -- so what may be kept was made for it
-pub is_made : (r : Reader) (e : Element) (f : Filled) (entry : Entry) (there state : State) (asked : Ask) (bin : Bin) (subject : Subject) → IsEntryOf r (joined_of f) entry → r.state.now ≡ there → IsKeptOf e there r.viewer.now r.ask.now r.moment f
-    → IsAsk r.ask.now → state ≡ there → subject ≡ subject_of e r.ask.now → asked ≡ r.ask.now → IsMade (record { state = state; viewer = r.viewer.now; ask = asked; bin = bin; subject = subject; entry = entry })
+pub is_made : (r : Reader) (e : Element) (f : Filled) (entry : Entry) (there state : State) (asked : Ask) (bin : Bin) (subject : Subject) → IsEntryOf r (joined_of f) entry → r.state ≡ there → IsKeptOf e there r.viewer r.ask r.moment f
+    → IsAsk r.ask → state ≡ there → subject ≡ subject_of e r.ask → asked ≡ r.ask → IsMade (record { state = state; viewer = r.viewer; ask = asked; bin = bin; subject = subject; entry = entry })
 is_made r e f entry there state asked bin subject of on is right state_is subject_is ask_is =
-    subst IsMade (λ i. record { state = (on ∙ sym state_is) i; viewer = r.viewer.now; ask = (sym ask_is) i; bin = bin; subject = (sym subject_is) i; entry = entry }) made
+    subst IsMade (λ i. record { state = (on ∙ sym state_is) i; viewer = r.viewer; ask = (sym ask_is) i; bin = bin; subject = (sym subject_is) i; entry = entry }) made
   where
-    made : IsMade (record { state = r.state.now; viewer = r.viewer.now; ask = r.ask.now; bin = bin; subject = subject_of e r.ask.now; entry = entry })
+    made : IsMade (record { state = r.state; viewer = r.viewer; ask = r.ask; bin = bin; subject = subject_of e r.ask; entry = entry })
     made = record {
       right = right;
-      asked = asked_as e r.ask.now r.viewer.now;
-      made_on = entry_made r e f entry (subst (λ (s : State). IsKeptOf e s r.viewer.now r.ask.now r.moment f) (sym on) is) of;
+      asked = asked_as e r.ask r.viewer;
+      made_on = entry_made r e f entry (subst (λ (s : State). IsKeptOf e s r.viewer r.ask r.moment f) (sym on) is) of;
     }

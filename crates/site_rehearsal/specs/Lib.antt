@@ -1,3 +1,4 @@
+pub mod Visitors
 pub mod Seats
 pub mod Acts
 pub mod Framing

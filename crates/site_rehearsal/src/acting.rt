@@ -19,7 +19,7 @@ use content_rows::Text;
 use content_state::{Ask, State};
 use element_entries::{Reader, is_fresh};
 use render_array::Element;
-use site_access::viewer_of;
+use site_access::{Account, viewer_of};
 use site_commands::{Answer, Command};
 use site_hall::Hall;
 use site_keeper::Keeper;
@@ -54,12 +54,8 @@ fn is_fresh_found(
     match found {
         Found::Entry(entry) => {
             let viewer = viewer_of(state, ask, now);
-            let reader = Reader {
-                state,
-                viewer: &viewer,
-                ask,
-                moment: now,
-            };
+            let account = Account::new(alloc, state, &viewer)?;
+            let reader = Reader::new(state, &account, ask, now);
             is_fresh(alloc, &reader, entry)
         }
         Found::Redirect(_) | Found::Absent => Ok(false),

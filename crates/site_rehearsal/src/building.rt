@@ -3,10 +3,10 @@ ghost use Rattle.std.specs.Prelude.{◌≡◌, IfOk};
 ghost use Rattle.std.specs.Arc.{arc_value};
 ghost use Rattle.content_state.specs.Ask.{IsAsk};
 ghost use Rattle.content_state.specs.Viewer.{viewer_of as named_viewer};
-ghost use Rattle.element_entries.specs.Keys.{visit};
 ghost use Rattle.element_entries.specs.Making.{IsEntryOf};
 ghost use Rattle.page_meaning.specs.Meaning.{framed};
 ghost use Rattle.render_array.specs.declared.element.Element.TheVariants as element_is;
+ghost use Rattle.site_rehearsal.specs.Visitors.{visit};
 ghost use Rattle.site_rehearsal.specs.Seats.{IsMade};
 ghost use Rattle.site_rehearsal.specs.Acts.{subject_of, bin_of, IsShownAs, IsBuiltFor};
 ghost use Rattle.site_rehearsal.specs.Building.{joined_of, IsKeptOf, IsText};
@@ -14,13 +14,14 @@ ghost use Rattle.site_rehearsal.specs.Framing.{Makes};
 
 use crate::framing::{frame, whole_page};
 use crate::seats::Draft;
+use crate::visitor::Visitor;
 use cache_entries::{Bin, Entry, Subject};
 use content_rows::{Duplicate, Text};
 use content_state::{Ask, Fragment, State, Viewer};
 use element_entries::{Joined, Reader, entry_of};
 use render_array::Element;
 use renderer::{Filled, assembled, fill};
-use site_access::viewer_of;
+use site_access::{Account, viewer_of};
 use std::alloc::{AllocError, Global};
 use std::sync::Arc;
 
@@ -65,12 +66,12 @@ fn text_of(alloc: Global, filled: &Filled) -> Result<Text, AllocError>
 }
 
 /// The text of the whole page.
-fn page_text(alloc: Global, reader: &Reader<'_>, frame: &Filled) -> Result<Text, AllocError>
-    requires viewer { reader.now.viewer.now ≡ named_viewer reader.now.state.now.rows reader.now.ask.now.cookie reader.now.moment }
-    requires frame { Makes (framed reader.now.ask.now.path) (visit reader.now) frame.now }
-    ensures { IfOk result (λ text. IsShownAs element_is.Page reader.now.state.now reader.now.ask.now reader.now.moment text) }
+fn page_text(alloc: Global, visitor: &Visitor<'_>, frame: &Filled) -> Result<Text, AllocError>
+    requires viewer { visitor.now.viewer.now ≡ named_viewer visitor.now.state.now.rows visitor.now.ask.now.cookie visitor.now.moment }
+    requires frame { Makes (framed visitor.now.ask.now.path) (visit visitor.now) frame.now }
+    ensures { IfOk result (λ text. IsShownAs element_is.Page visitor.now.state.now visitor.now.ask.now visitor.now.moment text) }
 {
-    let page = whole_page(alloc, reader, frame)?;
+    let page = whole_page(alloc, visitor, frame)?;
     text_of(alloc, &page)
 }
 
@@ -123,12 +124,8 @@ fn draft_of(
     ensures built { IfOk result (λ draft. IsBuiltFor element (arc_value state.now) ask.now now draft) }
     ensures made { IfOk result (λ draft. IsMade draft) }
 {
-    let reader = Reader {
-        state,
-        viewer,
-        ask,
-        moment: now,
-    };
+    let account = Account::new(alloc, state, viewer)?;
+    let reader = Reader::new(state, &account, ask, now);
     let entry = shared_entry(alloc, &reader, filled)?;
     let subject = subject_of(alloc, element, ask)?;
     let asked = ask_again(alloc, ask)?;
@@ -190,14 +187,14 @@ fn built_page(
     ensures made { IfOk result (λ made. IsMade made.0) }
 {
     let viewer = viewer_of(state, ask, now);
-    let reader = Reader {
+    let visitor = Visitor {
         state,
         viewer: &viewer,
         ask,
         moment: now,
     };
-    let frame = frame(alloc, &reader)?;
-    let text = page_text(alloc, &reader, &frame)?;
+    let frame = frame(alloc, &visitor)?;
+    let text = page_text(alloc, &visitor, &frame)?;
     let draft = draft_of(alloc, state, &viewer, ask, now, Element::Page, frame)?;
     Ok((draft, text))
 }

@@ -8,12 +8,12 @@ ghost use Rattle.render_canvas.specs.Board.{pieces_of};
 ghost use Rattle.render_array.specs.declared.element.Element.TheVariants as element_is;
 ghost use Rattle.render_array.specs.Whole.{whole};
 ghost use Rattle.renderer.specs.Filled.{Joins};
-ghost use Rattle.element_entries.specs.Keys.{visit};
+ghost use Rattle.site_rehearsal.specs.Visitors.{visit};
 ghost use Rattle.site_rehearsal.specs.Framing.{Makes, Begins, TellsOpen, in_frame, count_in_frame};
 
+use crate::visitor::Visitor;
 use cacheability::Cacheability;
 use content_state::{Fragment, Hole, State};
-use element_entries::Reader;
 use html_out::{Segment, Segments};
 use page_meaning::is_lazy;
 use render_array::{Element, build};
@@ -43,21 +43,21 @@ fn stays_open(
 /// A fragment behind what is there, or its place.
 fn add_fragment(
     alloc: Global,
-    reader: &Reader<'_>,
+    visitor: &Visitor<'_>,
     fragment: &Fragment,
     frame: &mut Filled,
 ) -> Result<(), AllocError>
-    ensures { OnOk result (Joins in_frame (count_in_frame (visit reader.now)) (visit reader.now) (Place (hole_is.Fragment fragment.now) ∷ []) frame.old frame.new) }
+    ensures { OnOk result (Joins in_frame (count_in_frame (visit visitor.now)) (visit visitor.now) (Place (hole_is.Fragment fragment.now) ∷ []) frame.old frame.new) }
 {
-    if stays_open(reader.state, fragment, &mut frame.cacheability)? {
+    if stays_open(visitor.state, fragment, &mut frame.cacheability)? {
         return leave_open(frame, &Hole::Fragment(*fragment));
     }
     let child = fill(
         alloc,
-        reader.state,
-        reader.viewer,
-        reader.ask,
-        reader.moment,
+        visitor.state,
+        visitor.viewer,
+        visitor.ask,
+        visitor.moment,
         Element::Fragment(*fragment),
     )?;
     add_child(alloc, frame, &child)
@@ -66,17 +66,17 @@ fn add_fragment(
 /// A part of a page behind what is there.
 fn add_part(
     alloc: Global,
-    reader: &Reader<'_>,
+    visitor: &Visitor<'_>,
     part: &Segment<Hole>,
     frame: &mut Filled,
 ) -> Result<(), AllocError>
-    ensures { OnOk result (Joins in_frame (count_in_frame (visit reader.now)) (visit reader.now) (pieces_of (part_of part.now ∷ [])) frame.old frame.new) }
+    ensures { OnOk result (Joins in_frame (count_in_frame (visit visitor.now)) (visit visitor.now) (pieces_of (part_of part.now ∷ [])) frame.old frame.new) }
 {
     match part {
         Segment::Bytes(shared) => add_bytes(frame, shared),
         Segment::Hole(hole) => match hole {
             Hole::Meta => leave_open(frame, hole),
-            Hole::Fragment(fragment) => add_fragment(alloc, reader, fragment, frame),
+            Hole::Fragment(fragment) => add_fragment(alloc, visitor, fragment, frame),
         },
     }
 }
@@ -84,21 +84,21 @@ fn add_part(
 /// The parts of a page behind what is there.
 fn add_all(
     alloc: Global,
-    reader: &Reader<'_>,
+    visitor: &Visitor<'_>,
     parts: &[Segment<Hole>],
     frame: &mut Filled,
 ) -> Result<(), AllocError>
-    ensures { OnOk result (Joins in_frame (count_in_frame (visit reader.now)) (visit reader.now) (pieces_of (parts_of parts.now)) frame.old frame.new) }
+    ensures { OnOk result (Joins in_frame (count_in_frame (visit visitor.now)) (visit visitor.now) (pieces_of (parts_of parts.now)) frame.old frame.new) }
 {
     for part in parts {
-        add_part(alloc, reader, part, frame)?;
+        add_part(alloc, visitor, part, frame)?;
     }
     Ok(())
 }
 
 /// The page of a path as it is kept for whoever views it: the places of lazy blocks stay open.
-pub(crate) fn frame(alloc: Global, reader: &Reader<'_>) -> Result<Filled, AllocError>
-    ensures { IfOk result (λ f. Makes (framed reader.now.ask.now.path) (visit reader.now) f) }
+pub(crate) fn frame(alloc: Global, visitor: &Visitor<'_>) -> Result<Filled, AllocError>
+    ensures { IfOk result (λ f. Makes (framed visitor.now.ask.now.path) (visit visitor.now) f) }
 {
     let Built {
         segments,
@@ -108,10 +108,10 @@ pub(crate) fn frame(alloc: Global, reader: &Reader<'_>) -> Result<Filled, AllocE
         status,
     } = build(
         alloc,
-        reader.state,
-        reader.viewer,
-        reader.ask,
-        reader.moment,
+        visitor.state,
+        visitor.viewer,
+        visitor.ask,
+        visitor.moment,
         &Element::Page,
     )?;
     let mut frame = Filled {
@@ -122,7 +122,7 @@ pub(crate) fn frame(alloc: Global, reader: &Reader<'_>) -> Result<Filled, AllocE
         status,
         built: 1,
     };
-    add_all(alloc, reader, segments.parts(), &mut frame)?;
+    add_all(alloc, visitor, segments.parts(), &mut frame)?;
     Ok(frame)
 }
 
@@ -145,19 +145,19 @@ fn begun(alloc: Global, frame: &Filled) -> Result<Filled, AllocError>
 /// The whole page: what was left open is filled in.
 pub(crate) fn whole_page(
     alloc: Global,
-    reader: &Reader<'_>,
+    visitor: &Visitor<'_>,
     frame: &Filled,
 ) -> Result<Filled, AllocError>
-    requires { Makes (framed reader.now.ask.now.path) (visit reader.now) frame.now }
-    ensures { IfOk result (λ f. Makes (whole reader.now.ask.now.path element_is.Page) (visit reader.now) f) }
+    requires { Makes (framed visitor.now.ask.now.path) (visit visitor.now) frame.now }
+    ensures { IfOk result (λ f. Makes (whole visitor.now.ask.now.path element_is.Page) (visit visitor.now) f) }
 {
     let mut page = begun(alloc, frame)?;
     add_parts(
         alloc,
-        reader.state,
-        reader.viewer,
-        reader.ask,
-        reader.moment,
+        visitor.state,
+        visitor.viewer,
+        visitor.ask,
+        visitor.moment,
         element_level(Element::Page),
         frame.segments.parts(),
         &mut page,

@@ -8,6 +8,7 @@ mod keeping;
 mod rehearsing;
 mod seats;
 mod turn;
+mod visitor;
 
 pub use rehearsing::rehearse;
 pub use turn::{Act, Reply, Turn};

@@ -6,6 +6,7 @@ use cache_entries::{Bin, Entry, Key, Subject};
 use cacheability::Context;
 use content_state::{Ask, State, Viewer};
 use element_entries::{Reader, key_of};
+use site_access::Account;
 use std::alloc::{AllocError, Global};
 use std::marker::Model;
 use std::sync::Arc;
@@ -35,12 +36,8 @@ impl Draft {
     pub(crate) fn key(&self, alloc: Global, contexts: &[Context]) -> Result<Key, AllocError>
         ensures { IfOk result (λ key. key ≡ key_by self.now contexts.now) }
     {
-        let reader = Reader {
-            state: &self.state,
-            viewer: &self.viewer,
-            ask: &self.ask,
-            moment: self.entry.made_moment,
-        };
+        let account = Account::new(alloc, &self.state, &self.viewer)?;
+        let reader = Reader::new(&self.state, &account, &self.ask, self.entry.made_moment);
         key_of(alloc, &reader, &self.subject, contexts)
     }
 }

@@ -11,7 +11,7 @@ use cacheability::Context;
 use content_rows::Text;
 use content_state::{Ask, Fragment, Mode, State};
 use render_array::Element;
-use site_access::viewer_of;
+use site_access::{Account, viewer_of};
 use site_commands::{Answer, Command};
 use site_keeper::Stored;
 use site_rehearsal::{Act, Reply, Turn, rehearse};
@@ -46,9 +46,10 @@ fn key(
     };
     let ask = ask(alloc, session)?;
     let viewer = viewer_of(&state, &ask, 1000);
+    let account = Account::new(alloc, &state, &viewer)?;
     Ok(Key {
         subject: Subject::Fragment(subject),
-        values: values(alloc, &state, &viewer, &ask, contexts)?,
+        values: values(alloc, &state, &account, &ask, contexts)?,
     })
 }
 

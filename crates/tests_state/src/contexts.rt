@@ -5,6 +5,7 @@ use cache_contexts::{AnyValue, optimise, value};
 use cacheability::{Cacheability, Context, Name};
 use content_rows::{Grant, Permissions, Text, ViewGrants};
 use content_state::State;
+use site_access::Account;
 use std::alloc::{AllocError, Global};
 use std::test::Fail;
 use tag_counts::Counts;
@@ -90,8 +91,8 @@ fn value_text(alloc: Global, out: &mut Vec<u8>, value: &AnyValue) -> Result<(), 
         AnyValue::User(uid) => number_text(alloc, out, *uid),
         AnyValue::Flag(flag) => add(out, if *flag { b"1" } else { b"0" }),
         AnyValue::Names(names) => names_text(out, names.as_slice()),
-        AnyValue::Permissions(permissions) => permissions_text(out, permissions),
-        AnyValue::Grants(grants) => view_grants_text(alloc, out, grants),
+        AnyValue::Permissions(permissions) => permissions_text(out, permissions.get()),
+        AnyValue::Grants(grants) => view_grants_text(alloc, out, grants.get()),
     }
 }
 
@@ -110,8 +111,9 @@ fn found(
     context: Context,
 ) -> Result<(Context, Vec<u8>), AllocError> {
     let ask = asked(alloc, path, b"page=2&sort=a+b")?;
-    let found = value(alloc, state, &viewer(uid), &ask, context)?;
-    drop(ask);
+    let account = Account::new(alloc, state, &viewer(uid))?;
+    let found = value(alloc, state, &account, &ask, context)?;
+    drop((ask, account));
     let letters = letters(alloc, &found.value)?;
     Ok((found.context, letters))
 }

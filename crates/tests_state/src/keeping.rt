@@ -8,6 +8,7 @@ use content_rows::Items;
 use content_state::{Fragment, State};
 use fragment_cache::Bins;
 use html_out::Segments;
+use site_access::Account;
 use std::alloc::{AllocError, Global};
 use std::num::NonZeroUsize;
 use std::sync::Arc;
@@ -39,7 +40,8 @@ fn values_for(
     contexts: &[Context],
 ) -> Result<Items<ContextValue>, AllocError> {
     let asked = asked(alloc, path, query)?;
-    values(alloc, state, &viewer(uid), &asked, contexts)
+    let account = Account::new(alloc, state, &viewer(uid))?;
+    values(alloc, state, &account, &asked, contexts)
 }
 
 /// An entry that was made on a state for the member at moment 100, and holds until 160.

@@ -15,7 +15,7 @@ returns c = record {
   stand_ins = c.in_ok-said.said.tags;
   all_are = c.in_ok-add_required.ensures.contexts;
   leaves_out = subst (λ (all : List Context). LeavesOut (visit c.args.reader.now) all c.in_ok-said.said.contexts c.in_ok-said.said.tags) c.contexts.ensures.same
-      (c.in_ok-said.ensures.leaves_out c.args.reader.now.ask.now c.args.reader.now.moment);
+      (rw (c.state.ensures, c.viewer.ensures) at (c.in_ok-said.ensures.leaves_out c.args.reader.now.ask c.args.reader.now.moment));
   tags_are = one_and_others c.args.cacheability.tags c.add_required.new.cacheability.tags c.in_ok-union.field-0 c.in_ok-said.said.tags tag.Rendered c.in_ok-add_required.ensures.tags
       (λ t. rw c.in_ok-union.ensures.ok (Contains-union tag_cmp exact_tags c.add_required.new.cacheability.tags c.in_ok-said.said.tags t));
   age = c.in_ok-add_required.ensures.age;

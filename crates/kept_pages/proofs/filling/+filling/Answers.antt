@@ -58,29 +58,29 @@ built_fragment-returns-clause-told g t c =
     (λ child same closes.
     built_up c.args.reader.now (InFragment (visit c.args.reader.now) c.args.fragment.now) bin.Fragments (subject.Fragment c.args.fragment.now) (option_copied c.args.told) (arc_value child.entry) _ _ _ 1 c.in_ok-filled.filled.built child.built refl
     (counts_fragment (subject.Fragment c.args.fragment.now) (arc_value child.entry)) same
-    (subst (λ (e : Element). Tells c.args.reader.now (NeededFor c.args.reader.now.ask.now.path (visit c.args.reader.now) e) (g.H.House.sees c.args.house.now) (g.H.House.sees c.fill.new.house) 1 c.in_ok-filled.filled.built) c.element_of.ensures c.in_ok-filled.ensures.told) closes)
+    (subst (λ (e : Element). Tells c.args.reader.now (NeededFor c.args.reader.now.ask.path (visit c.args.reader.now) e) (g.H.House.sees c.args.house.now) (g.H.House.sees c.fill.new.house) 1 c.in_ok-filled.filled.built) c.element_of.ensures c.in_ok-filled.ensures.told) closes)
     c.keep_whole.ensures.built c.keep_whole.ensures.told
 
 pub fill-returns-clause-whole : goal.fill-returns-clause-whole
 fill-returns-clause-whole g t c =
-    begun_whole (shown_below (element_level c.args.element)) (visit c.args.reader.now) (plan_of c.args.reader.now.ask.now.path c.args.element) _ c.add_parts.new.filled.joined c.in_ok-segments.ensures
+    begun_whole (shown_below (element_level c.args.element)) (visit c.args.reader.now) (plan_of c.args.reader.now.ask.path c.args.element) _ c.add_parts.new.filled.joined c.in_ok-segments.ensures
     (rw c.element_level-below.ensures at (rw c.parts.ensures at c.in_ok-add_parts.ensures.joins))
 
 pub fill-returns-clause-told : goal.fill-returns-clause-told
 fill-returns-clause-told g t c =
-    begun_told c.args.reader.now (NeededBelow (element_level c.args.element) (visit c.args.reader.now)) (plan_of c.args.reader.now.ask.now.path c.args.element) (visit c.args.reader.now) c.in_ok-segments.field-0 _ _ _ c.in_ok-segments.ensures
+    begun_told c.args.reader.now (NeededBelow (element_level c.args.element) (visit c.args.reader.now)) (plan_of c.args.reader.now.ask.path c.args.element) (visit c.args.reader.now) c.in_ok-segments.field-0 _ _ _ c.in_ok-segments.ensures
     (rw c.element_level-below.ensures at (rw c.parts.ensures at c.in_ok-add_parts.ensures.told))
 
 pub some_fragment-returns-in-Some-clause-told : goal.some_fragment-returns-in-Some-clause-told
 some_fragment-returns-in-Some-clause-told g t c =
     tells_fragment c.args.reader.now (visit c.args.reader.now) c.args.fragment.now (arc_value c.in-Some.entry) _ _ 0
-    (tells_found c.args.reader.now (InFragment (visit c.args.reader.now) c.args.fragment.now) bin.Fragments (subject.Fragment c.args.fragment.now) c.in-Some.entry c.in_ok-entry.field-0 _ _ c.in-Some.is c.in_ok-entry.ensures.told)
+    (tells_found c.args.reader.now (InFragment (visit c.args.reader.now) c.args.fragment.now) bin.Fragments (subject.Fragment c.args.fragment.now) c.in-Some.entry c.in_ok-entry.field-0-0 _ _ c.in-Some.is c.in_ok-entry.ensures.told)
 
 pub some_fragment-returns-clause-told : goal.some_fragment-returns-clause-told
 some_fragment-returns-clause-told g t c =
     IfOk-weaker c.built_fragment.result _ _
     (λ child built.
     tells_fragment c.args.reader.now (visit c.args.reader.now) c.args.fragment.now (arc_value child.entry) _ _ child.built
-    (tells_built c.args.reader.now (InFragment (visit c.args.reader.now) c.args.fragment.now) bin.Fragments (subject.Fragment c.args.fragment.now) (arc_value child.entry) c.in_ok-entry.field-0 _ _ _ _ child.built c.in-None.is
-    (lent c.in_ok-entry.field-0.told c.as_deref.result c.as_deref.ensures.cases) c.in_ok-entry.ensures.told built))
+    (tells_built c.args.reader.now (InFragment (visit c.args.reader.now) c.args.fragment.now) bin.Fragments (subject.Fragment c.args.fragment.now) (arc_value child.entry) c.in_ok-entry.field-0-0 _ _ _ _ child.built c.in-None.is
+    (lent c.in_ok-entry.field-0-0.told c.as_deref.result c.as_deref.ensures.cases) c.in_ok-entry.ensures.told built))
     c.built_fragment.ensures.told

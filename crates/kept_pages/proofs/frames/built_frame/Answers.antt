@@ -15,7 +15,7 @@ pub returns-clause-told : goal.returns-clause-told
 returns-clause-told g c =
     if_ok_both c.keep_filled.result
     (λ child same closes.
-    built_up c.args.reader.now (InFrame c.args.reader.now.ask.now.path (visit c.args.reader.now)) bin.Dynamic (subject.Page c.args.reader.now.ask.now.path) (option_copied c.args.told) (arc_value child.entry) _ _ _ 1 c.in_ok-filled.filled.built child.built refl
-    (counts_frame (subject.Page c.args.reader.now.ask.now.path) (arc_value child.entry)) same c.in_ok-filled.ensures.told
+    built_up c.args.reader.now (InFrame c.args.reader.now.ask.path (visit c.args.reader.now)) bin.Dynamic (subject.Page c.args.reader.now.ask.path) (option_copied c.args.told) (arc_value child.entry) _ _ _ 1 c.in_ok-filled.filled.built child.built refl
+    (counts_frame (subject.Page c.args.reader.now.ask.path) (arc_value child.entry)) same c.in_ok-filled.ensures.told
     (λ shelves told. subst (λ (s : Subject). Closes c.args.reader.now shelves bin.Dynamic s (option_copied c.args.told) (arc_value child.entry) (g.H.House.sees c.keep_filled.new.house)) c.requires.asked (closes shelves told)))
     c.keep_filled.ensures.built c.keep_filled.ensures.told

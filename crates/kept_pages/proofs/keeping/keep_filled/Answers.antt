@@ -6,11 +6,11 @@ use Rattle.kept_pages.proofs.keeping.keep_filled.Goals as goal
 
 pub keep_if-requires-clause-made : goal.keep_if-requires-clause-made
 keep_if-requires-clause-made g c =
-    subst (λ (e : Entry). IsMadeFor c.args.reader.now c.args.subject.now e) (sym c.in_ok-entry.ensures.ok)
-    (entry_made_for c.args.reader.now c.args.subject.now _ _ c.requires.whole c.requires.closed c.requires.asked c.in_ok-entry_of.ensures)
+    subst (λ (e : Entry). IsMadeFor c.args.reader.now c.args.key.subject e) (sym c.in_ok-entry.ensures.ok)
+    (entry_made_for c.args.reader.now c.args.key.subject _ _ c.requires.whole c.requires.closed c.requires.asked c.in_ok-entry_of.ensures)
 
 pub returns-clause-here : goal.returns-clause-here
 returns-clause-here g c =
-    made_is_here c.args.reader.now c.args.subject.now _
-    (subst (λ (e : Entry). IsMadeFor c.args.reader.now c.args.subject.now e) (sym c.in_ok-entry.ensures.ok)
-    (entry_made_for c.args.reader.now c.args.subject.now _ _ c.requires.whole c.requires.closed c.requires.asked c.in_ok-entry_of.ensures))
+    made_is_here c.args.reader.now c.args.key.subject _
+    (subst (λ (e : Entry). IsMadeFor c.args.reader.now c.args.key.subject e) (sym c.in_ok-entry.ensures.ok)
+    (entry_made_for c.args.reader.now c.args.key.subject _ _ c.requires.whole c.requires.closed c.requires.asked c.in_ok-entry_of.ensures))

@@ -13,4 +13,4 @@ returns-in_ok-behind-in-Some-clause-told g c = λ shelves told.
     let s = c.in_ok-entry.ensures.told shelves told in
     seen_both c.args.reader.now shelves c.args.bin c.args.key.now.subject c.args.key.now c.turn_to.new.key c.in_ok-entry.field-0 c.in_ok-behind-in-Some.behind c.in-Some.told _ _
     c.requires.is_first s c.in-Some.is
-    (c.in_ok-turn_to-in-Some.ensures.turned ∙ ap (key_by (visit c.args.reader.now) c.args.key.now.subject) (c.as_slice.ensures.same ∙ c.deref.ensures)) (c.in_ok-behind-in-Some.ensures.told s.after s.is)
+    (c.in_ok-turn_to-in-Some.ensures ∙ ap (key_by (visit c.args.reader.now) c.args.key.now.subject) (c.as_slice.ensures.same ∙ c.deref.ensures)) (c.in_ok-behind-in-Some.ensures.told s.after s.is)

@@ -13,5 +13,5 @@ page_of-requires-clause-makes g c =
 pub returns-clause-told : goal.returns-clause-told
 returns-clause-told g c =
     IfOk-weaker c.page_of.result _ _
-    (λ p same. subst (λ n. Tells c.args.reader.now (OfWhole c.args.reader.now.ask.now.path (visit c.args.reader.now)) (g.H.House.sees c.args.house.now) (g.H.House.sees c.whole_page.new.house) 0 n) (sym same) c.in_ok-joined.ensures.told)
+    (λ p same. subst (λ n. Tells c.args.reader.now (OfWhole c.args.reader.now.ask.path (visit c.args.reader.now)) (g.H.House.sees c.args.house.now) (g.H.House.sees c.whole_page.new.house) 0 n) (sym same) c.in_ok-joined.ensures.told)
     c.page_of.ensures.built

@@ -22,7 +22,7 @@ pub returns-clause-told : goal.returns-clause-told
 returns-clause-told g c =
     if_ok_both c.keep_filled.result
     (λ child same closes.
-    built_up c.args.reader.now (OfWhole c.args.reader.now.ask.now.path (visit c.args.reader.now)) bin.Anonymous (subject.Target c.args.reader.now.ask.now.target) (option_copied c.args.told) (arc_value child.entry) _ _ _ 0 c.in_ok-filled.filled.built child.built refl
-    (counts_target (subject.Target c.args.reader.now.ask.now.target) (arc_value child.entry)) same c.in_ok-filled.ensures.told
+    built_up c.args.reader.now (OfWhole c.args.reader.now.ask.path (visit c.args.reader.now)) bin.Anonymous (subject.Target c.args.reader.now.ask.target) (option_copied c.args.told) (arc_value child.entry) _ _ _ 0 c.in_ok-filled.filled.built child.built refl
+    (counts_target (subject.Target c.args.reader.now.ask.target) (arc_value child.entry)) same c.in_ok-filled.ensures.told
     (λ shelves told. subst (λ (s : Subject). Closes c.args.reader.now shelves bin.Anonymous s (option_copied c.args.told) (arc_value child.entry) (g.H.House.sees c.keep_filled.new.house)) c.requires.asked (closes shelves told)))
     c.keep_filled.ensures.built c.keep_filled.ensures.told

@@ -1,12 +1,12 @@
-use Rattle.std.proofs.Common.{ap}
+use Rattle.std.proofs.Common.{subst}
 use Rattle.std.proofs.lemmas.Result.{IfOk-weaker}
-use Rattle.render_array.specs.Built.{plan_of}
-use Rattle.render_array.proofs.OnBlank.{built_of}
+use Rattle.content_state.specs.declared.ask.Viewer.{Viewer}
+use Rattle.render_array.specs.Built.{plan_of, Builds}
 use Rattle.render_array.proofs.building.build.Goals as goal
 
 pub returns : goal.returns
 returns c =
-    IfOk-weaker c.finish.result _ _
-    (λ b done. built_of (plan_of c.args.ask.now.path c.args.element.now) _ _ _ _ _ _ b (ap (λ viewer. record { rows = c.args.state.now.rows; viewer = viewer; ask = c.args.ask.now; moment = c.args.now }) c.in_ok-account.ensures.viewer_is)
-    c.new-canvas.ensures c.write_element-status.ensures done)
-    c.finish.ensures
+    IfOk-weaker c.build_for.result _ _
+    (λ b builds. subst (λ (viewer : Viewer). Builds (plan_of c.args.ask.now.path c.args.element.now) (record { rows = c.args.state.now.rows; viewer = viewer; ask = c.args.ask.now; moment = c.args.now }) b)
+    c.in_ok-account.ensures.viewer_is builds)
+    c.build_for.ensures

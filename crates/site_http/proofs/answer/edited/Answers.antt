@@ -1,4 +1,4 @@
-use Rattle.std.proofs.Common.{sym}
+use Rattle.std.proofs.Common.{refl, sym}
 use Rattle.edit_bodies.specs.Bodies.{sent_of}
 use Rattle.site_house.proofs.Moving.{moves_same}
 use Rattle.site_http.specs.Called.{Wish}
@@ -13,7 +13,7 @@ returns-in_default-clause-committed g c =
 pub returns-in-Done-clause-committed : goal.returns-in-Done-clause-committed
 returns-in-Done-clause-committed g c =
     let wish : Wish = record { edit = c.args.edit.now; sent = sent_of c.args.body.now; csrf = c.args.csrf.now } in
-    accepted_made wish c.args.ask.now c.args.words _ c.in-Ok.command c.args.now c.args.closing _ c.in-Done.done c.in-Done.number c.requires.moment c.requires.drawn c.sent_value.ensures c.in-Ok.ensures.same c.in-Done.ensures.moves c.in-Done.ensures.valid c.in-Done.ensures.answers (sym c.done_text.ensures.text)
+    accepted_made wish c.args.ask.now c.args.words _ c.in-Ok.command c.args.now c.args.closing _ c.in-Done.done c.in-Done.number c.requires.moment c.requires.drawn c.sent_value.ensures c.in-Ok.ensures.same c.in-Done.ensures.moves c.in-Done.ensures.valid c.in-Done.ensures.answers refl
 
 pub returns-in-Ok-refused_text-clause-committed : goal.returns-in-Ok-refused_text-clause-committed
 returns-in-Ok-refused_text-clause-committed g c =

@@ -1,15 +1,12 @@
-use Rattle.std.proofs.Common.{sym, subst, List, ℕ}
-use Rattle.content_state.specs.State.{State}
-use Rattle.site_http.specs.Reply.{Says}
-use Rattle.site_http.specs.Turn.{OnSeen}
+use Rattle.std.proofs.Common.{sym}
+use Rattle.site_http.specs.declared.answer.Made.TheVariants as made
 use Rattle.site_http.proofs.Made.{read_made, unread_made}
 use Rattle.site_http.proofs.answer.reading_reply.Goals as goal
 
 pub returns-in-Ok-clause-makes : goal.returns-in-Ok-clause-makes
 returns-in-Ok-clause-makes g c words =
-    read_made words (g.G.Gate.reached c.args.gate.now) (g.G.Gate.reached c.read.new.gate) (g.G.Gate.reached c.reach.new.self) c.args.reading c.args.ask.now c.args.now c.args.closing c.made_of.result c.in-Ok.said.built c.requires.moment c.in-Ok.ensures.moves c.in-Ok.ensures.stays
-    (subst (λ (l : List ℕ). OnSeen (g.H.House.sees c.args.house.now) (g.H.House.sees c.read.new.house) (λ (s : State). Says c.args.reading s c.args.ask.now c.args.now c.args.closing l c.in-Ok.said.built)) (sym c.made_of.ensures) c.in-Ok.ensures.says)
-    c.in-Ok.ensures.told c.reach.ensures
+    read_made words (g.G.Gate.reached c.args.gate.now) (g.G.Gate.reached c.read.new.gate) (g.G.Gate.reached c.reach.new.self) c.args.reading c.args.ask.now c.args.now c.args.closing (made.Given c.in-Ok.said.given) c.in-Ok.said.built c.requires.moment c.in-Ok.ensures.moves c.in-Ok.ensures.stays
+    c.in-Ok.ensures.says c.in-Ok.ensures.told c.reach.ensures
 
 pub returns-in-Err-clause-makes : goal.returns-in-Err-clause-makes
 returns-in-Err-clause-makes g c words =

@@ -5,5 +5,5 @@ use Rattle.site_rehearsal.proofs.building.page_text.Goals as goal
 
 pub returns : goal.returns
 returns c =
-    let r = c.args.reader.now in
+    let r = c.args.visitor.now in
     IfOk-weaker c.text_of.result _ _ (λ text filled. shown_as element.Page r.state.now r.viewer.now r.ask.now r.moment c.in_ok-page.page text c.requires.viewer c.in_ok-page.ensures filled) c.text_of.ensures

@@ -2,7 +2,7 @@ use Rattle.std.proofs.Common.{refl, ap}
 use Rattle.render_canvas.specs.Board.{pieces_of}
 use Rattle.render_array.specs.declared.element.Element.TheVariants as element
 use Rattle.render_array.specs.Built.{plan_of}
-use Rattle.element_entries.specs.Keys.{visit}
+use Rattle.site_rehearsal.specs.Visitors.{visit}
 use Rattle.renderer.proofs.Joining.{whole_of}
 use Rattle.site_rehearsal.specs.Framing.{in_frame, count_in_frame}
 use Rattle.site_rehearsal.proofs.Builds.{whole_makes}
@@ -10,6 +10,6 @@ use Rattle.site_rehearsal.proofs.framing.frame.Goals as goal
 
 pub returns : goal.returns
 returns c =
-    let r = c.args.reader.now in
+    let r = c.args.visitor.now in
     whole_makes (whole_of in_frame (count_in_frame (visit r)) (visit r) (plan_of r.ask.now.path element.Page) c.in_ok-segments.field-0 _ _ c.in_ok-segments.ensures
     (ap pieces_of c.new.ensures) c.into_vec.ensures refl refl refl refl (rw c.parts.ensures at c.in_ok-add_all.ensures))

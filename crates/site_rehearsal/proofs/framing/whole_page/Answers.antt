@@ -1,10 +1,10 @@
-use Rattle.element_entries.specs.Keys.{visit}
+use Rattle.site_rehearsal.specs.Visitors.{visit}
 use Rattle.page_meaning.proofs.Frames.{page_filled}
 use Rattle.site_rehearsal.proofs.Frames.{page_of_frame}
 use Rattle.site_rehearsal.proofs.framing.whole_page.Goals as goal
 
 pub returns : goal.returns
 returns c =
-    let r = c.args.reader.now in
+    let r = c.args.visitor.now in
     page_of_frame page_filled r.ask.now.path (visit r) c.args.frame.now c.in_ok-page.page _ c.requires c.in_ok-page.ensures
     (rw c.element_level.ensures at (rw c.parts.ensures at c.in_ok-add_parts.ensures))
