@@ -7,6 +7,7 @@ pub mod Matched
 pub mod Meets
 pub mod Named
 pub mod Placed
+pub mod Ranges
 pub mod RightRows
 pub mod SeenRows
 pub mod There

@@ -1,5 +1,5 @@
 //! The rows of a state.
-ghost use Rattle.std.specs.Prelude.{◌≡◌, [], Some, None, IfOk, IfErr, OnOk, OnErr, length};
+ghost use Rattle.std.specs.Prelude.{◌≡◌, [], Some, None, IfOk, IfErr, OnOk, OnErr, codes, length};
 ghost use Rattle.std.specs.Option.{option_copied, option_map};
 ghost use Rattle.std.specs.Arc.{arc_value};
 ghost use Rattle.std.specs.Map.{keys_of};
@@ -7,10 +7,11 @@ ghost use Rattle.std.specs.List.Sorted.{IsStrictlySortedBy};
 ghost use Rattle.std.specs.Iterator.{YieldsFirstBy, item_count};
 ghost use Rattle.content_state.specs.Rows.{entry_of, entries_left};
 
+use cacheability::Name;
 use content_rows::{Cell, Row};
 use std::alloc::{AllocError, AllocFailed, Global};
 use std::collections::BTreeMap;
-use std::collections::btree_map::Iter;
+use std::collections::btree_map::Range;
 use std::marker::Model;
 use std::sync::Arc;
 
@@ -78,7 +79,7 @@ impl Model for Rows {
 /// The cells that have a row, each with its row, in cell order. Contracts see it as the list of those that are left.
 #[derive(Drop)]
 pub struct RowsIter<'a> {
-    entries: Iter<'a, Cell, Shared>,
+    entries: Range<'a, Cell, Shared>,
 }
 
 impl<'a> Model for RowsIter<'a> {
@@ -106,8 +107,18 @@ impl<'a> Iterator for RowsIter<'a> {
     }
 }
 
+/// A name before which none of a session stands.
+fn least_name() -> Name
+    ensures { result ≡ codes "0" }
+{
+    match Name::new(b"0") {
+        Ok(name) => name,
+        Err(_) => unreachable!(),
+    }
+}
+
 impl Rows {
-    ghost use Rattle.content_state.specs.Rows.{row_at, with_row, without_row};
+    ghost use Rattle.content_state.specs.Rows.{row_at, with_row, without_row, blocks_of};
     ghost use Rattle.content_rows.specs.CellOrder.{cell_cmp};
 
     /// No rows.
@@ -135,7 +146,18 @@ impl Rows {
         ensures ordered { IsStrictlySortedBy cell_cmp (keys_of self.now) }
     {
         RowsIter {
-            entries: self.map.iter(),
+            entries: self.map.range(..),
+        }
+    }
+
+    /// The cells among which all placed blocks stand, each with its row, in cell order: no node's is among them but that of the
+    /// greatest id, and no session's.
+    pub fn around_blocks(&self) -> RowsIter<'_>
+        ensures { blocks_of result ≡ blocks_of self.now }
+    {
+        let until = Cell::Session(least_name());
+        RowsIter {
+            entries: self.map.range(Cell::Node(u32::MAX)..until),
         }
     }
 

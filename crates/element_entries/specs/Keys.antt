@@ -1,6 +1,6 @@
 -- Under which keys elements are kept.
 -- https://www.drupal.org/docs/drupal-apis/render-api/cacheability-of-render-arrays
-use Rattle.std.specs.Prelude.{List, [], ◌∷◌, ◌≡◌, map}
+use Rattle.std.specs.Prelude.{List, [], ◌∷◌, map}
 use Rattle.cacheability.specs.declared.context.Context.{Context}
 use Rattle.cacheability.specs.declared.context.Context.TheVariants as context
 use Rattle.content_state.specs.Context.{Visit}

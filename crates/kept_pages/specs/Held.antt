@@ -95,6 +95,10 @@ abbrev pub looked_by : Option (List Context) → List Context
 looked_by None = required
 looked_by (Some contexts) = contexts
 
+-- it is that key
+abbrev pub IsLookedAt : Reader → Key → Option (List Context) → Type 0
+IsLookedAt r key told = key ≡ key_by (visit r) key.subject (looked_by told)
+
 -- a look at the first key, and at the second where a redirect gives it: it is held by what was seen, or isn't held; and what the
 -- redirect told
 pub record SeenIn (r : Reader) (old : Shelves) (b : Bin) (s : Subject) (seen : Seen) (new : HouseView) : Type 0 where

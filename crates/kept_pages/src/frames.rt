@@ -11,11 +11,11 @@ ghost use Rattle.cache_entries.specs.Entries.{IsHere};
 ghost use Rattle.page_meaning.specs.Meaning.{meaning, framed};
 ghost use Rattle.render_canvas.specs.Board.{pieces_of};
 ghost use Rattle.render_array.specs.Whole.{fragment_level};
-ghost use Rattle.element_entries.specs.Keys.{visit, key_by};
+ghost use Rattle.element_entries.specs.Keys.{visit};
 ghost use Rattle.kept_pages.specs.Houses.{Steady, Reads};
 ghost use Rattle.kept_pages.specs.Joins.{IsWhole, TakesFragment, in_shared, Joins};
 ghost use Rattle.kept_pages.specs.Needed.{Visits, OfFragment, NeededBelow, NeededInFrame, InFrame, OfFrame};
-ghost use Rattle.kept_pages.specs.Held.{looked_by, Tells, BuiltUp};
+ghost use Rattle.kept_pages.specs.Held.{IsLookedAt, Tells, BuiltUp};
 
 use crate::filling::some_fragment;
 use crate::joining::{Begun, Child, Filled, add_bytes, add_child, begin, leave_open};
@@ -63,7 +63,7 @@ fn built_frame<H: House>(
 ) -> Result<Child, AllocError>
     requires reads { Reads (H.sees house.old) reader.now }
     requires asked { key.subject ≡ subject_is.Page reader.now.ask.path }
-    requires looked { key ≡ key_by (visit reader.now) key.subject (looked_by (option_copied told)) }
+    requires looked { IsLookedAt reader.now key (option_copied told) }
     ensures steady { Steady (H.sees house.old) (H.sees house.new) }
     ensures here { IfOk result (λ child. IsHere meaning (subject_is.Page reader.now.ask.path) (visit reader.now) (arc_value child.entry)) }
     ensures told { IfOk result (λ child. BuiltUp reader.now (InFrame reader.now.ask.path (visit reader.now)) bin_is.Dynamic (subject_is.Page reader.now.ask.path) (option_copied told.entry) (arc_value child.entry) (H.sees house.old) (H.sees house.new) child.built) }

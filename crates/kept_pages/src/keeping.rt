@@ -11,7 +11,7 @@ ghost use Rattle.site_house.specs.Bins.{MayBeKeptIn};
 ghost use Rattle.element_entries.specs.Keys.{visit, required, key_by};
 ghost use Rattle.kept_pages.specs.Houses.{Steady, Reads, IsMadeFor};
 ghost use Rattle.kept_pages.specs.Joins.{IsWhole};
-ghost use Rattle.kept_pages.specs.Held.{Shelves, IsTold, looked_by, Puts, Offers, Closes};
+ghost use Rattle.kept_pages.specs.Held.{Shelves, IsTold, IsLookedAt, Puts, Offers, Closes};
 
 use crate::joining::{Child, Filled};
 use cache_entries::{Bin, Entry, Kept, Key, Subject};
@@ -44,7 +44,7 @@ fn first_again(
     key: Key,
     told: Option<&OrderedSet<Context>>,
 ) -> Result<Key, AllocError>
-    requires { key ≡ key_by (visit reader.now) key.subject (looked_by (option_copied told)) }
+    requires { IsLookedAt reader.now key (option_copied told) }
     ensures { IfOk result (λ first. first ≡ key_by (visit reader.now) key.subject required) }
 {
     match told {
@@ -74,7 +74,7 @@ fn keep<H: House>(
     told: Option<&OrderedSet<Context>>,
 ) -> Result<(), AllocError>
     requires reads { Reads (H.sees house.old) reader.now }
-    requires looked { key ≡ key_by (visit reader.now) key.subject (looked_by (option_copied told)) }
+    requires looked { IsLookedAt reader.now key (option_copied told) }
     requires made { IsMadeFor reader.now key.subject (arc_value entry.now) }
     ensures steady { Steady (H.sees house.old) (H.sees house.new) }
     ensures told { OnOk result ((shelves : Shelves) → IsTold (H.sees house.old) shelves → Offers reader.now shelves bin key.subject (option_copied told.entry) (arc_value entry.now) (H.sees house.new)) }
@@ -103,7 +103,7 @@ pub fn keep_if<H: House>(
     told: Option<&OrderedSet<Context>>,
 ) -> Result<(), AllocError>
     requires reads { Reads (H.sees house.old) reader.now }
-    requires looked { key ≡ key_by (visit reader.now) key.subject (looked_by (option_copied told)) }
+    requires looked { IsLookedAt reader.now key (option_copied told) }
     requires made { IsMadeFor reader.now key.subject (arc_value entry.now) }
     ensures steady { Steady (H.sees house.old) (H.sees house.new) }
     ensures told { OnOk result ((shelves : Shelves) → IsTold (H.sees house.old) shelves → Closes reader.now shelves bin key.subject (option_copied told.entry) (arc_value entry.now) (H.sees house.new)) }
@@ -126,7 +126,7 @@ pub fn keep_filled<H: House>(
     told: Option<&OrderedSet<Context>>,
 ) -> Result<Child, AllocError>
     requires reads { Reads (H.sees house.old) reader.now }
-    requires looked { key ≡ key_by (visit reader.now) key.subject (looked_by (option_copied told)) }
+    requires looked { IsLookedAt reader.now key (option_copied told) }
     requires whole { IsWhole (meaning key.subject) (visit reader.now) filled.joined }
     requires closed { IsClosed key.subject (pieces_of filled.joined.segments) }
     requires asked { IsAskedFor key.subject reader.now.viewer reader.now.ask }

@@ -8,11 +8,11 @@ ghost use Rattle.cache_entries.specs.Entries.{IsHere};
 ghost use Rattle.page_meaning.specs.Meaning.{meaning};
 ghost use Rattle.render_array.specs.declared.element.Element.TheVariants as element_is;
 ghost use Rattle.render_array.specs.Whole.{whole};
-ghost use Rattle.element_entries.specs.Keys.{visit, key_by};
+ghost use Rattle.element_entries.specs.Keys.{visit};
 ghost use Rattle.kept_pages.specs.Houses.{Steady, Reads};
 ghost use Rattle.kept_pages.specs.Joins.{IsWhole};
 ghost use Rattle.kept_pages.specs.Needed.{InHoles, OfWhole, OfTarget};
-ghost use Rattle.kept_pages.specs.Held.{looked_by, Tells, BuiltUp};
+ghost use Rattle.kept_pages.specs.Held.{IsLookedAt, Tells, BuiltUp};
 
 use crate::filling::add_parts;
 use crate::frames::some_frame;
@@ -61,7 +61,7 @@ fn built_target<H: House>(
     requires reads { Reads (H.sees house.old) reader.now }
     requires nobody { reader.now.viewer.session ≡ None }
     requires asked { key.subject ≡ subject_is.Target reader.now.ask.target }
-    requires looked { key ≡ key_by (visit reader.now) key.subject (looked_by (option_copied told)) }
+    requires looked { IsLookedAt reader.now key (option_copied told) }
     ensures steady { Steady (H.sees house.old) (H.sees house.new) }
     ensures here { IfOk result (λ child. IsHere meaning (subject_is.Target reader.now.ask.target) (visit reader.now) (arc_value child.entry)) }
     ensures told { IfOk result (λ child. BuiltUp reader.now (OfWhole reader.now.ask.path (visit reader.now)) bin_is.Anonymous (subject_is.Target reader.now.ask.target) (option_copied told.entry) (arc_value child.entry) (H.sees house.old) (H.sees house.new) child.built) }

@@ -38,7 +38,7 @@ fn ranks_of(alloc: Global, rows: &Rows, region: Region) -> Result<BTreeSet<Block
     ensures { IfOk result (λ ranks. ranks.keys ≡ in_order block_cmp (map block_rank (filter (λ e. is_region region e.1.region) (all_blocks rows.now)))) }
 {
     let mut ranks = BTreeSet::new(alloc);
-    'rows: for (cell, row) in rows.iter() {
+    'rows: for (cell, row) in rows.around_blocks() {
         if let (Cell::Block(name), Row::Block(block)) = (cell, row) {
             if is_region(region, block.region) {
                 ranks.insert(rank(name, block))?;

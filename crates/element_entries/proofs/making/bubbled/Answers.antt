@@ -16,7 +16,7 @@ returns c = record {
   all_are = c.in_ok-add_required.ensures.contexts;
   leaves_out = subst (λ (all : List Context). LeavesOut (visit c.args.reader.now) all c.in_ok-said.said.contexts c.in_ok-said.said.tags) c.contexts.ensures.same
       (rw (c.state.ensures, c.viewer.ensures) at (c.in_ok-said.ensures.leaves_out c.args.reader.now.ask c.args.reader.now.moment));
-  tags_are = one_and_others c.args.cacheability.tags c.add_required.new.cacheability.tags c.in_ok-union.field-0 c.in_ok-said.said.tags tag.Rendered c.in_ok-add_required.ensures.tags
-      (λ t. rw c.in_ok-union.ensures.ok (Contains-union tag_cmp exact_tags c.add_required.new.cacheability.tags c.in_ok-said.said.tags t));
+  tags_are = one_and_others c.args.cacheability.tags c.add_required.new.cacheability.tags c.in_ok-all_tags.field-0 c.in_ok-said.said.tags tag.Rendered c.in_ok-add_required.ensures.tags
+      (λ t. rw c.in_ok-all_tags.ensures (Contains-union tag_cmp exact_tags c.add_required.new.cacheability.tags c.in_ok-said.said.tags t));
   age = c.in_ok-add_required.ensures.age;
 }
