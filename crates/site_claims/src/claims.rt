@@ -3,6 +3,7 @@ ghost use Rattle.std.specs.Prelude.{◌≡◌, ◌+◌, ◌-◌, ◌^◌, ◌<�
 ghost use Rattle.site_claims.specs.Claims.{as_count, IsTable};
 
 use crate::rule::{Asking, ClaimRoom, ClaimSeat, ClaimTable, Workers};
+use http_server::Log;
 use site_io::More;
 use std::alloc::{AllocError, Global};
 use std::marker::Model;
@@ -129,6 +130,8 @@ impl Claimer {
 pub struct Claiming<'a> {
     room: &'a ClaimRoom,
     claimer: Claimer,
+    // One for each time that no leave was given, for proofs alone.
+    refused: Log<(), ()>,
     ghost here: { claimer.table ≡ room.now.table_id },
 }
 
@@ -138,19 +141,28 @@ impl<'a> Claiming<'a> {
         requires { claimer.table ≡ room.now.table_id }
         ensures { result.claimer ≡ claimer }
     {
-        Claiming { room, claimer }
+        Claiming {
+            room,
+            claimer,
+            refused: Log::new(),
+        }
     }
 
     /// The one who claimed.
     pub fn into_claimer(self) -> Claimer
         ensures { result ≡ self.entry.claimer }
     {
-        let Claiming { room: _, claimer } = self;
+        let Claiming {
+            room: _,
+            claimer,
+            refused: _,
+        } = self;
         claimer
     }
 }
 
 impl More for Claiming<'_> {
+    ghost use Rattle.std.specs.Prelude.{length};
     ghost use Rattle.site_claims.specs.Claims.{name_of};
 
     ghost claims = { λ c. c.claimer.claims };
@@ -159,7 +171,13 @@ impl More for Claiming<'_> {
 
     ghost is_over = { λ c. c.claimer.is_over };
 
+    ghost refusals = { λ c. length c.refused.items };
+
     fn more(&mut self) -> bool {
-        self.claimer.claim(self.room)
+        let more = self.claimer.claim(self.room);
+        if !more {
+            self.refused = self.refused.and(&(), &());
+        }
+        more
     }
 }

@@ -2,10 +2,13 @@
 use Rattle.std.specs.Prelude.{ℕ, List, [], ◌∷◌, ◌++◌, ◌≡◌, Option, Some, None}
 use Rattle.site_io.specs.declared.ended.Ended.{Ended}
 
--- what the two ends of a connection tell: the bytes that are left to read, and those that were written
+-- what the two ends of a connection tell: the bytes that are left to read, and those that were written; and how often reading
+-- and writing failed there
 pub record Line : Type 0 where
   pub left : Option (List ℕ)
   pub written : Option (List ℕ)
+  pub reading : ℕ
+  pub writing : ℕ
 
 -- what they told when the connection was given back, and how it had ended
 pub record Back : Type 0 where

@@ -37,15 +37,17 @@ pub record Input : Type 0 where
 abbrev pub read_size : Input → ℕ → ℕ
 read_size input places = min (min (length input.left) places) (max input.piece 1)
 
--- a sink in memory: the bytes that were written, and how many can be in all
+-- a sink in memory: the bytes that were written, how many can be in all, and how many are taken at most in one call, where 0
+-- counts as 1
 pub record Output : Type 0 where
   pub written : List ℕ
   pub capacity : ℕ
+  pub piece : ℕ
   pub calls : Calls
 
 -- how many bytes of so many a write takes
 abbrev pub write_size : Output → ℕ → ℕ
-write_size output bytes = min bytes (output.capacity - length output.written)
+write_size output bytes = min (min bytes (output.capacity - length output.written)) (max output.piece 1)
 
 -- so many bytes are some, and there is room for none
 abbrev pub is_full : Output → ℕ → Bool

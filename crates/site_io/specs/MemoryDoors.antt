@@ -6,11 +6,11 @@ use Rattle.site_io.specs.declared.memory_door.Returned.{Returned}
 
 -- what the two ends of a connection in memory tell
 abbrev pub line_of : Input × Output → Line
-line_of ends = record { left = Some ends.0.left; written = Some ends.1.written }
+line_of ends = record { left = Some ends.0.left; written = Some ends.1.written; reading = ends.0.calls.faults; writing = ends.1.calls.faults }
 
 -- of one that was given back
 abbrev pub back_of : Returned → Back
-back_of returned = record { line = record { left = Some returned.source.left; written = Some returned.sink.written }; end = returned.end }
+back_of returned = record { line = line_of (returned.source, returned.sink); end = returned.end }
 
 -- the connections that are to come, and those that were given back, in order; whether one is out; and its calls
 pub record MemoryDoor : Type 0 where

@@ -1,7 +1,8 @@
 //! Sources and sinks over readers and writers of the standard library, which tell what those tell.
-ghost use Rattle.std.specs.Prelude.{◌≡◌, ◌≤◌, true, false, OnErr, OnOk};
+ghost use Rattle.std.specs.Prelude.{◌≡◌, ◌≤◌, [], OnErr, OnOk};
 ghost use Rattle.site_io.specs.Memory.{up};
 ghost use Rattle.site_io.specs.Told.{Rose};
+ghost use Rattle.site_io.specs.Adapters.{FlushedAtLast};
 
 use crate::device::{Failed, Sink, Source};
 use crate::retry::{flush_retrying, read_retrying, write_retrying};
@@ -64,7 +65,8 @@ impl<R: Read + Drop> Source for Reading<R> {
     }
 }
 
-/// A sink over a writer of the standard library, as standard output, a file or a TCP stream.
+/// A sink over a writer of the standard library, as standard output, a file or a TCP stream. A buffered writer holds back what it
+/// takes until it is full or is flushed.
 ///
 /// A call that a signal interrupts is made again, and is no fault.
 #[derive(Drop)]
@@ -72,16 +74,17 @@ pub struct Writing<W: Write + Drop> {
     writer: W,
     // The writer as it was given, for proofs alone.
     first: Log<W, ()>,
-    owes_flush: bool,
+    // Whether each flush succeeded, for proofs alone.
+    flushes: Log<bool, ()>,
     faults: u64,
 }
 
 impl<W: Write + Drop> Model for Writing<W> {
-    ghost use Rattle.site_io.specs.Adapters.{Outlet, StillTells, still_told, told_first};
+    ghost use Rattle.site_io.specs.Adapters.{Outlet, StillTells, flushes_of, still_told, told_first};
 
     ghost Value = { Outlet };
 
-    ghost view = { λ w. record { written = still_told (told_first W.contents w.first.items) (W.contents w.writer); owes_flush = w.owes_flush; faults = w.faults } };
+    ghost view = { λ w. record { written = still_told (told_first W.contents w.first.items) (W.contents w.writer); flushes = flushes_of w.flushes.items; faults = w.faults } };
 
     ghost invariant = { λ w. StillTells (told_first W.contents w.first.items) (W.contents w.writer) };
 }
@@ -89,13 +92,13 @@ impl<W: Write + Drop> Model for Writing<W> {
 impl<W: Write + Drop> Writing<W> {
     /// Writes to this writer, and tells what it tells. No fault is counted yet.
     pub fn new(writer: W) -> Writing<W>
-        ensures { result ≡ record { written = W.contents writer; owes_flush = false; faults = 0 } }
+        ensures { result ≡ record { written = W.contents writer; flushes = []; faults = 0 } }
     {
         let first = Log::new().and(&writer, &());
         Writing {
             writer,
             first,
-            owes_flush: false,
+            flushes: Log::new(),
             faults: 0,
         }
     }
@@ -103,35 +106,13 @@ impl<W: Write + Drop> Writing<W> {
     // Counts a fault.
     fn fault(&mut self) -> Failed
         ensures written { self.new.written ≡ self.old.written }
-        ensures owes { self.new.owes_flush ≡ self.old.owes_flush }
+        ensures flushes { self.new.flushes ≡ self.old.flushes }
         ensures cause { Rose self.old.faults self.new.faults }
         ensures once { self.new.faults ≡ up self.old.faults }
         ensures never_falls { self.old.faults ≤ self.new.faults }
     {
         self.faults = self.faults.saturating_add(1);
         Failed
-    }
-
-    /// Flushes the writer, where the flush after the last write failed: bytes that were written may be held back by it.
-    ///
-    /// `Failed` comes exactly where that fails again and the count of faults rose in this call, by one. Each write begins with
-    /// this; so call it once the last write is made.
-    pub fn settle(&mut self) -> Result<(), Failed>
-        ensures written { self.new.written ≡ self.old.written }
-        ensures settled { OnOk result (self.new.owes_flush ≡ false) }
-        ensures owed { OnErr result ((self.old.owes_flush ≡ true) × (self.new.owes_flush ≡ true)) }
-        ensures cause { OnErr result (Rose self.old.faults self.new.faults) }
-        ensures once { OnErr result (self.new.faults ≡ up self.old.faults) }
-        ensures steady { OnOk result (self.new.faults ≡ self.old.faults) }
-        ensures never_falls { self.old.faults ≤ self.new.faults }
-    {
-        if self.owes_flush {
-            if flush_retrying(&mut self.writer).is_err() {
-                return Err(self.fault());
-            }
-            self.owes_flush = false;
-        }
-        Ok(())
     }
 }
 
@@ -140,20 +121,29 @@ impl<W: Write + Drop> Sink for Writing<W> {
 
     ghost faults = { λ w. w.faults };
 
-    // A buffered writer is flushed, so that a peer that waits for these bytes gets them. They are written then, so a
-    // flush that fails is told by the next call, unless it can be made good there.
     fn write(&mut self, piece: &[u8]) -> Result<usize, Failed> {
-        self.settle()?;
         match write_retrying(&mut self.writer, piece) {
-            Ok(n) if n > 0 || piece.is_empty() => {
-                self.owes_flush = flush_retrying(&mut self.writer).is_err();
-                Ok(n)
-            }
+            Ok(n) if n > 0 || piece.is_empty() => Ok(n),
             _ => Err(self.fault()),
         }
     }
 
     fn faults(&self) -> u64 {
         self.faults
+    }
+
+    // `Ok` comes only after a flush of the writer that succeeded.
+    fn flush(&mut self) -> Result<(), Failed>
+        ensures written { self.new.written ≡ self.old.written }
+        ensures cause { OnErr result (Rose self.old.faults self.new.faults) }
+        ensures once { OnErr result (self.new.faults ≡ up self.old.faults) }
+        ensures steady { OnOk result (self.new.faults ≡ self.old.faults) }
+        ensures never_falls { self.old.faults ≤ self.new.faults }
+        ensures flushed { OnOk result (FlushedAtLast self.old.flushes self.new.flushes) }
+    {
+        match flush_retrying(&mut self.writer, &mut self.flushes) {
+            Ok(()) => Ok(()),
+            Err(_) => Err(self.fault()),
+        }
     }
 }

@@ -35,7 +35,8 @@ pub trait Source {
         ensures { result ≡ faults self.now };
 }
 
-/// What bytes are written to. An implementor owns what it writes to: it holds no `&mut`.
+/// What bytes are written to. An implementor owns what it writes to: it holds no `&mut`. It may hold back what it took, until it
+/// is told to hand it on.
 pub trait Sink {
     /// The bytes that were written, where it tells them.
     ghost written: { Self → Option (List ℕ) };
@@ -59,6 +60,19 @@ pub trait Sink {
     /// How often it has failed, up to the greatest u64. It never falls.
     fn faults(&self) -> u64
         ensures { result ≡ faults self.now };
+
+    /// Hands on what was taken and is still held back. A sink that holds nothing back needs no call of its own.
+    ///
+    /// `Failed` comes exactly where the count of faults rose in this call, by one. What was written stays: it was taken.
+    fn flush(&mut self) -> Result<(), Failed>
+        ensures written { written self.new ≡ written self.old }
+        ensures cause { OnErr result (Rose (faults self.old) (faults self.new)) }
+        ensures once { OnErr result (faults self.new ≡ up (faults self.old)) }
+        ensures steady { OnOk result (faults self.new ≡ faults self.old) }
+        ensures never_falls { faults self.old ≤ faults self.new }
+    {
+        Ok(())
+    }
 }
 
 /// The greatest moment, 2100-01-01 00:00:00 UTC, in whole seconds since 1970-01-01.
@@ -102,6 +116,9 @@ pub enum Point {
     /// The reply is made and not yet written. The number is how many cached pieces of a page were built for it and not
     /// found, 0 where it is no page.
     BeforeReply(u64),
+
+    /// A part of a page that is sent late is about to be made. No work reaches this point as long as no part is sent late.
+    BeforePart,
 }
 
 /// What is told of the points that the work reaches, as a test that holds a request back there. An implementor owns

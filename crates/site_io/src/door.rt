@@ -35,7 +35,7 @@ pub trait Door {
     /// `Failed` comes exactly where the count of faults rose in this call, by one, and then no connection was taken.
     fn accept(&mut self) -> Result<(Self::In, Self::Out), Failed>
         requires { is_out self.old ≡ false }
-        ensures next { IfOk result (λ line. IsNext (coming self.old) (record { left = Self.In.left line.0; written = Self.Out.written line.1 })) }
+        ensures next { IfOk result (λ line. IsNext (coming self.old) (record { left = Self.In.left line.0; written = Self.Out.written line.1; reading = Self.In.faults line.0; writing = Self.Out.faults line.1 })) }
         ensures later { OnOk result (coming self.new ≡ later_lines (coming self.old)) }
         ensures out { OnOk result (is_out self.new ≡ true) }
         ensures refused { OnErr result (coming self.new ≡ coming self.old) }
@@ -49,7 +49,7 @@ pub trait Door {
     /// Takes the connection that is out back, with its end.
     fn done(&mut self, input: Self::In, output: Self::Out, end: Ended)
         requires { is_out self.old ≡ true }
-        ensures back { returned self.new ≡ and_back (returned self.old) (record { line = record { left = Self.In.left input; written = Self.Out.written output }; end = end }) }
+        ensures back { returned self.new ≡ and_back (returned self.old) (record { line = record { left = Self.In.left input; written = Self.Out.written output; reading = Self.In.faults input; writing = Self.Out.faults output }; end = end }) }
         ensures none_out { is_out self.new ≡ false }
         ensures coming { coming self.new ≡ coming self.old }
         ensures steady { faults self.new ≡ faults self.old };
@@ -70,9 +70,14 @@ pub trait More {
     /// Whether no leave is left to give.
     ghost is_over: { Self → Bool };
 
-    /// Whether one connection more may be taken; the count of claims rises by one exactly where it may.
+    /// How often it was asked and gave no leave.
+    ghost refusals: { Self → ℕ };
+
+    /// Whether one connection more may be taken; the count of claims rises by one exactly where it may, and that of refusals
+    /// where it may not.
     fn more(&mut self) -> bool
         ensures counted { claims self.new ≡ (if result then claims self.old + 1 else claims self.old) }
+        ensures refused { refusals self.new ≡ (if result then refusals self.old else refusals self.old + 1) }
         ensures over { result ≡ false → is_over self.new ≡ true }
         ensures same { name self.new ≡ name self.old };
 }

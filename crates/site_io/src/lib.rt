@@ -15,7 +15,6 @@ mod memory_door;
 mod retry;
 mod series;
 mod system;
-mod tcp;
 mod whole;
 
 pub use adapters::{Reading, Writing};
@@ -26,6 +25,5 @@ pub use ended::Ended;
 pub use memory::{MemorySink, MemorySource};
 pub use memory_door::{MemoryDoor, Returned};
 pub use series::{ListClock, ListEntropy};
-pub use system::{OpenGate, SystemClock};
-pub use tcp::TcpDoor;
+pub use system::{OpenGate, SystemClock, moment_of};
 pub use whole::write_whole;

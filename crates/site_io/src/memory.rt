@@ -149,34 +149,43 @@ impl Source for MemorySource {
     }
 }
 
-/// A place in memory for so many bytes, and calls that are to fail.
+/// A place in memory for so many bytes, which takes at most so many in one call, and calls that are to fail.
 #[derive(Drop)]
 pub struct MemorySink {
     bytes: Vec<u8>,
     capacity: usize,
+    piece: usize,
     calls: Calls,
 }
 
 impl Model for MemorySink {
     ghost Value = { Output };
 
-    ghost view = { λ s. record { written = s.bytes.items; capacity = s.capacity; calls = s.calls } };
+    ghost view = { λ s. record { written = s.bytes.items; capacity = s.capacity; piece = s.piece; calls = s.calls } };
 
     ghost invariant = { λ s. (length s.bytes.items ≤ s.capacity) × (s.capacity ≤ vec_capacity s.bytes) };
 }
 
 impl MemorySink {
-    /// Nothing is written yet. So many bytes can be, and no call fails but where the sink is full.
+    /// Nothing is written yet. So many bytes can be, in pieces of any length, and no call fails but where the sink is full.
     ///
     /// The memory is taken here, so that `write` takes none.
     pub fn new(alloc: Global, capacity: usize) -> Result<MemorySink, AllocError>
-        ensures { IfOk result (λ s. s ≡ record { written = []; capacity = capacity; calls = fresh [] }) }
+        ensures { IfOk result (λ s. s ≡ record { written = []; capacity = capacity; piece = usize.MAX; calls = fresh [] }) }
     {
         Ok(MemorySink {
             bytes: Vec::with_capacity(alloc, capacity)?,
             capacity,
+            piece: usize::MAX,
             calls: Calls::new(Vec::new(alloc)),
         })
+    }
+
+    /// At most `piece` bytes are taken in one call, where 0 counts as 1.
+    pub fn taking(self, piece: usize) -> MemorySink
+        ensures { result ≡ record self { piece = piece } }
+    {
+        MemorySink { piece, ..self }
     }
 
     /// The calls of `write` with these numbers are to fail, counted from here on and from 1. The count stays at the
@@ -222,7 +231,7 @@ impl Sink for MemorySink {
         if room == 0 && !piece.is_empty() {
             return Err(self.calls.fault());
         }
-        let n = piece.len().min(room);
+        let n = piece.len().min(room).min(self.piece.max(1));
         let (front, _) = piece.split_at(n);
         match self.bytes.extend_from_slice(front) {
             Ok(()) => Ok(n),
