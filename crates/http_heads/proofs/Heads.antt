@@ -11,6 +11,9 @@ use Rattle.http_heads.specs.Framing.{head_limit}
 use Rattle.http_heads.specs.Lines.{AreWithin, IsPartsOf}
 use Rattle.http_heads.specs.Found.{AtHead}
 use Rattle.http_heads.specs.Parses.{HasHead, Parses}
+use Rattle.http_heads.specs.declared.extent.Extent.{Extent}
+use Rattle.http_heads.specs.declared.extent.Extent.TheVariants as extent
+use Rattle.http_heads.specs.Extents.{ReachesAt, Shows}
 
 -- what a whole head makes of the bytes after it is what the bytes begin with
 pub at_head_parses : (bytes : List ℕ) (h : RequestHead) (after : List ℕ) (p : Parsed) → HasHead bytes h after → AtHead h after p → Parses bytes p
@@ -56,3 +59,10 @@ wider n m h le is = ((is.0.0, omega (arith, is.0.1, le)), (is.1.0, omega (arith,
 -- they lie in the first bytes
 pub rows_within : (window : List ℕ) (spans : List HeaderSpan) (s : RequestSpans) → IsRequestWithin window spans s → AreWithin window (take s.headers spans)
 rows_within window spans s within = λ i d inside. wider s.len (length window) _ within.section.len_fits (within.section.headers_fit i d inside)
+
+-- how far a whole head reaches with the bytes after it is how far the bytes reach
+pub at_head_shows : (bytes : List ℕ) (h : RequestHead) (after : List ℕ) (e : Extent) → HasHead bytes h after → ReachesAt h after e → Shows bytes e
+at_head_shows bytes h after (extent.Whole n) has at = record { head = h; after = after; has = has; reaches = at }
+at_head_shows bytes h after (extent.Body n) has at = record { head = h; after = after; has = has; reaches = at }
+at_head_shows bytes h after extent.Head has at = elim at [ ]
+at_head_shows bytes h after extent.Refused has at = inr (inr (record { head = h; after = after; has = has; reaches = at }))

@@ -21,7 +21,7 @@ use Rattle.http_heads.proofs.Begins.{not_in_target_more, never_more}
 
 -- ---- whatever follows
 
-has_more : (xs m : List ℕ) (h : RequestHead) (after : List ℕ) → HasHead xs h after → HasHead (xs ++ m) h (after ++ m)
+pub has_more : (xs m : List ℕ) (h : RequestHead) (after : List ℕ) → HasHead xs h after → HasHead (xs ++ m) h (after ++ m)
 has_more xs m h after has = record { reads = ReadsRequest-append xs h after m has.reads; fits = has.fits }
 
 -- a whole request stays one, whatever follows
@@ -100,10 +100,10 @@ whole_takes bytes request size w =
       within = omega (arith, length-append (print_request w.head) (request.body ++ w.after), length-append request.body w.after);
     }
 
-err_not_ok : (r : Result ℕ ℕ) (c n : ℕ) → r ≡ Err c → r ≡ Ok n → ⊥
+pub err_not_ok : (r : Result ℕ ℕ) (c n : ℕ) → r ≡ Err c → r ≡ Ok n → ⊥
 err_not_ok r c n e f = cc
 
-ok_once : (r : Result ℕ ℕ) (k n : ℕ) → r ≡ Ok k → r ≡ Ok n → k ≡ n
+pub ok_once : (r : Result ℕ ℕ) (k n : ℕ) → r ≡ Ok k → r ≡ Ok n → k ≡ n
 ok_once r k n e f = cc
 
 abbrev pick : Bool → Result ℕ ℕ → Result ℕ ℕ → Result ℕ ℕ
@@ -163,7 +163,7 @@ request_once h r q a b body = λ i. record {
   body = body i;
 }
 
-holds_or_lacks : (h : RequestHead) (after : List ℕ) (r : Request) (n : ℕ) → Holds h after r n → Lacks h after → ⊥
+pub holds_or_lacks : (h : RequestHead) (after : List ℕ) (r : Request) (n : ℕ) → Holds h after r n → Lacks h after → ⊥
 holds_or_lacks h after r n a b =
     let len : length r.body ≡ b.wanted = ok_once (judged h) (length r.body) b.wanted a.served b.served in
     absurd (omega (arith, ap length a.body, length-append r.body a.rest, b.short, len))

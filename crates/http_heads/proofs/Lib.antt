@@ -6,3 +6,4 @@ pub mod Heads
 pub mod Statuses
 pub mod Fates
 pub mod Total
+pub mod Extents

@@ -59,7 +59,7 @@ by_result : (r : Result ℕ ℕ) → ((c : ℕ) × (r ≡ Err c)) ⊎ ((n : ℕ)
 by_result (Err c) = inl (c, refl)
 by_result (Ok n) = inr (n, refl)
 
-at_head : (h : RequestHead) (after : List ℕ) → (p : Parsed) × AtHead h after p
+pub at_head : (h : RequestHead) (after : List ℕ) → (p : Parsed) × AtHead h after p
 at_head h after = elim (by_result (judged h)) [
   | inl (c, refused) ↦ (Refused c, refused)
   | inr (n, served) ↦ elim (cases_lt (length after) n) [

@@ -2,10 +2,11 @@
 //! (RFC 9110, RFC 9112) and of cookies (RFC 6265).
 //!
 //! `parse` says what bytes begin with, over the crate `httparse`; `reply_head` writes the head of
-//! a reply. Neither reads nor writes anything but its arguments.
+//! a reply. Neither reads nor writes anything but its arguments. `extent_in` says how far a request reaches.
 #![tactic(auto)]
 
 mod build;
+mod extent;
 mod fields;
 mod find;
 mod framing;
@@ -18,6 +19,7 @@ mod request;
 mod theorems;
 mod values;
 
+pub use extent::{Extent, extent_in};
 pub use octets::Octets;
 pub use parsed::Parsed;
 pub use parsing::{HeadRoom, parse, parse_in};
