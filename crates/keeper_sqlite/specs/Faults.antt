@@ -1,17 +1,9 @@
--- What an error of a database comes to.
+-- What a fault of a store comes to for a keeper.
 use Rattle.site_keeper.specs.declared.fault.KeeperFault.{KeeperFault}
 use Rattle.site_keeper.specs.declared.fault.KeeperFault.TheVariants as keeper_fault
-use Rattle.sqlite.specs.declared.error.Error.{Error}
-use Rattle.sqlite.specs.declared.error.Error.TheVariants as error
-use Rattle.sqlite.specs.declared.error.ErrorCode.TheVariants as code
-use Rattle.keeper_sqlite.specs.declared.fault.NoKeeper.{NoKeeper}
-use Rattle.keeper_sqlite.specs.declared.fault.NoKeeper.TheVariants as no_keeper
+use Rattle.store_six.specs.declared.fault.StoreFault.{StoreFault}
+use Rattle.store_six.specs.declared.fault.StoreFault.TheVariants as store_fault
 
--- want of memory, or a fault
-abbrev pub fault_of : Error → KeeperFault
-fault_of (error.SqliteFailure code.OutOfMemory) = keeper_fault.OutOfMemory
-fault_of _ = keeper_fault.Failed
-
-abbrev pub no_keeper_of : KeeperFault → NoKeeper
-no_keeper_of keeper_fault.Failed = no_keeper.Failed
-no_keeper_of keeper_fault.OutOfMemory = no_keeper.OutOfMemory
+abbrev pub fault_of : StoreFault → KeeperFault
+fault_of store_fault.Failed = keeper_fault.Failed
+fault_of store_fault.OutOfMemory = keeper_fault.OutOfMemory

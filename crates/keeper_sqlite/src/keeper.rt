@@ -1,24 +1,24 @@
 //! A keeper over a database.
-ghost use Rattle.std.specs.Prelude.{◌≡◌, ◌≤◌, None, IfOk, false};
+ghost use Rattle.std.specs.Prelude.{◌≡◌, ◌≤◌, None, IfOk, IfErr, OnOk, OnErr, false};
 ghost use Rattle.site_keeper.specs.Keeper.{CountsFault};
+ghost use Rattle.sqlite.specs.Held.{state};
+ghost use Rattle.table_laws.specs.Moments.{IsOver};
 
-use crate::body::body_of;
-use crate::fault::{NoKeeper, fault_of};
-use crate::number::{count_bytes, head_text};
-use crate::statements::{make_tables, remove_row, set_row, set_tag};
-use crate::stored::{read_head, read_stored};
-use cacheability::Tag;
-use content_state::Write;
+use crate::finding::{fault_of, found, head};
+use crate::keeping::keep;
 use site_keeper::{Batch, Keeper, KeeperFault, Stored};
-use sqlite::{Alter, Connection, Error, File, FileStore, Transaction};
+use sqlite::{Alter, Connection, File, FileStore};
 use std::alloc::Global;
+use std::fs;
+use std::io::ErrorKind;
 use std::marker::Model;
+use tables_sqlite::{NoKeeper, SqliteSix};
 
 /// A keeper over a database, in the table `cell_row` of cells with their bodies and the table `cachetags` of tags with
-/// their counts. Contracts see how often it has failed.
+/// their counts. Contracts see the store of these tables, and how often the keeper has failed.
 #[derive(Drop)]
 pub struct SqliteKeeper<S: Alter + Drop> {
-    conn: Connection<S>,
+    six: SqliteSix<S>,
     faults: u64,
 }
 
@@ -26,24 +26,31 @@ pub struct SqliteKeeper<S: Alter + Drop> {
 pub type FileKeeper = SqliteKeeper<FileStore<File>>;
 
 impl<S: Alter + Drop> Model for SqliteKeeper<S> {
+    ghost use Rattle.std.specs.Coded.{coded×, coded_ℕ};
     ghost use Rattle.std.specs.Prelude.{ℕ};
+    ghost use Rattle.sqlite.specs.Held.{Held, held_code};
 
-    ghost Value = { ℕ };
+    ghost Value = { (Held S × ℕ) × ℕ };
 
-    ghost view = { λ k. k.faults };
+    ghost coded = { coded× (coded× (held_code S.code) coded_ℕ) coded_ℕ };
+
+    ghost view = { λ k. (k.six, k.faults) };
 }
 
 impl<S: Alter + Drop> SqliteKeeper<S> {
     /// Hands out the database, which holds what was kept.
-    pub fn into_connection(self) -> Connection<S> {
-        self.conn
+    pub fn into_connection(self) -> Connection<S>
+        ensures { result ≡ self.0.0 }
+    {
+        self.six.into_connection()
     }
 
     /// Counts a fault; want of memory is none.
     fn counted(&mut self, fault: KeeperFault) -> KeeperFault
         ensures same { result ≡ fault }
-        ensures counted { CountsFault fault self.old self.new }
-        ensures never_falls { self.old ≤ self.new }
+        ensures counted { CountsFault fault self.old.1 self.new.1 }
+        ensures never_falls { self.old.1 ≤ self.new.1 }
+        ensures only { self.new.0 ≡ self.old.0 }
     {
         if fault == KeeperFault::Failed {
             self.faults = self.faults.saturating_add(1);
@@ -52,57 +59,85 @@ impl<S: Alter + Drop> SqliteKeeper<S> {
     }
 }
 
-/// A keeper over a database, in which the tables that are not there are made. It has not failed.
-pub fn over<S: Alter + Drop>(mut conn: Connection<S>) -> Result<SqliteKeeper<S>, NoKeeper>
-    ensures { IfOk result (λ keeper. keeper ≡ 0) }
+/// A keeper over a database that holds the two tables of a store, or nothing, where they are made. What they hold stays. It
+/// has not failed. It is refused as `tables_sqlite` refuses a store.
+pub fn over<S: Alter + Drop>(
+    _rt: &HostRuntime,
+    conn: Connection<S>,
+) -> Result<SqliteKeeper<S>, NoKeeper>
+    ensures { IfOk result (λ keeper. (keeper.1 ≡ 0) × (keeper.0.1 ≡ 0) × IsOver (state S.Store conn) (state S.Store keeper.0.0)) }
 {
-    match make_tables(&mut conn) {
-        Ok(()) => Ok(SqliteKeeper { conn, faults: 0 }),
-        Err(error) => Err(NoKeeper::from(fault_of(error))),
+    let six = tables_sqlite::over(conn)?;
+    Ok(SqliteKeeper { six, faults: 0 })
+}
+
+/// A keeper over the store in the file at a path. It has not failed. Where no file is there, or the file was refused, it is
+/// `Refused`; what else it holds is refused as `tables_sqlite` refuses it. Nothing is made.
+pub fn open_keeper(rt: &HostRuntime, path: &str) -> Result<FileKeeper, NoKeeper>
+    ensures { IfOk result (λ keeper. keeper.1 ≡ 0) }
+{
+    if !stands(rt, path)? {
+        return Err(NoKeeper::Refused);
+    }
+    let six = tables_sqlite::over_tables(opened(rt, path)?)?;
+    Ok(SqliteKeeper { six, faults: 0 })
+}
+
+/// A keeper over the store in the file at a path, or over a new one where neither the file nor its log is there. It has not
+/// failed. A file whose log was taken away holds no store, and is refused: only a path at which nothing stands is that of a new
+/// one.
+pub fn open_or_make_keeper(rt: &HostRuntime, path: &str) -> Result<FileKeeper, NoKeeper>
+    ensures { IfOk result (λ keeper. keeper.1 ≡ 0) }
+{
+    let Ok(log) = format!(in rt.alloc(); "{path}-wal") else {
+        return Err(NoKeeper::OutOfMemory);
+    };
+    if stands(rt, path)? || stands(rt, log.as_str())? {
+        return open_keeper(rt, path);
+    }
+    over(rt, opened(rt, path)?)
+}
+
+/// The database in the file at a path, which is made where it is not there.
+fn opened(rt: &HostRuntime, path: &str) -> Result<Connection<FileStore<File>>, NoKeeper> {
+    match Connection::open(rt, path) {
+        Ok(conn) => Ok(conn),
+        Err(error) => Err(NoKeeper::from(error)),
     }
 }
 
-/// A keeper over the file at a path, which is made where it is not there. It has not failed, and doesn't tell what it
-/// holds. `Failed` where the file or a statement was refused.
-pub fn open_keeper(rt: &HostRuntime, path: &str) -> Result<FileKeeper, NoKeeper>
-    ensures { IfOk result (λ keeper. keeper ≡ 0) }
-{
-    opened(Connection::open(rt, path))
-}
-
-/// A keeper over a database, where it was opened.
-fn opened<S: Alter + Drop>(conn: Result<Connection<S>, Error>) -> Result<SqliteKeeper<S>, NoKeeper>
-    ensures { IfOk result (λ keeper. keeper ≡ 0) }
-{
-    match conn {
-        Ok(conn) => over(conn),
-        Err(error) => Err(NoKeeper::from(fault_of(error))),
+/// Whether something stands at a path. What can't be looked at is refused.
+fn stands(rt: &HostRuntime, path: &str) -> Result<bool, NoKeeper> {
+    match fs::exists(rt, path) {
+        Ok(there) => Ok(there),
+        Err(error) if error.kind() == ErrorKind::OutOfMemory => Err(NoKeeper::OutOfMemory),
+        Err(_) => Err(NoKeeper::Refused),
     }
 }
 
 impl<S: Alter + Drop> Keeper for SqliteKeeper<S> {
     ghost kept = { λ k. None };
 
-    ghost faults = { λ k. k };
+    ghost faults = { λ k. k.1 };
 
     ghost steadfast = { λ k. false };
 
     fn load(&mut self, alloc: Global) -> Result<Stored, KeeperFault> {
-        match read_stored(alloc, &mut self.conn) {
+        match found(alloc, &mut self.six) {
             Ok(stored) => Ok(stored),
             Err(fault) => Err(self.counted(fault)),
         }
     }
 
     fn apply(&mut self, alloc: Global, batch: &Batch) -> Result<(), KeeperFault> {
-        match keep(alloc, &mut self.conn, batch) {
+        match keep(alloc, &mut self.six, batch) {
             Ok(()) => Ok(()),
-            Err(fault) => Err(self.counted(fault)),
+            Err(fault) => Err(self.counted(fault_of(fault))),
         }
     }
 
     fn head(&mut self, alloc: Global) -> Result<u64, KeeperFault> {
-        match read_head(alloc, &mut self.conn) {
+        match head(alloc, &mut self.six) {
             Ok(head) => Ok(head),
             Err(fault) => Err(self.counted(fault)),
         }
@@ -111,85 +146,4 @@ impl<S: Alter + Drop> Keeper for SqliteKeeper<S> {
     fn faults(&self) -> u64 {
         self.faults
     }
-}
-
-/// Keeps a batch, in one transaction. Where it is left before `commit`, it is rolled back; where that fails, the batch
-/// is kept or not.
-fn keep<S: Alter + Drop>(
-    alloc: Global,
-    conn: &mut Connection<S>,
-    batch: &Batch,
-) -> Result<(), KeeperFault> {
-    if !conn.is_autocommit() {
-        return Err(KeeperFault::Failed);
-    }
-    let mut turn = conn.transaction();
-    write_batch(alloc, &mut turn, batch)?;
-    match turn.commit() {
-        Ok(()) => Ok(()),
-        Err(_) => Err(KeeperFault::Failed),
-    }
-}
-
-/// Writes all of a batch.
-fn write_batch<S: Alter>(
-    alloc: Global,
-    turn: &mut Transaction<'_, S>,
-    batch: &Batch,
-) -> Result<(), KeeperFault> {
-    make_writes(alloc, turn, batch.commit.writes.as_slice())?;
-    set_counts(alloc, turn, batch.counts.as_slice())?;
-    set_head(alloc, turn, batch.head)
-}
-
-/// Makes writes in turn.
-fn make_writes<S: Alter>(
-    alloc: Global,
-    turn: &mut Transaction<'_, S>,
-    writes: &[Write],
-) -> Result<(), KeeperFault> {
-    'writes: for write in writes {
-        make_write(alloc, turn, write)?;
-    }
-    Ok(())
-}
-
-/// Makes a write.
-fn make_write<S: Alter>(
-    alloc: Global,
-    turn: &mut Transaction<'_, S>,
-    write: &Write,
-) -> Result<(), KeeperFault> {
-    let cell = write.cell.text(alloc)?;
-    match &write.row {
-        Some(row) => {
-            let body = body_of(alloc, &write.cell, row)?;
-            set_row(turn, cell.as_slice(), body.as_bytes())
-        }
-        None => remove_row(turn, cell.as_slice()),
-    }
-}
-
-/// Sets counts in turn.
-fn set_counts<S: Alter>(
-    alloc: Global,
-    turn: &mut Transaction<'_, S>,
-    counts: &[(Tag, u64)],
-) -> Result<(), KeeperFault> {
-    'counts: for entry in counts {
-        let (tag, count) = *entry;
-        let text = tag.text(alloc)?;
-        set_tag(turn, text.as_slice(), &count_bytes(count))?;
-    }
-    Ok(())
-}
-
-/// Sets the head.
-fn set_head<S: Alter>(
-    alloc: Global,
-    turn: &mut Transaction<'_, S>,
-    head: u64,
-) -> Result<(), KeeperFault> {
-    let text = head_text(alloc, head)?;
-    set_row(turn, b"head", text.as_bytes())
 }

@@ -65,14 +65,6 @@ pub(crate) const EDIT: Words = Words {
     head: 18_446_744_073_709_551_615,
 };
 
-/// Two more ids of nodes are given, and a tag has its first count.
-pub(crate) const LAST: Words = Words {
-    rows: &["{\"cell\":\"seq\",\"node\":4,\"term\":1,\"user\":2}"],
-    gone: None,
-    counts: &[("node:2", 1), ("node_list", 2)],
-    head: 8,
-};
-
 /// A write of a row, from its JSON.
 fn write_of(alloc: Global, line: &str) -> Option<Write> {
     let value = Value::from_str(alloc, line).ok()?;
@@ -170,17 +162,6 @@ pub(crate) const EDITED: Seen = Seen {
     sum: 72_623_859_790_382_863,
     head: 18_446_744_073_709_551_615,
     told: 18_446_744_073_709_551_615,
-};
-
-/// After `BEGIN` and `LAST`.
-pub(crate) const GONE_ON: Seen = Seen {
-    rows: 9,
-    next_node: 4,
-    version: 1,
-    tags: 11,
-    sum: 72_623_859_790_382_860,
-    head: 8,
-    told: 8,
 };
 
 /// What a keeper holds, in short.

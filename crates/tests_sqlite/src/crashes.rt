@@ -67,32 +67,32 @@ fn opened<D: Disk + Drop>(
     }
 }
 
-/// Keeps a batch in a database, if there is one: whether it is told to be kept, what is held then, and the store.
+/// Keeps a batch in a database, if there is one: whether it is told to be kept, what is held then, and the store. None where
+/// no keeper is opened over it, or memory is wanting.
 fn used<S: Alter + Drop>(
-    alloc: Global,
+    rt: &HostRuntime,
     conn: Connection<S>,
     batch: Option<&Batch>,
 ) -> Option<(bool, Option<Seen>, S)> {
-    let mut keeper = over(conn).ok()?;
+    let mut keeper = over(rt, conn).ok()?;
     let kept = match batch {
-        Some(batch) => keeper.apply(alloc, batch).is_ok(),
+        Some(batch) => keeper.apply(rt.alloc(), batch).is_ok(),
         None => false,
     };
-    let seen = held_by(alloc, &mut keeper).ok();
+    let seen = held_by(rt.alloc(), &mut keeper).ok();
     Some((kept, seen, keeper.into_connection().into_store()))
 }
 
-/// The same in files, which come back, and where nothing is held if they aren't opened. None where memory is wanting.
-///
-/// A keeper asks nothing of files to be made where its tables are there, so it isn't refused where they were opened.
+/// The same in files, which come back, and where nothing is held if they aren't opened. None where no keeper is opened over
+/// them, or memory is wanting.
 fn used_in<D: Disk + Drop>(
-    alloc: Global,
+    rt: &HostRuntime,
     files: Files<D>,
     frames: usize,
     batch: Option<&Batch>,
 ) -> Option<(bool, Option<Seen>, Files<D>)> {
-    match opened(alloc, files, frames) {
-        Ok(conn) => match used(alloc, conn, batch) {
+    match opened(rt.alloc(), files, frames) {
+        Ok(conn) => match used(rt, conn, batch) {
             Some((kept, seen, store)) => Some((kept, seen, store.close())),
             None => None,
         },
@@ -101,8 +101,8 @@ fn used_in<D: Disk + Drop>(
 }
 
 /// What is found in files.
-fn found_in(alloc: Global, files: Files<Stopping>) -> Option<Seen> {
-    match used_in(alloc, files, 1000, None) {
+fn found_in(rt: &HostRuntime, files: Files<Stopping>) -> Option<Seen> {
+    match used_in(rt, files, 1000, None) {
         Some((_, seen, files)) => {
             drop(files);
             seen
@@ -112,13 +112,13 @@ fn found_in(alloc: Global, files: Files<Stopping>) -> Option<Seen> {
 }
 
 /// The files of a store into which the site was imported.
-fn begun(alloc: Global) -> Option<Files<Stopping>> {
+fn begun(rt: &HostRuntime) -> Option<Files<Stopping>> {
     let files = Files {
-        log: file_of(alloc, &[], u64::MAX)?,
-        db: file_of(alloc, &[], u64::MAX)?,
+        log: file_of(rt.alloc(), &[], u64::MAX)?,
+        db: file_of(rt.alloc(), &[], u64::MAX)?,
     };
-    let import = batch_of(alloc, &BEGIN)?;
-    let (_, _, files) = used_in(alloc, files, 1000, Some(&import))?;
+    let import = batch_of(rt.alloc(), &BEGIN)?;
+    let (_, _, files) = used_in(rt, files, 1000, Some(&import))?;
     Some(files)
 }
 
@@ -127,57 +127,107 @@ fn begun(alloc: Global) -> Option<Files<Stopping>> {
 struct Ended {
     /// Whether it was told to be kept.
     kept: bool,
+    /// Whether no file stopped.
+    ran: bool,
     /// What is found where all that was written is there.
-    written: Seen,
+    written: Option<Seen>,
     /// What is found where what was synced is there alone.
-    synced: Seen,
+    synced: Option<Seen>,
 }
 
-/// An edit whose files stop after so many calls.
+/// Whether a file answers still.
+fn answers(file: &mut Stopping) -> bool {
+    file.may_be_used() && file.len().is_ok()
+}
+
+/// An edit whose files stop after so many calls. None where they stop before a keeper is opened over them.
 fn stop_after(
-    alloc: Global,
+    rt: &HostRuntime,
     begun: &Files<Stopping>,
     edit: &Batch,
     frames: usize,
     calls: Calls,
 ) -> Option<Ended> {
-    let (kept, _, mut files) = used_in(alloc, again(alloc, begun, calls)?, frames, Some(edit))?;
-    let written = found_in(alloc, again(alloc, &files, ALL)?)?;
+    let (kept, _, mut files) = used_in(rt, again(rt.alloc(), begun, calls)?, frames, Some(edit))?;
+    let ran = answers(&mut files.log) && answers(&mut files.db);
+    let written = found_in(rt, again(rt.alloc(), &files, ALL)?);
     files.log.crash();
     files.db.crash();
-    let synced = found_in(alloc, files)?;
+    let synced = found_in(rt, files);
     Some(Ended {
         kept,
+        ran,
         written,
         synced,
     })
 }
 
 /// Whether all of an edit is there that was told to be kept, and all or nothing of any other.
-fn is_whole(kept: bool, seen: Seen) -> bool {
-    seen == EDITED || (seen == BEGUN && !kept)
+fn is_whole(kept: bool, seen: Option<Seen>) -> bool {
+    seen == Some(EDITED) || (seen == Some(BEGUN) && !kept)
 }
 
-/// One file stops after each number of calls, up to more than are enough to keep the edit: the log, where the edit stays
-/// in it and where it is copied into the database, and then the database.
+/// Which files stop, and after how many frames the log is copied into the database.
+#[derive(Clone, Copy, Debug)]
+struct Stop {
+    log: bool,
+    db: bool,
+    frames: usize,
+}
+
+/// The log stops, where the edit stays in it and where it is copied into the database; the database stops; both stop.
+const STOPS: [Stop; 4] = [
+    Stop {
+        log: true,
+        db: false,
+        frames: 1000,
+    },
+    Stop {
+        log: true,
+        db: false,
+        frames: 1,
+    },
+    Stop {
+        log: false,
+        db: true,
+        frames: 1,
+    },
+    Stop {
+        log: true,
+        db: true,
+        frames: 1,
+    },
+];
+
+/// How many calls each file passes on, where those that stop pass on so many.
+fn calls_of(stop: Stop, count: u64) -> Calls {
+    Calls {
+        log: if stop.log { count } else { u64::MAX },
+        db: if stop.db { count } else { u64::MAX },
+    }
+}
+
+/// Files stop after each number of calls, up to the first with which none stops.
 #[test]
 fn an_edit_is_kept_whole_or_not(rt: HostRuntime) {
-    let begun = begun(rt.alloc()).expect(&rt, "memory");
+    let begun = begun(&rt).expect(&rt, "memory");
     let edit = batch_of(rt.alloc(), &EDIT).expect(&rt, "memory");
-    for (frames, db) in [(1000, false), (1, false), (1, true)] {
-        let mut kept = false;
-        for stop in 0..=300 {
-            let calls = if db {
-                Calls { db: stop, ..ALL }
-            } else {
-                Calls { log: stop, ..ALL }
+    for stop in STOPS {
+        let mut ran = false;
+        for count in 0..=400 {
+            let calls = calls_of(stop, count);
+            let Some(ended) = stop_after(&rt, &begun, &edit, stop.frames, calls) else {
+                continue;
             };
-            let ended = stop_after(rt.alloc(), &begun, &edit, frames, calls).expect(&rt, "memory");
-            assert!(rt; is_whole(ended.kept, ended.written), "{frames} {db} {stop}");
-            assert!(rt; is_whole(ended.kept, ended.synced), "{frames} {db} {stop}");
-            kept = ended.kept;
+            assert!(rt; is_whole(ended.kept, ended.written), "{stop:?} {count}");
+            assert!(rt; is_whole(ended.kept, ended.synced), "{stop:?} {count}");
+            if ended.ran {
+                assert!(rt; ended.kept, "{stop:?} {count}");
+                ran = true;
+                break;
+            }
         }
-        assert!(rt; kept);
+        assert!(rt; ran, "{stop:?}");
     }
 }
 
@@ -197,5 +247,5 @@ fn a_file_of_sqlite3_is_read(rt: HostRuntime) {
         head: 7,
         told: 7,
     };
-    assert!(rt; found_in(rt.alloc(), files) == Some(seen));
+    assert!(rt; found_in(&rt, files) == Some(seen));
 }

@@ -1,9 +1,7 @@
 //! What a keeper over a database holds, which rows of its tables it refuses, and that it goes on after a fault.
 
-use crate::batches::{
-    BEGIN, BEGUN, EDIT, EDITED, GONE_ON, LAST, NOTHING, Seen, Words, batch_of, held_by,
-};
-use keeper_sqlite::{NoKeeper, SqliteKeeper, open_keeper, over};
+use crate::batches::{BEGIN, BEGUN, EDIT, EDITED, NOTHING, Seen, Words, batch_of, held_by};
+use keeper_sqlite::{NoKeeper, SqliteKeeper, StoreTable, open_keeper, open_or_make_keeper, over};
 use site_keeper::{Keeper, KeeperFault};
 use sqlite::{Alter, Connection, Error, MemStore};
 use std::alloc::Global;
@@ -59,11 +57,48 @@ const BROKEN: [(&str, Result<u64, KeeperFault>); 11] = [
     ),
 ];
 
-/// Tables that refuse a row of `EDIT`: its first write, a count, and the head.
-const REFUSING: [&str; 3] = [
-    "CREATE TABLE cell_row(cell TEXT PRIMARY KEY, body TEXT NOT NULL CHECK (cell <> 'node:1' OR body LIKE '%First%')); CREATE TABLE cachetags(tag TEXT PRIMARY KEY, invalidations BLOB NOT NULL)",
-    "CREATE TABLE cell_row(cell TEXT PRIMARY KEY, body TEXT NOT NULL); CREATE TABLE cachetags(tag TEXT PRIMARY KEY, invalidations BLOB NOT NULL CHECK (invalidations <> x'0000000000000003'))",
-    "CREATE TABLE cell_row(cell TEXT PRIMARY KEY, body TEXT NOT NULL CHECK (body <> '18446744073709551615')); CREATE TABLE cachetags(tag TEXT PRIMARY KEY, invalidations BLOB NOT NULL)",
+/// What holds something else than the two tables of a store, and why no keeper is opened over it.
+const OTHERS: [(&str, NoKeeper); 10] = [
+    (
+        "CREATE TABLE note(id INTEGER PRIMARY KEY)",
+        NoKeeper::Refused,
+    ),
+    (
+        "CREATE TABLE cell_row(cell TEXT PRIMARY KEY, body TEXT NOT NULL)",
+        NoKeeper::Refused,
+    ),
+    (
+        "CREATE TABLE cachetags(tag TEXT PRIMARY KEY, invalidations BLOB NOT NULL); CREATE TABLE cell_row(cell TEXT PRIMARY KEY, body TEXT NOT NULL)",
+        NoKeeper::Refused,
+    ),
+    (
+        "CREATE TABLE cell_row(cell TEXT PRIMARY KEY, body TEXT NOT NULL); CREATE TABLE cachetags(tag TEXT PRIMARY KEY, invalidations BLOB NOT NULL); CREATE TABLE note(id INTEGER PRIMARY KEY)",
+        NoKeeper::Refused,
+    ),
+    (
+        "CREATE TABLE cell_row(cell TEXT PRIMARY KEY, body TEXT NOT NULL); CREATE TABLE cachetags(tag TEXT PRIMARY KEY, invalidations BLOB NOT NULL); CREATE INDEX by_body ON cell_row(body)",
+        NoKeeper::Refused,
+    ),
+    (
+        "CREATE TABLE cell_row(cell TEXT PRIMARY KEY, body TEXT NOT NULL); CREATE TABLE cachetags(tag TEXT PRIMARY KEY, invalidations BLOB NOT NULL); CREATE VIEW bodies AS SELECT body FROM cell_row",
+        NoKeeper::Refused,
+    ),
+    (
+        "CREATE TABLE cell_row(cell TEXT PRIMARY KEY, body TEXT NOT NULL CHECK (body <> '')); CREATE TABLE cachetags(tag TEXT PRIMARY KEY, invalidations BLOB NOT NULL)",
+        NoKeeper::Refused,
+    ),
+    (
+        "CREATE TABLE cell_row(cell TEXT PRIMARY KEY, body TEXT); CREATE TABLE cachetags(tag TEXT PRIMARY KEY, invalidations BLOB NOT NULL)",
+        NoKeeper::Shape(StoreTable::Cells),
+    ),
+    (
+        "CREATE TABLE cell_row(cell TEXT PRIMARY KEY, body TEXT NOT NULL); CREATE TABLE cachetags(tag TEXT PRIMARY KEY, invalidations INTEGER NOT NULL)",
+        NoKeeper::Shape(StoreTable::Tags),
+    ),
+    (
+        "CREATE TABLE CELL_ROW(cell TEXT, body TEXT NOT NULL, more TEXT)",
+        NoKeeper::Shape(StoreTable::Cells),
+    ),
 ];
 
 /// A database in memory after these statements.
@@ -90,7 +125,7 @@ fn loaded<S: Alter + Drop>(
 #[test]
 fn broken_rows_are_faults(rt: HostRuntime) -> Result<(), Fail> {
     for (row, want) in BROKEN {
-        let keeper = over(database(rt.alloc(), &[TABLES, row])?)?;
+        let keeper = over(&rt, database(rt.alloc(), &[TABLES, row])?)?;
         let (head, faults) = loaded(rt.alloc(), keeper);
         assert_eq!(rt; head, want, "{row}");
         assert_eq!(rt; faults, u64::from(want.is_err()), "{row}");
@@ -115,26 +150,24 @@ fn kept_by<S: Alter + Drop>(
     }
 }
 
-/// What a keeper tells of three batches, and how often it has failed then.
-fn told_of_three<S: Alter + Drop>(
-    alloc: Global,
-    mut keeper: SqliteKeeper<S>,
-) -> ([Result<Seen, KeeperFault>; 3], u64) {
-    let first = kept_by(alloc, &mut keeper, &BEGIN);
-    let second = kept_by(alloc, &mut keeper, &EDIT);
-    let third = kept_by(alloc, &mut keeper, &LAST);
-    ([first, second, third], keeper.faults())
+/// Why no keeper is opened over a database.
+fn refusal(rt: &HostRuntime, statements: &str) -> Result<Option<NoKeeper>, Error> {
+    let conn = database(rt.alloc(), &[statements])?;
+    match over(rt, conn) {
+        Ok(keeper) => {
+            drop(keeper);
+            Ok(None)
+        }
+        Err(why) => Ok(Some(why)),
+    }
 }
 
-/// Of a batch that is refused at some statement nothing is kept, and the next one is.
+/// A database that is no store is refused.
 #[test]
-fn a_keeper_goes_on_after_a_fault(rt: HostRuntime) -> Result<(), Fail> {
-    for tables in REFUSING {
-        let keeper = over(database(rt.alloc(), &[tables])?)?;
-        let (told, faults) = told_of_three(rt.alloc(), keeper);
-        let wanted = [Ok(BEGUN), Err(KeeperFault::Failed), Ok(GONE_ON)];
-        assert!(rt; told == wanted, "{tables}");
-        assert_eq!(rt; faults, 1, "{tables}");
+fn what_is_no_store_is_refused(rt: HostRuntime) -> Result<(), Fail> {
+    assert_eq!(rt; refusal(&rt, TABLES)?, None);
+    for (statements, why) in OTHERS {
+        assert_eq!(rt; refusal(&rt, statements)?, Some(why), "{statements}");
     }
     Ok(())
 }
@@ -155,8 +188,13 @@ fn kept_in<S: Alter + Drop>(
     }
 }
 
-/// The same of a file.
+/// The same of a file that is there or made.
 fn kept_at(rt: &HostRuntime, path: &str, words: &Words) -> [Result<Seen, KeeperFault>; 2] {
+    kept_in(rt.alloc(), open_or_make_keeper(rt, path), words)
+}
+
+/// The same of one that is there.
+fn kept_there(rt: &HostRuntime, path: &str, words: &Words) -> [Result<Seen, KeeperFault>; 2] {
     kept_in(rt.alloc(), open_keeper(rt, path), words)
 }
 
@@ -166,9 +204,67 @@ fn a_file_is_opened_again(rt: HostRuntime) -> Result<(), Fail> {
     let path = "kept.db";
     let refused = Err(KeeperFault::Failed);
     assert!(rt; kept_at(&rt, path, &BEGIN) == [Ok(NOTHING), Ok(BEGUN)]);
-    assert!(rt; kept_at(&rt, path, &EDIT) == [Ok(BEGUN), Ok(EDITED)]);
+    assert!(rt; kept_there(&rt, path, &EDIT) == [Ok(BEGUN), Ok(EDITED)]);
     fs::remove_file(&rt, path)?;
     fs::remove_file(&rt, "kept.db-wal")?;
     assert!(rt; kept_at(&rt, "no folder/kept.db", &BEGIN) == [refused, refused]);
+    Ok(())
+}
+
+/// Where no file is there none is made, unless a store is to be made.
+#[test]
+fn a_store_that_is_not_there_is_not_made(rt: HostRuntime) -> Result<(), Fail> {
+    let path = "absent.db";
+    let refused = Err(KeeperFault::Failed);
+    assert!(rt; kept_there(&rt, path, &BEGIN) == [refused, refused]);
+    assert!(rt; !fs::exists(&rt, path)?);
+    assert!(rt; !fs::exists(&rt, "absent.db-wal")?);
+    Ok(())
+}
+
+/// A file without a store is refused, and left as it is: an empty one, and one whose log was taken away.
+#[test]
+fn a_file_without_a_store_is_refused(rt: HostRuntime) -> Result<(), Fail> {
+    let refused = Err(KeeperFault::Failed);
+    fs::write(&rt, "empty.db", "")?;
+    assert!(rt; kept_at(&rt, "empty.db", &BEGIN) == [refused, refused]);
+    assert!(rt; kept_there(&rt, "empty.db", &BEGIN) == [refused, refused]);
+    fs::remove_file(&rt, "empty.db")?;
+    assert!(rt; kept_at(&rt, "cut.db", &BEGIN) == [Ok(NOTHING), Ok(BEGUN)]);
+    fs::remove_file(&rt, "cut.db-wal")?;
+    assert!(rt; kept_there(&rt, "cut.db", &EDIT) == [refused, refused]);
+    assert!(rt; kept_at(&rt, "cut.db", &EDIT) == [refused, refused]);
+    fs::remove_file(&rt, "cut.db")?;
+    Ok(())
+}
+
+/// A log whose file was taken away is no new store either.
+#[test]
+fn a_log_without_its_file_is_refused(rt: HostRuntime) -> Result<(), Fail> {
+    let refused = Err(KeeperFault::Failed);
+    assert!(rt; kept_at(&rt, "left.db", &BEGIN) == [Ok(NOTHING), Ok(BEGUN)]);
+    fs::remove_file(&rt, "left.db")?;
+    assert!(rt; kept_at(&rt, "left.db", &EDIT) == [refused, refused]);
+    assert!(rt; !fs::exists(&rt, "left.db")?);
+    fs::remove_file(&rt, "left.db-wal")?;
+    Ok(())
+}
+
+/// Another program's database is refused, and its tables are left as they are.
+#[test]
+fn a_database_of_other_tables_is_refused(rt: HostRuntime) -> Result<(), Fail> {
+    let path = "other.db";
+    let refused = Err(KeeperFault::Failed);
+    let mut conn = Connection::open(&rt, path)?;
+    conn.execute_batch("CREATE TABLE note (id INTEGER PRIMARY KEY, title TEXT)")?;
+    drop(conn);
+    assert!(rt; kept_at(&rt, path, &BEGIN) == [refused, refused]);
+    let mut conn = Connection::open(&rt, path)?;
+    let made = conn.execute("SELECT body FROM cell_row", &[]);
+    drop(conn);
+    assert!(rt; made.is_err());
+    for file in [path, "other.db-wal"] {
+        let _gone = fs::remove_file(&rt, file);
+    }
     Ok(())
 }

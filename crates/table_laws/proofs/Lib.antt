@@ -1,0 +1,14 @@
+pub mod Calls
+pub mod Edits
+pub mod Ids
+pub mod Over
+pub mod Pairs
+pub mod Picks
+pub mod Queries
+pub mod Shows
+pub mod Statements
+pub mod Texts
+pub mod Turns
+pub mod Upserts
+pub mod Values
+pub mod Writes

@@ -1,0 +1,4 @@
+pub mod Ids
+pub mod Moments
+pub mod Schema
+pub mod Stored
