@@ -1,3 +1,5 @@
+pub mod Back
+pub mod ComesBack
 pub mod NodesRight
 pub mod PeopleRight
 pub mod RowsRight

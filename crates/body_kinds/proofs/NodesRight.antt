@@ -1,5 +1,6 @@
 -- Nodes: what is let through is right.
-use Rattle.std.proofs.Common.{◌≡◌, ◌≤◌, ℕ, [], List, length, true, None, IsTrue, refl, codes, lit≤}
+use Rattle.std.proofs.Common.{◌≡◌, ◌≤◌, ℕ, [], List, length, map, true, None, IsTrue, refl, sym, subst, codes, lit≤, nat_cmp}
+use Rattle.std.specs.Cmp.Lexicographic.{slice_cmp}
 use Rattle.std.specs.List.{list_all}
 use Rattle.std.specs.List.Sorted.{IsStrictlySortedBy}
 use Rattle.std.specs.Prelude.{All}
@@ -7,7 +8,7 @@ use Rattle.serde_json.specs.Data.{Data, null, boolean, number, string, array, ob
 use Rattle.content_rows.specs.Kinds.{IsMoment, IsId, is_line, is_text, is_path, none_or}
 use Rattle.json_keys.specs.Checked.{read_checked}
 use Rattle.json_keys.specs.Fault.{ask_fault, is_wanted, members_in, pair_fault, pairs_fault, shape_fault, text_or}
-use Rattle.json_keys.specs.Order.{AllInOrder}
+use Rattle.json_keys.specs.Order.{AllInOrder, names_of}
 use Rattle.json_keys.specs.declared.shape.Shape.TheVariants as shape
 use Rattle.json_keys.proofs.Held.{neither}
 use Rattle.row_kinds.specs.Look.{small_in, text_in, option_in, items_in, list_in, texts_in, OrNone}
@@ -15,10 +16,10 @@ use Rattle.row_kinds.specs.Rows.{grant_row_in, IsTypedGrantRow}
 use Rattle.row_kinds.proofs.Codec.{Between}
 use Rattle.row_kinds.proofs.ContentLaws.{grant_rows}
 use Rattle.row_kinds.proofs.Fields.{AreTexts, fields, pair_right}
-use Rattle.row_kinds.proofs.Keys.{moment, owner_id, maybe_path, ids}
+use Rattle.row_kinds.proofs.Keys.{moment, next_id, owner_id, maybe_path, ids}
 use Rattle.row_kinds.proofs.Lists.{IsListOf, each_of, some_passes, for_some}
 use Rattle.row_kinds.proofs.Objects.{IsPassed, held, good}
-use Rattle.row_kinds.proofs.Strings.{Passes, line, uuid}
+use Rattle.row_kinds.proofs.Strings.{Passes, line, uuid, name_same}
 use Rattle.site_commands.specs.Right.{OfBody, IsRightNewNode, IsRightNodePatch}
 use Rattle.site_commands.specs.declared.body.FieldChange.{FieldChange}
 use Rattle.body_kinds.specs.Bodies.{changes_in, new_node_in, node_patch_in}
@@ -40,16 +41,30 @@ change_right k (number n) h = absurd cc
 change_right k (array ds) h = absurd cc
 change_right k (object ms) h = absurd cc
 
-abbrev AreChanges : List FieldChange → Type 0
-AreChanges changes = IsTrue (list_all (λ (c : FieldChange). none_or is_text c.value) changes)
+pub record AreChanges (changes : List FieldChange) : Type 0 where
+  pub texts : IsTrue (list_all (λ (c : FieldChange). none_or is_text c.value) changes)
+  pub by_name : IsStrictlySortedBy (slice_cmp nat_cmp) (map (λ (c : FieldChange). c.name) changes)
 
-changes_right : (ms : Members) → pairs_fault true ms ≡ None → AreChanges (changes_in ms)
-changes_right no_members h = refl
-changes_right (member k d ms) h =
-    let both = neither (pair_fault k (text_or true d)) (pairs_fault true ms) h in rw (change_right k d both.0, changes_right ms both.1) refl
+no_changes : AreChanges []
+unfolding IsStrictlySortedBy
+no_changes = record { texts = refl; by_name = tt }
+
+texts_right : (ms : Members) → pairs_fault true ms ≡ None → IsTrue (list_all (λ (c : FieldChange). none_or is_text c.value) (changes_in ms))
+texts_right no_members h = refl
+texts_right (member k d ms) h =
+    let both = neither (pair_fault k (text_or true d)) (pairs_fault true ms) h in rw (change_right k d both.0, texts_right ms both.1) refl
+
+names_kept : (ms : Members) → pairs_fault true ms ≡ None → map (λ (c : FieldChange). c.name) (changes_in ms) ≡ names_of ms
+names_kept no_members h = refl
+names_kept (member k d ms) h =
+    let both = neither (pair_fault k (text_or true d)) (pairs_fault true ms) h in
+    rw (name_same k (pair_right k (text_or true d) both.0).0, names_kept ms both.1) refl
 
 changes_at : (d : Data) → AllInOrder d → shape_fault (shape.Texts true) d ≡ None → AreChanges (changes_in (members_in d))
-changes_at (object ms) o h = changes_right ms h
+changes_at (object ms) o h = record {
+  texts = texts_right ms h;
+  by_name = subst (IsStrictlySortedBy (slice_cmp nat_cmp)) (sym (names_kept ms h)) o.0;
+}
 changes_at null o h = absurd cc
 changes_at (boolean b) o h = absurd cc
 changes_at (number n) o h = absurd cc
@@ -93,16 +108,18 @@ new_node_right d o = checked_right new_node_in new_node_keys IsRightNewNode d o 
 node_patch : (d : Data) → IsPassed ask_fault is_wanted node_patch_keys d → IsRightNodePatch (node_patch_in d)
 node_patch d p =
     let created_is = sent_right p (codes "created") _ refl moment in
-    let fields_is = read_right (λ v. changes_in (members_in v)) AreChanges p (codes "fields") _ refl changes_at refl in
+    let fields_is = read_right (λ v. changes_in (members_in v)) AreChanges p (codes "fields") _ refl changes_at no_changes in
     let grants_is = sent_right p (codes "grants") _ refl grant_rows in
     let path_is = sent_right p (codes "path") _ refl maybe_path in
     let refs_is = sent_right p (codes "refs") _ refl (ids 8) in
     let terms_is = sent_right p (codes "terms") _ refl (ids 32) in
     let title_is = sent_right p (codes "title") _ refl (line 255) in
     let uid_is = sent_right p (codes "uid") _ refl owner_id in
+    let vid_is = good (held p) (codes "vid") _ refl refl next_id in
     record {
       created = for_some (Between 0 4102444800) IsMoment (λ n g. g.1) (node_patch_in d).created created_is;
-      field_texts = fields_is;
+      field_texts = fields_is.texts;
+      by_name = fields_is.by_name;
       few_grants = for_some (IsListOf 64 IsTypedGrantRow) (λ xs. length xs ≤ 64) (λ xs g. g.0) (node_patch_in d).grants grants_is;
       path = for_some (OrNone (Passes is_path)) (λ path. IsTrue (none_or is_path path)) (some_passes is_path) (node_patch_in d).path path_is;
       few_refs = for_some (IsListOf 8 (Between 1 4294967294)) (λ xs. length xs ≤ 8) (λ xs g. g.0) (node_patch_in d).refs refs_is;
@@ -111,6 +128,7 @@ node_patch d p =
       terms = for_some (IsListOf 32 (Between 1 4294967294)) (All IsId) (few_ids 32) (node_patch_in d).terms terms_is;
       title = for_some (Passes (is_line 255)) (Passes (is_line 255)) (λ t g. g) (node_patch_in d).title title_is;
       uid = for_some (Between 0 4294967294) (λ n. n ≤ 4294967294) (λ n g. g.1) (node_patch_in d).uid uid_is;
+      vid = vid_is.0;
     }
 
 pub node_patch_right : (d : Data) → AllInOrder d → OfBody IsRightNodePatch (read_checked node_patch_in node_patch_keys d)

@@ -20,7 +20,7 @@ use Rattle.body_kinds.proofs.Said.{sent_right, read_right, checked_right}
 
 -- ---- terms
 
-empty_text : is_text [] ≡ true
+pub empty_text : is_text [] ≡ true
 empty_text = ascii_utf8 is_uuid_byte uuid_byte [] refl
 
 new_term : (d : Data) → IsPassed ask_fault is_wanted new_term_keys d → IsRightNewTerm (new_term_in d)
@@ -51,9 +51,16 @@ new_user : (d : Data) → IsPassed ask_fault is_wanted new_user_keys d → IsRig
 new_user d p =
     let grants_is = read_right (λ v. list_in grant_in (items_in v)) (IsListOf 64 IsTypedGrant) p (codes "grants") _ refl grants.right (lit≤ tt, tt) in
     let name_is = good (held p) (codes "name") _ refl refl (line 60) in
+    let pass_is = sent_right p (codes "pass") _ refl (line 128) in
     let roles_is = read_right (λ v. list_in name_in (items_in v)) (IsListOf 32 IsNameText) p (codes "roles") _ refl names.right (lit≤ tt, tt) in
     let uuid_is = good (held p) (codes "uuid") _ refl refl uuid in
-    record { few_grants = grants_is.0; name = name_is; few_roles = roles_is.0; uuid = uuid_is }
+    record {
+      few_grants = grants_is.0;
+      name = name_is;
+      pass = for_some (Passes (is_line 128)) (Passes (is_line 128)) (λ t g. g) (new_user_in d).pass pass_is;
+      few_roles = roles_is.0;
+      uuid = uuid_is;
+    }
 
 pub new_user_right : (d : Data) → AllInOrder d → OfBody IsRightNewUser (read_checked new_user_in new_user_keys d)
 new_user_right d o = checked_right new_user_in new_user_keys IsRightNewUser d o (new_user d)
@@ -62,10 +69,12 @@ user_patch : (d : Data) → IsPassed ask_fault is_wanted user_patch_keys d → I
 user_patch d p =
     let grants_is = sent_right p (codes "grants") _ refl grants in
     let name_is = sent_right p (codes "name") _ refl (line 60) in
+    let pass_is = sent_right p (codes "pass") _ refl (line 128) in
     let roles_is = sent_right p (codes "roles") _ refl names in
     record {
       few_grants = for_some (IsListOf 64 IsTypedGrant) (λ xs. length xs ≤ 64) (λ xs g. g.0) (user_patch_in d).grants grants_is;
       name = for_some (Passes (is_line 60)) (Passes (is_line 60)) (λ t g. g) (user_patch_in d).name name_is;
+      pass = for_some (Passes (is_line 128)) (Passes (is_line 128)) (λ t g. g) (user_patch_in d).pass pass_is;
       few_roles = for_some (IsListOf 32 IsNameText) (λ xs. length xs ≤ 32) (λ xs g. g.0) (user_patch_in d).roles roles_is;
     }
 

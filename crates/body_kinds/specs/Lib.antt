@@ -1,3 +1,4 @@
 pub mod Bodies
 pub mod SetRows
 pub mod Tables
+pub mod Written

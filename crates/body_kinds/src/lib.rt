@@ -5,6 +5,8 @@
 //! out reads as what its absence says.
 #![tactic(auto)]
 
+mod bodies;
+mod laws;
 mod node;
 mod read;
 mod row;
@@ -12,6 +14,9 @@ mod tables;
 mod term;
 mod user;
 
-pub use read::{ReadBody, body_read};
+pub use bodies::{new_node, new_term, new_user, node_patch, term_patch, user_patch};
+pub use laws::{
+    new_nodes_come_back, new_terms_come_back, new_users_come_back, node_patches_come_back,
+    term_patches_come_back, user_patches_come_back,
+};
 pub use row::{config_row, settings_row};
-pub use tables::{NEW_NODE, NEW_TERM, NEW_USER, NODE_PATCH, TERM_PATCH, USER_PATCH};

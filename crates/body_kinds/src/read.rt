@@ -12,7 +12,7 @@ use serde_json::Value;
 use std::alloc::{AllocError, Global};
 
 /// The body of an edit, which is read of JSON.
-pub trait ReadBody: Drop {
+pub(crate) trait ReadBody: Drop {
     ghost use Rattle.serde_json.specs.Data.{Data};
 
     /// What is read of a value: of one that no table lets through something that nobody sees.
@@ -26,7 +26,7 @@ pub trait ReadBody: Drop {
 /// What an object says as a body, by its table of keys, or the first rule that it breaks: that of
 /// a key which is there, in the order of their bytes, else that of a missing key. `Err` only
 /// where memory is wanting.
-pub fn body_read<T: ReadBody>(
+pub(crate) fn body_read<T: ReadBody>(
     alloc: Global,
     keys: &[Key],
     value: &Value,

@@ -21,8 +21,7 @@ use crate::body::{Body, object_in};
 use crate::keys::{has, node_keys, node_type_in, user_keys};
 use crate::words::{Words, digits_of};
 use body_kinds::{
-    NEW_NODE, NEW_TERM, NEW_USER, NODE_PATCH, TERM_PATCH, USER_PATCH, body_read, config_row,
-    settings_row,
+    config_row, new_node, new_term, new_user, node_patch, settings_row, term_patch, user_patch,
 };
 use cacheability::Name;
 use content_rows::Duplicate;
@@ -81,7 +80,7 @@ fn command_at(
         Edit::CreateNode => Command::CreateNode(node_creation(alloc, value)?),
         Edit::ChangeNode(nid) => Command::ChangeNode(node_change(alloc, *nid, value)?),
         Edit::RemoveNode(nid) => Command::RemoveNode(*nid),
-        Edit::CreateTerm => Command::CreateTerm(body_read(alloc, &NEW_TERM, value)?),
+        Edit::CreateTerm => Command::CreateTerm(new_term(alloc, value)?),
         Edit::ChangeTerm(tid) => Command::ChangeTerm(term_change(alloc, *tid, value)?),
         Edit::RemoveTerm(tid) => Command::RemoveTerm(*tid),
         Edit::CreateUser => Command::CreateUser(user_creation(alloc, value, words)?),
@@ -102,7 +101,7 @@ fn node_creation(alloc: Global, value: &Value) -> Result<NodeCreation, AllocErro
     Ok(NodeCreation {
         node_type: node_type_in(value),
         keys: node_keys(alloc, value)?,
-        body: body_read(alloc, &NEW_NODE, value)?,
+        body: new_node(alloc, value)?,
     })
 }
 
@@ -113,7 +112,7 @@ fn node_change(alloc: Global, nid: Option<u32>, value: &Value) -> Result<NodeCha
     Ok(NodeChange {
         nid,
         keys: node_keys(alloc, value)?,
-        body: body_read(alloc, &NODE_PATCH, value)?,
+        body: node_patch(alloc, value)?,
     })
 }
 
@@ -123,7 +122,7 @@ fn term_change(alloc: Global, tid: Option<u32>, value: &Value) -> Result<TermCha
 {
     Ok(TermChange {
         tid,
-        body: body_read(alloc, &TERM_PATCH, value)?,
+        body: term_patch(alloc, value)?,
     })
 }
 
@@ -138,7 +137,7 @@ fn user_creation(
     Ok(UserCreation {
         keys: user_keys(value),
         salt: salt_in(value, words),
-        body: body_read(alloc, &NEW_USER, value)?,
+        body: new_user(alloc, value)?,
     })
 }
 
@@ -155,7 +154,7 @@ fn user_change(
         uid,
         keys: user_keys(value),
         salt: salt_in(value, words),
-        body: body_read(alloc, &USER_PATCH, value)?,
+        body: user_patch(alloc, value)?,
     })
 }
 

@@ -52,6 +52,7 @@ pub record IsRightNewNode (new : NewNode) : Type 0 where
 pub record IsRightNodePatch (patch : NodePatch) : Type 0 where
   pub created : ForSome patch.created IsMoment
   pub field_texts : IsTrue (list_all (λ change. none_or is_text change.value) patch.fields)
+  pub by_name : IsStrictlySortedBy (slice_cmp nat_cmp) (map (λ change. change.name) patch.fields)
   pub few_grants : ForSome patch.grants (λ grants. length grants ≤ 64)
   pub path : ForSome patch.path (λ path. IsTrue (none_or is_path path))
   pub few_refs : ForSome patch.refs (λ refs. length refs ≤ 8)
@@ -60,6 +61,7 @@ pub record IsRightNodePatch (patch : NodePatch) : Type 0 where
   pub terms : ForSome patch.terms (All IsId)
   pub title : ForSome patch.title (λ title. IsTrue (is_line 255 title))
   pub uid : ForSome patch.uid (λ uid. uid ≤ 4294967294)
+  pub vid : 1 ≤ patch.vid
 
 pub record IsRightNewTerm (new : NewTerm) : Type 0 where
   pub description : IsTrue (is_text new.description)
@@ -73,12 +75,14 @@ pub record IsRightTermPatch (patch : TermPatch) : Type 0 where
 pub record IsRightNewUser (new : NewUser) : Type 0 where
   pub few_grants : length new.grants ≤ 64
   pub name : IsTrue (is_line 60 new.name)
+  pub pass : ForSome new.pass (λ pass. IsTrue (is_line 128 pass))
   pub few_roles : length new.roles ≤ 32
   pub uuid : IsTrue (is_uuid new.uuid)
 
 pub record IsRightUserPatch (patch : UserPatch) : Type 0 where
   pub few_grants : ForSome patch.grants (λ grants. length grants ≤ 64)
   pub name : ForSome patch.name (λ name. IsTrue (is_line 60 name))
+  pub pass : ForSome patch.pass (λ pass. IsTrue (is_line 128 pass))
   pub few_roles : ForSome patch.roles (λ roles. length roles ≤ 32)
 
 -- ---- commands
