@@ -16,7 +16,7 @@ use Rattle.cache_entries.specs.declared.kept.Kept.{Kept}
 use Rattle.site_commands.specs.Judged.{judged}
 use Rattle.site_commands.specs.declared.command.Command.{Command}
 use Rattle.site_keeper.specs.Batch.{Batch}
-use Rattle.site_house.specs.House.{IsSublist, AreValid, CountRose, Moves, KeepsAll, Accepts, Fails, up}
+use Rattle.site_house.specs.House.{IsSublist, AreOwn, AreValid, CountRose, Moves, KeepsAll, Accepts, Fails, up}
 use Rattle.site_house.proofs.Moving.{begins_same, begins_more, moves_same}
 use Rattle.site_hall.specs.Hall.{HallView, with_stock, IsHall, Settles, StaysSteadfast, settled_by, with_pending, number_of}
 use Rattle.site_hall.specs.ReadyEdit.{Ready}
@@ -185,6 +185,16 @@ valid_seen hall h = go hall.pending h.valid
     go None valid = valid
     go (Some c) valid = valid_front hall.base hall.log c valid
 
+-- its edits since the caller came are of those that it handed in, in that order
+pub alone_own : (a : AloneView) → IsAlone a → AreOwn (house_of a)
+alone_own a is = sublist_filter (λ commit. commit.pass == 0) (drop a.opened a.hall.log) a.handed (seen a.hall.pending is.own)
+  where
+    seen : (pending : Option Commit) → IsSublist (own_in a.opened a.hall.log pending) a.handed → IsSublist (drop a.opened a.hall.log) a.handed
+    seen None own = own
+    seen (Some c) own =
+        sublist_front (drop a.opened a.hall.log) a.handed c
+        (subst (λ (l : List Commit). IsSublist l a.handed) (own_more a.opened a.hall.log c is.opened_before) own)
+
 pub alone_moves : (old new : AloneView) → IsAlone new → new.opened ≡ old.opened → new.hall.base ≡ old.hall.base → Begins old.hall.log new.hall.log → old.hall.faults ≤ new.hall.faults
     → StaysSteadfast old.hall new.hall → (new.keepers ≡ old.keepers) ⊎ CountRose old.hall.faults new.hall.faults → old.unkept ≤ new.unkept → Moves (house_of old) (house_of new)
 alone_moves old new is opened base grows never_falls steady cause unkept = record {
@@ -197,16 +207,10 @@ alone_moves old new is opened base grows never_falls steady cause unkept = recor
   steadfast = steady.tells;
   never_fails = steady.stays;
   cause = cause;
-  own = λ _. sublist_filter (λ commit. commit.pass == 0) (drop new.opened new.hall.log) new.handed (seen new.hall.pending is.own);
+  own = λ _. alone_own new is;
   told = refl;
   unkept = unkept;
 }
-  where
-    seen : (pending : Option Commit) → IsSublist (own_in new.opened new.hall.log pending) new.handed → IsSublist (drop new.opened new.hall.log) new.handed
-    seen None own = own
-    seen (Some c) own =
-        sublist_front (drop new.opened new.hall.log) new.handed c
-        (subst (λ (l : List Commit). IsSublist l new.handed) (own_more new.opened new.hall.log c is.opened_before) own)
 
 -- ---- what becomes of an edit
 

@@ -1,6 +1,6 @@
 //! A caller that has a hall for itself.
 ghost use Rattle.std.specs.Prelude.{◌≡◌, ◌≤◌, [], length, None, IfErr, OnOk};
-ghost use Rattle.site_house.specs.House.{up};
+ghost use Rattle.site_house.specs.House.{AreOwn, up};
 ghost use Rattle.site_hall.specs.Ready.{MayBeNext, published};
 ghost use Rattle.site_hall.specs.Alone.{IsAlone, house_of};
 ghost use Rattle.site_hall.specs.Hall.{StaysSteadfast};
@@ -47,6 +47,7 @@ impl<K: Keeper> Alone<K> {
         requires { hall.pending ≡ None }
         ensures alone { result ≡ record { hall = hall; opened = length hall.log; handed = []; keepers = 0; unkept = 0 } }
         ensures is_alone { IsAlone result }
+        ensures own { AreOwn (house_of result) }
     {
         let opened = hall.len();
         Alone {

@@ -5,7 +5,7 @@ ghost use Rattle.std.specs.Option.{option_copied};
 ghost use Rattle.content_rows.specs.Kinds.{IsMoment};
 ghost use Rattle.content_state.specs.Replay.{replay};
 ghost use Rattle.site_commands.specs.Right.{IsRight};
-ghost use Rattle.site_house.specs.House.{HouseView, Answers, AreValid, Moves, Stays, KeepsAll};
+ghost use Rattle.site_house.specs.House.{HouseView, Answers, AreOwn, AreValid, Moves, Stays, KeepsAll};
 ghost use Rattle.site_house.specs.Bins.{MayBeKeptIn, IsSoundIn, LooksUp, KeepsUnder, SeenStay, SoundStay};
 
 use cache_entries::{Bin, Found, Kept, Key};
@@ -15,7 +15,8 @@ use std::alloc::{AllocError, Global};
 use std::sync::Arc;
 
 /// The committed states of a site, as one caller sees them, and what is kept of its pages. Other callers may edit and keep
-/// meanwhile: what this one has seen only grows.
+/// meanwhile: what this one has seen only grows. Each edit of its pass there that came after the pass was opened is one that
+/// it handed in, in that order: whatever it is asked, it tells so of itself as it is then.
 pub trait House {
     /// All that contracts see of it.
     ghost sees: { Self → HouseView };
@@ -24,6 +25,7 @@ pub trait House {
     /// each that these edits make of it. `Err` only where memory is wanting.
     fn snapshot(&mut self, alloc: Global) -> Result<Arc<State>, AllocError>
         ensures moves { Moves (sees self.old) (sees self.new) }
+        ensures own { AreOwn (sees self.new) }
         ensures stays { Stays (sees self.old) (sees self.new) }
         ensures keeps_all { KeepsAll (sees self.old) (sees self.new) }
         ensures state { IfOk result (λ s. arc_value s ≡ replay (sees self.new).base (sees self.new).seen) }
@@ -45,6 +47,7 @@ pub trait House {
         requires right { IsRight command.now }
         requires moment { IsMoment now }
         ensures moves { Moves (sees self.old) (sees self.new) }
+        ensures own { AreOwn (sees self.new) }
         ensures keeps_all { KeepsAll (sees self.old) (sees self.new) }
         ensures answers { Answers result (sees self.old) (sees self.new) ask.now (option_copied csrf.entry) command.now now }
         ensures valid { AreValid (sees self.new).base (sees self.new).seen };
@@ -53,6 +56,7 @@ pub trait House {
     /// made on. `Err` only where memory is wanting.
     fn look(&mut self, alloc: Global, bin: Bin, key: &Key) -> Result<Found, AllocError>
         ensures moves { Moves (sees self.old) (sees self.new) }
+        ensures own { AreOwn (sees self.new) }
         ensures stays { Stays (sees self.old) (sees self.new) }
         ensures looks { LooksUp (sees self.old) (sees self.new) bin key.now result }
         ensures sound { IfOk result (λ found. IsSoundIn (sees self.new) key.now found) };
@@ -62,16 +66,19 @@ pub trait House {
     fn keep(&mut self, alloc: Global, bin: Bin, key: Key, kept: Kept) -> Result<(), AllocError>
         requires { MayBeKeptIn (sees self.old) key kept }
         ensures moves { Moves (sees self.old) (sees self.new) }
+        ensures own { AreOwn (sees self.new) }
         ensures stays { Stays (sees self.old) (sees self.new) }
         ensures keeps { KeepsUnder (sees self.old) (sees self.new) bin key kept result };
 
     /// How often the keeper of the rows has failed, up to the greatest u64. It never falls.
     fn faults(&self) -> u64
-        ensures { result ≡ (sees self.now).faults };
+        ensures count { result ≡ (sees self.now).faults }
+        ensures own { AreOwn (sees self.now) };
 
     /// How often something wasn't kept for want of memory, up to the greatest u64. It never falls.
     fn unkept(&self) -> u64
-        ensures { result ≡ (sees self.now).unkept };
+        ensures count { result ≡ (sees self.now).unkept }
+        ensures own { AreOwn (sees self.now) };
 }
 
 /// The laws of what calls do to a house: doing nothing is such a move, and two moves after each other are one.

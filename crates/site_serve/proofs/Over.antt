@@ -31,6 +31,8 @@ one_over law whole old new one follows = record {
   next = one.next;
   later = one.later;
   given_back = one.given_back;
+  reads = one.reads;
+  writes = one.writes;
   connection = subst (λ history. Connection one.back.end (around_of old one.line) (around_of new one.back.line) history 1000 (newest old.history)) (is_longer new.history whole follows)
       (law one.back.end (around_of old one.line) (around_of new one.back.line) new.history follows.grows.0 1000 (newest old.history) one.connection);
   follows = follows_then old.history new.history whole one.follows follows;

@@ -1,5 +1,5 @@
 -- What the crew did, worker by worker.
-use Rattle.std.proofs.Common.{◌≡◌, ◌∙◌, ◌+◌, ◌==◌, ◌&&◌, ℕ, List, [], ◌∷◌, Bool, All, map, length, drop, sum_by, refl, ap, sym, subst, arith}
+use Rattle.std.proofs.Common.{◌≡◌, ◌∙◌, ◌+◌, ◌==◌, ◌&&◌, ◌++◌, ℕ, List, [], ◌∷◌, Bool, All, map, length, drop, sum_by, option_to_list, refl, ap, sym, subst, arith}
 use Rattle.std.proofs.lemmas.Bool.{ne_eqb}
 use Rattle.std.proofs.lemmas.List.Sums.{sum_by-cons}
 use Rattle.std.proofs.lemmas.List.Elements.{All-nil, All-cons, All-head, All-tail}
@@ -95,8 +95,8 @@ module _ (law : Grows) (old new : HallView) (footing : Footing) (opened : footin
         none_out = did.none_out;
         moments = did.moments;
         words = did.words;
-        own = subst (λ n. IsSublist (by_pass n (drop (length old.log) new.log)) note.handed) number_is
-            (subst (λ n. IsSublist (by_pass note.number (drop n new.log)) note.handed) length_is knows.own);
+        own = subst (λ n. IsSublist (by_pass n (drop (length old.log) new.log ++ option_to_list new.pending)) note.handed) number_is
+            (subst (λ n. IsSublist (by_pass note.number (drop n new.log ++ option_to_list new.pending)) note.handed) length_is knows.own);
       }
 
   -- what all members did

@@ -1,5 +1,5 @@
 -- What many workers do over one hall.
-use Rattle.std.specs.Prelude.{ℕ, zero, suc, List, [], ◌∷◌, ◌++◌, ◌≡◌, ◌+◌, ◌<◌, Bool, true, false, All, map, length, drop, sum_by, option_to_list}
+use Rattle.std.specs.Prelude.{ℕ, zero, suc, List, [], ◌∷◌, ◌++◌, ◌≡◌, ◌+◌, ◌<◌, Bool, true, false, All, map, length, drop, sum_by, option_to_list, None}
 use Rattle.std.specs.List.{list_all}
 use Rattle.content_state.specs.Replay.{Begins}
 use Rattle.content_state.specs.declared.commit.Commit.{Commit}
@@ -41,7 +41,7 @@ pub record Shift : Type 0 where
   pub keepers : ℕ
   pub seen : List Commit
 
--- what a worker takes from and adds to, at its station
+-- what a worker takes from and adds to, at its station; what is kept isn't told, since others keep and drop it meanwhile
 abbrev pub bench_of : StationView → List Commit → ℕ → History → Bench
 bench_of station handed keepers history = record {
   coming = station.coming;
@@ -51,6 +51,7 @@ bench_of station handed keepers history = record {
   points = station.points;
   handed = handed;
   keepers = keepers;
+  kept = None;
   history = history;
 }
 
@@ -60,8 +61,8 @@ history_in hall number log = record { base = hall.base; log = log; pass = number
 
 -- A worker began with what the hall had published at the opening, and served its connections over the log of the hall at the end,
 -- of which it had seen a front. Its door failed exactly where it stopped for that; no connection is out; its clock and its chance
--- gave in turn. Its edits in that log, those past the opening that bear its number, are of those that its connections handed in,
--- in that order.
+-- gave in turn. Its edits in that log, those past the opening that bear its number, and the pending one where that bears it, are of
+-- those that its connections handed in, in that order.
 pub record IsShift (old new : HallView) (shift : Shift) : Type 0 where
   pub serves : ServesOver (history_in old shift.number new.log) shift.count
       (bench_of shift.before [] 0 (history_in old shift.number old.log))
@@ -71,7 +72,7 @@ pub record IsShift (old new : HallView) (shift : Shift) : Type 0 where
   pub none_out : shift.after.is_out ≡ false
   pub moments : GivesInTurn last_moment shift.before.moments shift.after.moments shift.before.given shift.after.given
   pub words : GivesInTurn last_word shift.before.chances shift.after.chances shift.before.words shift.after.words
-  pub own : IsSublist (by_pass shift.number (drop (length old.log) new.log)) shift.handed
+  pub own : IsSublist (by_pass shift.number (drop (length old.log) new.log ++ option_to_list new.pending)) shift.handed
 
 -- ---- all workers
 

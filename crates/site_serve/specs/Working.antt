@@ -4,6 +4,7 @@ use Rattle.std.specs.List.{AllZip}
 use Rattle.atomic_table.specs.Seated.{TableId}
 use Rattle.site_io.specs.Series.{GivesInTurn, last_moment, last_word}
 use Rattle.site_house.specs.House.{HouseView, Moves, history_of}
+use Rattle.site_http.specs.Kept.{shelves_of}
 use Rattle.site_http.specs.Work.{Bench, CountsDoor, Works}
 use Rattle.site_http.specs.declared.worker.Worked.{Worked}
 use Rattle.site_http.specs.declared.worker.Worked.TheVariants as worked
@@ -18,7 +19,7 @@ use Rattle.site_serve.specs.Serving.{bench_of}
 
 -- a station and a house, as a worker has them
 abbrev pub bench_in : StationView → HouseView → Bench
-bench_in station house = bench_of station house.handed house.keepers (history_of house)
+bench_in station house = record (bench_of station house.handed house.keepers (history_of house)) { kept = shelves_of house }
 
 -- A worker served connections at its station, in this house, as it had leave to.
 pub record DidServe (old new : StationView) (claimer claimer-after : ClaimerView) (end : Worked) (before after : HouseView) : Type 0 where

@@ -11,7 +11,8 @@ use Rattle.turn_rule.specs.declared.notes.FounderNote.{FounderNote}
 use Rattle.turn_rule.specs.declared.notes.Note.{Note}
 use Rattle.turn_rule.specs.Rule.{IsFresh, KeepsRule}
 use Rattle.turn_rule.specs.Steps.{HasNumber, with_hall, with_passes, founding}
-use Rattle.turn_rule.specs.Words.{InPlainWords, since}
+use Rattle.turn_rule.specs.Logs.{since}
+use Rattle.turn_rule.specs.Words.{InPlainWords}
 use Rattle.turn_rule.proofs.Moves.{is_opened}
 use Rattle.turn_rule.proofs.Closing.{sites_closed}
 use Rattle.turn_rule.proofs.Words.{plain_words}

@@ -1,7 +1,8 @@
 -- What a guest's turn is to its house.
-use Rattle.std.proofs.Common.{◌≡◌, ◌≤◌, ◌⊎◌, ℕ, List, [], ◌∷◌, ◌++◌, length, drop, Bool, true, false, Option, refl, sym, ap, ◌∙◌, subst, inl, inr, arith, append-nil, le_refl}
+use Rattle.std.proofs.Common.{◌≡◌, ◌≤◌, ◌⊎◌, ℕ, List, [], ◌∷◌, ◌++◌, length, Bool, true, false, Option, refl, sym, ap, ◌∙◌, subst, inl, inr, arith, append-nil, le_refl}
 use Rattle.std.specs.Prelude.{Result, IfOk}
 use Rattle.std.specs.declared.alloc.AllocError.{AllocError}
+use Rattle.atomic_table.specs.Seated.{TableId}
 use Rattle.cache_entries.specs.declared.key.Key.{Key}
 use Rattle.cache_entries.specs.declared.kept.Found.{Found}
 use Rattle.cache_entries.specs.declared.kept.Kept.{Kept}
@@ -17,7 +18,7 @@ use Rattle.site_commands.specs.declared.answer.Done.{Done}
 use Rattle.site_commands.specs.declared.answer.Refusal.{Refusal}
 use Rattle.site_commands.specs.declared.command.Command.{Command}
 use Rattle.site_house.specs.History.{newest_of}
-use Rattle.site_house.specs.House.{HouseView, AreValid, IsSublist, by_pass, CountRose, Moves, Stays, up, Accepts, Refuses, Fails, Answers}
+use Rattle.site_house.specs.House.{HouseView, AreValid, CountRose, Moves, Stays, up, Accepts, Refuses, Fails, Answers}
 use Rattle.site_hall.specs.Hall.{HallView, IsHall, number_of, FailsApply, FailsHead}
 use Rattle.site_hall.specs.Hall as hall
 use Rattle.site_hall.specs.Looked.{IsSoundIn, MayBeKept}
@@ -26,8 +27,9 @@ use Rattle.site_hall.proofs.Stocks.{kept_more}
 use Rattle.turn_rule.specs.declared.notes.TallyNote.{TallyNote}
 use Rattle.turn_rule.specs.declared.notes.HallNote.{HallNote}
 use Rattle.turn_rule.specs.declared.notes.PassNote.{PassNote}
-use Rattle.turn_rule.specs.Steps.{zeros, given, Knows}
+use Rattle.turn_rule.specs.Steps.{zeros, given, AreOwnIn, Knows}
 use Rattle.turn_rule.proofs.Edits.{begins_then}
+use Rattle.turn_rule.proofs.Books.{own_in_log}
 use Rattle.site_turn.specs.Views.{PassView, noted}
 use Rattle.site_turn.specs.Turns.{Went, Looks, Commits}
 use Rattle.site_turn.specs.Houses.{table_name, house_of, guest_of, keepers_after}
@@ -36,6 +38,10 @@ use Rattle.site_turn.proofs.Halls.{settled_is, accepted_given, failed_given}
 module _ (more : TallyNote) (hands : Bool) (old new : PassNote) (after : HallNote) (w : Went more hands old new after) where
   seen_is : new.seen ≡ after.log
   seen_is = ap (λ (p : PassNote). p.seen) w.is
+
+  -- its own edits in what it has seen are of those that it handed in
+  pub went_own : AreOwnIn new new.seen
+  went_own = subst (AreOwnIn new) (sym seen_is) (own_in_log after new w.knows)
 
   pub went_moves : (name : List ℕ) (keepers keepers' unkept unkept' : ℕ) → unkept ≤ unkept' → (keepers' ≡ keepers) ⊎ CountRose old.faults new.faults → Moves (house_of old name keepers unkept) (house_of new name keepers' unkept')
   went_moves name keepers keepers' unkept unkept' rose cause = record {
@@ -48,7 +54,7 @@ module _ (more : TallyNote) (hands : Bool) (old new : PassNote) (after : HallNot
     steadfast = ap (λ (p : PassNote). p.opened.loaded.steadfast) w.is;
     never_fails = w.steady;
     cause = cause;
-    own = λ _. subst (λ (l : List Commit). IsSublist (by_pass new.number (drop (length new.opened.log) l)) new.handed) (sym seen_is) w.knows.own;
+    own = λ _. went_own;
     told = refl;
     unkept = rose;
   }
@@ -70,14 +76,25 @@ went_valid : (more : TallyNote) (hands : Bool) (old new : PassNote) (after : Hal
 went_valid more hands old new after w h =
     subst (λ (t : State × List Commit). AreValid t.0 t.1) (λ i. (sym (base_is new after w.knows) i, sym (seen_is more hands old new (noted after) w) i)) (valid_seen after h)
 
-pub looks_valid : (more : TallyNote) (old new : PassNote) → Looks more old new → AreValid new.opened.loaded.base new.seen
-looks_valid more old new l = went_valid more false old new l.hall l.went l.is_hall
+module _ (more : TallyNote) (does : HallView → HallView → Type 0) (old new : PassNote) where
+  pub looks_valid : Looks more does old new → AreValid new.opened.loaded.base new.seen
+  looks_valid l = went_valid more false old new l.after l.went l.is_hall
 
-pub looks_moves : (more : TallyNote) (old new : PassNote) (name : List ℕ) (keepers unkept unkept' : ℕ) → unkept ≤ unkept' → Looks more old new → Moves (house_of old name keepers unkept) (house_of new name keepers unkept')
-looks_moves more old new name keepers unkept unkept' rose l = went_moves more false old new (noted l.hall) l.went name keepers keepers unkept unkept' rose (inl refl)
+  pub looks_moves : (name : List ℕ) (keepers unkept unkept' : ℕ) → unkept ≤ unkept' → Looks more does old new → Moves (house_of old name keepers unkept) (house_of new name keepers unkept')
+  looks_moves name keepers unkept unkept' rose l = went_moves more false old new (noted l.after) l.went name keepers keepers unkept unkept' rose (inl refl)
 
-pub looks_stays : (more : TallyNote) (old new : PassNote) (name : List ℕ) (keepers unkept unkept' : ℕ) → Looks more old new → Stays (house_of old name keepers unkept) (house_of new name keepers unkept')
-looks_stays more old new name keepers unkept unkept' l = stays more false old new (noted l.hall) l.went name keepers unkept unkept' refl
+  pub looks_stays : (name : List ℕ) (keepers unkept unkept' : ℕ) → Looks more does old new → Stays (house_of old name keepers unkept) (house_of new name keepers unkept')
+  looks_stays name keepers unkept unkept' l = stays more false old new (noted l.after) l.went name keepers unkept unkept' refl
+
+  pub looks_own : Looks more does old new → AreOwnIn new new.seen
+  looks_own l = went_own more false old new (noted l.after) l.went
+
+-- the same, of a guest whose site is in the same table
+pub guest_looks : (more : TallyNote) (does : HallView → HallView → Type 0) (old new : PassView) (borrow keepers unkept unkept' : ℕ) → new.table ≡ old.table → unkept ≤ unkept' → Looks more does old.note new.note
+    → Moves (guest_of old borrow keepers unkept) (guest_of new borrow keepers unkept')
+guest_looks more does old new borrow keepers unkept unkept' same rose l =
+    subst (λ (t : TableId). Moves (guest_of old borrow keepers unkept) (house_of new.note (borrow ∷ table_name t) keepers unkept')) (sym same)
+    (looks_moves more does old.note new.note (borrow ∷ table_name old.table) keepers unkept unkept' rose l)
 
 -- what was found is sound over what the pass has seen then
 pub looks_sound : (more : TallyNote) (old new : PassNote) (hall : HallView) (key : Key) (result : Result Found AllocError) → Went more false old new (noted hall) → IfOk result (λ f. IsSoundIn hall key f)
@@ -96,6 +113,9 @@ sound_out pass hall key k knows sound =
 module _ (old new : PassNote) (ask : Ask) (csrf : Option (List ℕ)) (command : Command) (now : ℕ) where
   pub commits_valid : (a : Answer) → Commits a old new ask csrf command now → AreValid new.opened.loaded.base new.seen
   commits_valid a t = went_valid zeros t.hands old new t.after t.went t.is_hall
+
+  pub commits_own : (a : Answer) → Commits a old new ask csrf command now → AreOwnIn new new.seen
+  commits_own a t = went_own zeros t.hands old new (noted t.after) t.went
 
   rose : (k : Commits answer.Keeper old new ask csrf command now) → CountRose old.faults new.faults
   rose k =

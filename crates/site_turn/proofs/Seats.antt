@@ -1,5 +1,5 @@
 -- What a seat says and holds after the calls of a turn, as equations.
-use Rattle.std.proofs.Common.{◌≡◌, ◌<◌, ℕ, List, [], ◌∷◌, get_or, Bool, Option, Some, map, refl, sym, ap, ◌∙◌, subst}
+use Rattle.std.proofs.Common.{◌≡◌, ◌<◌, ℕ, List, [], ◌∷◌, length, drop, get_or, Bool, Option, Some, map, append-nil, refl, sym, ap, ◌∙◌, subst}
 use Rattle.std.specs.List.{All}
 use Rattle.std.proofs.lemmas.List.Elements.{All-head}
 use mathlib.Core.Option as maybe
@@ -7,9 +7,13 @@ use Rattle.atomic_table.specs.Table.{Me, rest}
 use Rattle.turn_rule.specs.declared.notes.TallyNote.{TallyNote}
 use Rattle.turn_rule.specs.declared.notes.HallNote.{HallNote}
 use Rattle.turn_rule.specs.declared.notes.PassNote.{PassNote}
+use Rattle.turn_rule.specs.declared.notes.FounderNote.{FounderNote}
+use Rattle.site_house.specs.House.{by_pass}
 use Rattle.turn_rule.specs.declared.notes.Note.{Note}
 use Rattle.turn_rule.specs.Rule.{Counted, looks, found, kept, count_of}
-use Rattle.turn_rule.specs.Steps.{spent, bearing, founding, with_hall, with_passes, after_turn, longer, seeing, Knows, Opens, Follows, Meets, noted_out}
+use Rattle.turn_rule.specs.Steps.{spent, bearing, founding, with_hall, with_passes, after_turn, new_pass, longer, seeing, AreOwnIn, AreMet, Knows, Opens, Follows, Meets, noted_out}
+use Rattle.turn_rule.proofs.Edits.{drop_front}
+use Rattle.turn_rule.proofs.Books.{own_in_log}
 use Rattle.content_state.specs.declared.commit.Commit.{Commit}
 use Rattle.site_hall.specs.Hall.{HallView}
 use Rattle.site_turn.specs.Views.{noted, noted_in, pass_of, HasPass}
@@ -55,7 +59,22 @@ little_counted tally a b c kept = c
 pub two_met : (old new : Place) (p q : PassNote) → old ≡ (with_passes (p ∷ q ∷ []) spent, []) → Meets old new → new ≡ (with_passes (seeing (longer p.seen q.seen) p ∷ seeing (longer p.seen q.seen) q ∷ []) spent, [])
 two_met old new p q is m = (subst (λ (o : Place). Meets o new) is m).0
 
+-- and each finds its own edits in what both have seen then
+pub two_own : (old new : Place) (p q : PassNote) → old ≡ (with_passes (p ∷ q ∷ []) spent, []) → Meets old new → AreOwnIn p (longer p.seen q.seen) × AreOwnIn q (longer p.seen q.seen)
+two_own old new p q is m = let both : AreMet (p ∷ q ∷ []) = (subst (λ (o : Place). Meets o new) is m).1 in (both.2, both.3)
+
 -- a pass has seen another log
-pub has_seen : (old new : List Note) (number faults : ℕ) (log : List Commit) → HasPass old number faults → new ≡ bearing (seeing log (pass_of old)) ∷ [] → HasPass new number faults
-has_seen old new number faults log h is =
-    subst (λ (l : List Note). HasPass l number faults) (sym is) (record { bears = refl; number_is = h.number_is; faults_is = h.faults_is })
+pub has_seen : (old new : List Note) (number faults : ℕ) (log : List Commit) → HasPass old number faults → new ≡ bearing (seeing log (pass_of old)) ∷ [] → AreOwnIn (pass_of old) log → HasPass new number faults
+has_seen old new number faults log h is own =
+    subst (λ (l : List Note). HasPass l number faults) (sym is) (record { bears = refl; number_is = h.number_is; faults_is = h.faults_is; own = own })
+
+-- a pass finds its own edits in what it has seen, once it gave the hall back
+pub back_own : (more : TallyNote) (hands : Bool) (hall : HallNote) (pass : PassNote) (notes : List Note) → notes ≡ bearing (after_turn more hands hall pass) ∷ [] → Knows hall (after_turn more hands hall pass) → AreOwnIn (pass_of notes) (pass_of notes).seen
+back_own more hands hall pass notes is knows =
+    subst (λ (l : List Note). AreOwnIn (pass_of l) (pass_of l).seen) (sym is) (own_in_log hall (after_turn more hands hall pass) knows)
+
+-- a new pass has seen no edit since the opening
+pub new_own : (founder : FounderNote) → AreOwnIn (new_pass founder) founder.opened.log
+new_own founder =
+    let log = founder.opened.log in
+    ap (by_pass founder.made) (ap (drop (length log)) (sym (append-nil log)) ∙ drop_front log [])

@@ -7,7 +7,7 @@ use Rattle.turn_rule.specs.declared.notes.PassNote.{PassNote}
 use Rattle.turn_rule.specs.declared.notes.FounderNote.{FounderNote}
 use Rattle.turn_rule.specs.declared.notes.Note.{Note}
 use Rattle.turn_rule.specs.Steps.{AreAll, Closes}
-use Rattle.turn_rule.specs.Words.{since}
+use Rattle.turn_rule.specs.Logs.{since}
 use Rattle.site_turn.specs.Views.{PassView}
 
 -- what these passes know
@@ -24,8 +24,8 @@ has_number number passes = list_any (λ pass. pass.note.number == number) passes
 
 -- The hall at the end of a site that was opened as its founder knows, with these passes: they are all that were made. What was loaded is
 -- what the site was opened with, and the log begins with that one's; each pass has seen a front of the log, its edits since the
--- opening are of those that it handed in, in that order, and what the hall counted is the sum of theirs (`Closes`). Each edit since the
--- opening, and the pending one, bears the number of one of them.
+-- opening, and the pending one where that is its own, are of those that it handed in, in that order, and what the hall counted is the sum
+-- of theirs (`Closes`). Each edit since the opening, and the pending one, bears the number of one of them.
 pub record IsClosed (founder : FounderNote) (hall : HallNote) (passes : List PassNote) : Type 0 where
   pub all : AreAll founder.made passes
   pub closes : Closes founder hall passes

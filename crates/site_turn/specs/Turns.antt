@@ -2,14 +2,18 @@
 use Rattle.std.specs.Prelude.{◌≡◌, ◌≤◌, ℕ, List, [], ◌∷◌, length, Bool, true, false, Option, Some, None, Result, Ok, Err}
 use Rattle.std.specs.declared.alloc.AllocError.{AllocError}
 use Rattle.atomic_table.specs.Table.{Me}
+use Rattle.cache_entries.specs.declared.key.Key.{Key}
+use Rattle.cache_entries.specs.declared.kept.Bin.{Bin}
 use Rattle.cache_entries.specs.declared.kept.Found.{Found}
 use Rattle.cache_entries.specs.declared.kept.Found.TheVariants as found
+use Rattle.cache_entries.specs.declared.kept.Kept.{Kept}
 use Rattle.content_state.specs.Replay.{Begins}
 use Rattle.content_state.specs.declared.ask.Ask.{Ask}
 use Rattle.content_state.specs.declared.commit.Commit.{Commit}
 use Rattle.site_commands.specs.declared.answer.Answer.{Answer}
 use Rattle.site_commands.specs.declared.command.Command.{Command}
 use Rattle.site_hall.specs.Hall.{HallView, IsHall, Answers, Tells}
+use Rattle.site_hall.specs.Looked.{LooksUp, KeepsUnder}
 use Rattle.turn_rule.specs.declared.notes.TallyNote.{TallyNote}
 use Rattle.turn_rule.specs.declared.notes.HallNote.{HallNote}
 use Rattle.turn_rule.specs.declared.notes.PassNote.{PassNote}
@@ -63,11 +67,26 @@ pub record Went (more : TallyNote) (hands : Bool) (old new : PassNote) (hall : H
   pub steady : old.opened.loaded.steadfast ≡ true → new.faults ≡ old.faults
   pub knows : Knows hall new
 
--- A pass had the hall out and handed nothing in; its turn counted this.
-pub record Looks (more : TallyNote) (old new : PassNote) : Type 0 where
-  pub hall : HallView
-  pub is_hall : IsHall hall
-  pub went : Went more false old new (noted hall)
+-- A pass had the hall out and handed nothing in; its turn did this to the hall, and counted this.
+pub record Looks (more : TallyNote) (does : HallView → HallView → Type 0) (old new : PassNote) : Type 0 where
+  pub before : HallView
+  pub after : HallView
+  pub knows : Knows (noted before) old
+  pub did : does before after
+  pub is_hall : IsHall after
+  pub went : Went more false old new (noted after)
+
+-- it only read: the hall is as it was
+abbrev pub Reads : PassNote → PassNote → Type 0
+Reads old new = Looks zeros (λ before after. after ≡ before) old new
+
+-- something was looked for under a key in a bin of the hall
+abbrev pub LooksFor : Result Found AllocError → Bin → Key → PassNote → PassNote → Type 0
+LooksFor result bin key old new = Looks (counts_of_look result) (λ before after. LooksUp result before after bin key) old new
+
+-- something was to be kept under a key in a bin of the hall
+abbrev pub PutsUnder : Result (Unit {0}) AllocError → Bin → Key → Kept → PassNote → PassNote → Type 0
+PutsUnder result bin key kept old new = Looks (counts_of_keep result) (λ before after. KeepsUnder result before after bin key kept) old new
 
 -- A pass had the hall out and made an edit, which bears its number, and was handed in or not.
 pub record Commits (answer : Answer) (old new : PassNote) (ask : Ask) (csrf : Option (List ℕ)) (command : Command) (now : ℕ) : Type 0 where

@@ -6,7 +6,7 @@ use Rattle.turn_rule.specs.declared.notes.HallNote.{HallNote}
 use Rattle.turn_rule.specs.declared.notes.PassNote.{PassNote}
 use Rattle.turn_rule.specs.declared.notes.FounderNote.{FounderNote}
 use Rattle.turn_rule.specs.declared.notes.Note.{Note}
-use Rattle.turn_rule.specs.Steps.{zeros, bearing, founding}
+use Rattle.turn_rule.specs.Steps.{zeros, bearing, founding, AreOwnIn}
 use Rattle.site_hall.specs.Hall.{HallView}
 use Rattle.site_hall.specs.Stock.{tally_in}
 use Rattle.site_hall.specs.declared.tally.Tally.{Tally}
@@ -86,6 +86,8 @@ pub record HasPass (notes : List Note) (number faults : ℕ) : Type 0 where
   pub bears : notes ≡ bearing (pass_of notes) ∷ []
   pub number_is : number ≡ (pass_of notes).number
   pub faults_is : faults ≡ (pass_of notes).faults
+  -- its edits since the opening, of those that it has seen, are of those that it handed in, in that order
+  pub own : AreOwnIn (pass_of notes) (pass_of notes).seen
 
 -- What always holds of a site, by its table, and the table and the notes of the founder's seat.
 pub record HasFounder (table seat : TableId) (notes : List Note) (made faults : ℕ) : Type 0 where

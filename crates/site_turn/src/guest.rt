@@ -1,10 +1,15 @@
 //! A pass at work on its site.
-ghost use Rattle.std.specs.Prelude.{◌≡◌, ◌≤◌, ℕ};
+ghost use Rattle.std.specs.Prelude.{◌≡◌, ◌≤◌, ℕ, IfOk};
+ghost use Rattle.std.specs.Arc.{arc_value};
+ghost use Rattle.std.specs.Option.{option_copied};
+ghost use Rattle.content_rows.specs.Kinds.{IsMoment};
+ghost use Rattle.content_state.specs.Replay.{replay};
+ghost use Rattle.site_commands.specs.Right.{IsRight};
 ghost use Rattle.site_turn.specs.Views.{IsRoom};
-ghost use Rattle.site_house.specs.Bins.{unkept_by, KeepsUnder, MayBeKeptIn};
-ghost use Rattle.site_house.specs.House.{Moves, Stays};
+ghost use Rattle.site_house.specs.Bins.{unkept_by, LooksUp, KeepsUnder, MayBeKeptIn, IsSoundIn};
+ghost use Rattle.site_house.specs.House.{AreOwn, AreValid, Answers, Moves, Stays, KeepsAll};
 ghost use Rattle.site_turn.specs.Houses.{keepers_after, guest_of};
-ghost use Rattle.site_turn.specs.Turns.{Looks, counts_of_keep};
+ghost use Rattle.site_turn.specs.Turns.{Reads, LooksFor, PutsUnder, Commits};
 
 use crate::pass::Pass;
 use crate::rules::Room;
@@ -39,7 +44,9 @@ impl<'a, R: Wait, K: Keeper> Guest<'a, R, K> {
         ensures same_borrow { result.pass.ghost_name ≡ pass.entry.ghost_name }
         ensures keepers { result.keepers ≡ 0 }
         ensures unkept { result.unkept ≡ 0 }
+        ensures own { AreOwn (guest_of result.pass.now result.pass.ghost_name result.keepers result.unkept) }
     {
+        let _number = pass.number();
         Guest {
             rt,
             room,
@@ -76,10 +83,20 @@ impl<R: Wait, K: Keeper> House for Guest<'_, R, K> {
 
     ghost sees = { λ g. guest_of g.pass.now g.pass.ghost_name g.keepers g.unkept };
 
-    fn snapshot(&mut self, alloc: Global) -> Result<Arc<State>, AllocError> {
+    /// As each house does; it is one turn, in which the hall stays as it is.
+    fn snapshot(&mut self, alloc: Global) -> Result<Arc<State>, AllocError>
+        ensures moves { Moves (guest_of self.old.pass.now self.old.pass.ghost_name self.old.keepers self.old.unkept) (guest_of self.new.pass.now self.new.pass.ghost_name self.new.keepers self.new.unkept) }
+        ensures own { AreOwn (guest_of self.new.pass.now self.new.pass.ghost_name self.new.keepers self.new.unkept) }
+        ensures stays { Stays (guest_of self.old.pass.now self.old.pass.ghost_name self.old.keepers self.old.unkept) (guest_of self.new.pass.now self.new.pass.ghost_name self.new.keepers self.new.unkept) }
+        ensures keeps_all { KeepsAll (guest_of self.old.pass.now self.old.pass.ghost_name self.old.keepers self.old.unkept) (guest_of self.new.pass.now self.new.pass.ghost_name self.new.keepers self.new.unkept) }
+        ensures state { IfOk result (λ s. arc_value s ≡ replay (guest_of self.new.pass.now self.new.pass.ghost_name self.new.keepers self.new.unkept).base (guest_of self.new.pass.now self.new.pass.ghost_name self.new.keepers self.new.unkept).seen) }
+        ensures valid { AreValid (guest_of self.new.pass.now self.new.pass.ghost_name self.new.keepers self.new.unkept).base (guest_of self.new.pass.now self.new.pass.ghost_name self.new.keepers self.new.unkept).seen }
+        ensures reads { Reads self.old.pass.now.note self.new.pass.now.note }
+    {
         self.pass.snapshot(self.rt, alloc, self.room)
     }
 
+    /// As each house does; it is one turn, whose answer is that of the hall, which has the edit then or not by what it answered.
     fn commit(
         &mut self,
         alloc: Global,
@@ -87,7 +104,16 @@ impl<R: Wait, K: Keeper> House for Guest<'_, R, K> {
         csrf: Option<&[u8]>,
         command: &Command,
         now: u64,
-    ) -> Answer {
+    ) -> Answer
+        requires right { IsRight command.now }
+        requires moment { IsMoment now }
+        ensures moves { Moves (guest_of self.old.pass.now self.old.pass.ghost_name self.old.keepers self.old.unkept) (guest_of self.new.pass.now self.new.pass.ghost_name self.new.keepers self.new.unkept) }
+        ensures own { AreOwn (guest_of self.new.pass.now self.new.pass.ghost_name self.new.keepers self.new.unkept) }
+        ensures keeps_all { KeepsAll (guest_of self.old.pass.now self.old.pass.ghost_name self.old.keepers self.old.unkept) (guest_of self.new.pass.now self.new.pass.ghost_name self.new.keepers self.new.unkept) }
+        ensures answers { Answers result (guest_of self.old.pass.now self.old.pass.ghost_name self.old.keepers self.old.unkept) (guest_of self.new.pass.now self.new.pass.ghost_name self.new.keepers self.new.unkept) ask.now (option_copied csrf.entry) command.now now }
+        ensures valid { AreValid (guest_of self.new.pass.now self.new.pass.ghost_name self.new.keepers self.new.unkept).base (guest_of self.new.pass.now self.new.pass.ghost_name self.new.keepers self.new.unkept).seen }
+        ensures commits { Commits result self.old.pass.now.note self.new.pass.now.note ask.now (option_copied csrf.entry) command.now now }
+    {
         let answer = self
             .pass
             .commit(self.rt, alloc, self.room, ask, csrf, command, now);
@@ -95,17 +121,28 @@ impl<R: Wait, K: Keeper> House for Guest<'_, R, K> {
         answer
     }
 
-    fn look(&mut self, alloc: Global, bin: Bin, key: &Key) -> Result<Found, AllocError> {
+    /// As each house looks; it is one turn, in which the hall is asked for that key in that bin and answers so. The tally of the pass
+    /// rises by the answer, as that of the hall does.
+    fn look(&mut self, alloc: Global, bin: Bin, key: &Key) -> Result<Found, AllocError>
+        ensures moves { Moves (guest_of self.old.pass.now self.old.pass.ghost_name self.old.keepers self.old.unkept) (guest_of self.new.pass.now self.new.pass.ghost_name self.new.keepers self.new.unkept) }
+        ensures own { AreOwn (guest_of self.new.pass.now self.new.pass.ghost_name self.new.keepers self.new.unkept) }
+        ensures stays { Stays (guest_of self.old.pass.now self.old.pass.ghost_name self.old.keepers self.old.unkept) (guest_of self.new.pass.now self.new.pass.ghost_name self.new.keepers self.new.unkept) }
+        ensures looks { LooksUp (guest_of self.old.pass.now self.old.pass.ghost_name self.old.keepers self.old.unkept) (guest_of self.new.pass.now self.new.pass.ghost_name self.new.keepers self.new.unkept) bin key.now result }
+        ensures sound { IfOk result (λ found. IsSoundIn (guest_of self.new.pass.now self.new.pass.ghost_name self.new.keepers self.new.unkept) key.now found) }
+        ensures tallies { LooksFor result bin key.now self.old.pass.now.note self.new.pass.now.note }
+    {
         self.pass.look(self.rt, alloc, self.room, bin, key)
     }
 
-    /// As each house keeps; and the tally of the pass rises by the answer, as that of the hall does in the turn that it is kept in.
+    /// As each house keeps; it is one turn, in which the hall keeps that under that key in that bin, or doesn't. The tally of the pass
+    /// rises by the answer, as that of the hall does.
     fn keep(&mut self, alloc: Global, bin: Bin, key: Key, kept: Kept) -> Result<(), AllocError>
         requires { MayBeKeptIn (guest_of self.old.pass.now self.old.pass.ghost_name self.old.keepers self.old.unkept) key kept }
         ensures moves { Moves (guest_of self.old.pass.now self.old.pass.ghost_name self.old.keepers self.old.unkept) (guest_of self.new.pass.now self.new.pass.ghost_name self.new.keepers self.new.unkept) }
+        ensures own { AreOwn (guest_of self.new.pass.now self.new.pass.ghost_name self.new.keepers self.new.unkept) }
         ensures stays { Stays (guest_of self.old.pass.now self.old.pass.ghost_name self.old.keepers self.old.unkept) (guest_of self.new.pass.now self.new.pass.ghost_name self.new.keepers self.new.unkept) }
         ensures keeps { KeepsUnder (guest_of self.old.pass.now self.old.pass.ghost_name self.old.keepers self.old.unkept) (guest_of self.new.pass.now self.new.pass.ghost_name self.new.keepers self.new.unkept) bin key kept result }
-        ensures tallies { Looks (counts_of_keep result) self.old.pass.now.note self.new.pass.now.note }
+        ensures tallies { PutsUnder result bin key kept self.old.pass.now.note self.new.pass.now.note }
     {
         let answer = self.pass.keep(self.rt, alloc, self.room, bin, key, kept);
         self.unkept = unkept_after(self.unkept, &answer);
@@ -117,6 +154,7 @@ impl<R: Wait, K: Keeper> House for Guest<'_, R, K> {
     }
 
     fn unkept(&self) -> u64 {
+        let _number = self.pass.number();
         self.unkept
     }
 }

@@ -8,8 +8,8 @@ ghost use Rattle.site_commands.specs.Right.{IsRight};
 ghost use Rattle.site_turn.specs.Views.{IsRoom};
 ghost use Rattle.cache_entries.specs.Sound.{IsSoundKept, IsSoundFound};
 ghost use Rattle.page_meaning.specs.Meaning.{meaning};
-ghost use Rattle.turn_rule.specs.Steps.{zeros};
-ghost use Rattle.site_turn.specs.Turns.{Looks, Commits, counts_of_look, counts_of_keep};
+ghost use Rattle.turn_rule.specs.Steps.{AreOwnIn};
+ghost use Rattle.site_turn.specs.Turns.{Reads, LooksFor, PutsUnder, Commits};
 
 use crate::kinds::{kept as deed_of_keep, looked};
 use crate::rules::Room;
@@ -46,16 +46,19 @@ impl Model for Pass {
 }
 
 impl Pass {
-    /// The number that its edits bear.
+    /// The number that its edits bear. Those of them that it has seen, since the site was opened, are of the ones that it handed in, in
+    /// that order.
     pub fn number(&self) -> u32
-        ensures { result ≡ self.now.note.number }
+        ensures number { result ≡ self.now.note.number }
+        ensures own { AreOwnIn self.now.note self.now.note.seen }
     {
         self.number
     }
 
     /// How often the keeper had failed when the pass last had the hall.
     pub(crate) fn faults(&self) -> u64
-        ensures { result ≡ self.now.note.faults }
+        ensures count { result ≡ self.now.note.faults }
+        ensures own { AreOwnIn self.now.note self.now.note.seen }
     {
         self.faults
     }
@@ -69,7 +72,7 @@ impl Pass {
     ) -> Result<Arc<State>, AllocError>
         requires { (self.old.table ≡ room.now.table_id) × IsRoom room.now.table_id }
         ensures same { self.new.table ≡ self.old.table }
-        ensures looks { Looks zeros self.old.note self.new.note }
+        ensures looks { Reads self.old.note self.new.note }
         ensures state { IfOk result (λ state. arc_value state ≡ replay self.new.note.opened.loaded.base self.new.note.seen) }
     {
         let badge = mem::replace(&mut self.seat, Badge::blank());
@@ -92,7 +95,7 @@ impl Pass {
     ) -> Result<Found, AllocError>
         requires { (self.old.table ≡ room.now.table_id) × IsRoom room.now.table_id }
         ensures same { self.new.table ≡ self.old.table }
-        ensures looks { Looks (counts_of_look result) self.old.note self.new.note }
+        ensures looks { LooksFor result bin key.now self.old.note self.new.note }
         ensures sound { IfOk result (λ found. IsSoundFound meaning self.new.note.opened.loaded.base self.new.note.seen key.now found) }
     {
         let badge = mem::replace(&mut self.seat, Badge::blank());
@@ -118,7 +121,7 @@ impl Pass {
         requires room { (self.old.table ≡ room.now.table_id) × IsRoom room.now.table_id }
         requires sound { IsSoundKept meaning self.old.note.opened.loaded.base self.old.note.seen key kept }
         ensures same { self.new.table ≡ self.old.table }
-        ensures looks { Looks (counts_of_keep result) self.old.note self.new.note }
+        ensures looks { PutsUnder result bin key kept self.old.note self.new.note }
     {
         let badge = mem::replace(&mut self.seat, Badge::blank());
         let (seat, mut hall) = out(rt, room, badge);

@@ -1,7 +1,7 @@
 //! A turn: the seat takes the hall out of the slot, and gives it back.
 ghost use Rattle.std.specs.Prelude.{◌≡◌, ◌≢◌, [], ◌∷◌, Some, None, IfSome, IfNone, All, false};
 ghost use Rattle.site_hall.specs.Hall.{IsHall};
-ghost use Rattle.turn_rule.specs.Steps.{zeros, bearing, with_hall, after_turn, Knows};
+ghost use Rattle.turn_rule.specs.Steps.{zeros, bearing, with_hall, after_turn, AreOwnIn, Knows};
 ghost use Rattle.site_turn.specs.Views.{IsRoom, noted, first_pass, pass_of};
 ghost use Rattle.site_turn.specs.Turns.{IsOut};
 ghost use Rattle.site_turn.specs.Kinds.{counts_of};
@@ -98,6 +98,7 @@ fn back<T: Kind, K: Keeper>(
     ensures same { result.table_id ≡ seat.table_id }
     ensures back { result.views ≡ bearing (after_turn T.counts T.hands (noted hall) (first_pass seat.me.0.passes)) ∷ [] }
     ensures knows { Knows (noted hall) (after_turn T.counts T.hands (noted hall) (first_pass seat.me.0.passes)) }
+    ensures own { AreOwnIn (pass_of result.views) (pass_of result.views).seen }
     ensures is_hall { IsHall hall }
 {
     let length = hall.len();
@@ -124,6 +125,7 @@ pub(crate) fn back_after<K: Keeper>(
     ensures same { result.table_id ≡ seat.table_id }
     ensures back { result.views ≡ bearing (after_turn zeros hands (noted hall) (first_pass seat.me.0.passes)) ∷ [] }
     ensures knows { Knows (noted hall) (after_turn zeros hands (noted hall) (first_pass seat.me.0.passes)) }
+    ensures own { AreOwnIn (pass_of result.views) (pass_of result.views).seen }
     ensures is_hall { IsHall hall }
 {
     if hands {
@@ -146,6 +148,7 @@ pub(crate) fn back_from<K: Keeper>(
     ensures same { result.table_id ≡ seat.table_id }
     ensures back { result.views ≡ bearing (after_turn (counts_of deed) false (noted hall) (first_pass seat.me.0.passes)) ∷ [] }
     ensures knows { Knows (noted hall) (after_turn (counts_of deed) false (noted hall) (first_pass seat.me.0.passes)) }
+    ensures own { AreOwnIn (pass_of result.views) (pass_of result.views).seen }
     ensures is_hall { IsHall hall }
 {
     match deed {

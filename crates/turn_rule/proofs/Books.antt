@@ -13,8 +13,8 @@ use Rattle.turn_rule.specs.declared.notes.HallNote.{HallNote}
 use Rattle.turn_rule.specs.declared.notes.PassNote.{PassNote}
 use Rattle.turn_rule.specs.Logs.{waiting}
 use Rattle.turn_rule.specs.Rule.{Books, IsPass, AreSound, Claims, Counted, looks, found, kept, count_of, capped, IsSum, founder_in}
-use Rattle.turn_rule.specs.Steps.{plus, Knows, raised, zeros, given, after_turn, Turns, new_pass, seeing}
-use Rattle.turn_rule.proofs.Edits.{sub_left, sub_all, own_all, own_none, own_goes_on, edits_go_on, begins_same, begins_more, drop_front, capped_on}
+use Rattle.turn_rule.specs.Steps.{plus, AreOwnIn, Knows, raised, zeros, given, after_turn, Turns, new_pass, seeing}
+use Rattle.turn_rule.proofs.Edits.{sub_left, sub_all, own_all, own_front, own_none, own_goes_on, edits_go_on, begins_same, begins_more, drop_front, capped_on}
 use Rattle.turn_rule.proofs.Claims.{at_below, at_get, each_set, each_more}
 
 -- ---- sums
@@ -50,9 +50,21 @@ knows b p s at =
       whole = (b.past, log);
       faults = r.faults_to;
       steady = λ t. let e = s.steady (ap (λ l. l.steadfast) (sym s.loaded) ∙ t) in let low = r.faults_from in let high = r.faults_to in omega arith;
-      own = subst (λ (l : List Commit). IsSublist (by_pass p.number l) p.handed) (sym (ap (drop (length p.opened.log)) log ∙ drop_front p.opened.log b.past))
-          (sub_left (by_pass p.number b.past) (by_pass p.number (waiting b.hall)) p.handed (subst (λ (l : List Commit). IsSublist l p.handed) (filter-append (λ c. c.pass == p.number) b.past (waiting b.hall)) r.handed));
+      own = subst (λ (l : List Commit). IsSublist (by_pass p.number (l ++ waiting b.hall)) p.handed) (sym (ap (drop (length p.opened.log)) log ∙ drop_front p.opened.log b.past)) r.handed;
     }
+
+-- a pass that knows a hall finds its own edits in the log, without the pending one, as it handed them in
+pub own_in_log : (hall : HallNote) (p : PassNote) → Knows hall p → AreOwnIn p hall.log
+own_in_log hall p k =
+    let log = drop (length p.opened.log) hall.log in
+    sub_left (by_pass p.number log) (by_pass p.number (waiting hall)) p.handed (subst (λ (l : List Commit). IsSublist l p.handed) (filter-append (λ c. c.pass == p.number) log (waiting hall)) k.own)
+
+-- its own edits in a front of the log
+pub own_in : (b : Books) (p : PassNote) (log : List Commit) → AreSound b → get_elem? b.passes p.number ≡ some p → Begins b.opened.log log → Begins log b.hall.log → AreOwnIn p log
+own_in b p log s at whole seen =
+    let r = s.each p.number p at in
+    subst (λ (o : HallNote). IsSublist (by_pass p.number (drop (length o.log) log)) p.handed) (sym r.opened)
+    (own_front p.number b.opened.log b.past (waiting b.hall) log p.handed whole (subst (Begins log) s.log seen) r.handed)
 
 pub all_know : (b : Books) (holder : ℕ → ℕ) (j : ℕ) (ps : List PassNote) → AreSound b → Claims b.passes holder j ps → All (Knows b.hall) ps
 all_know b holder j [] s c = All-nil (Knows b.hall)

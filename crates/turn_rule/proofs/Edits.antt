@@ -97,6 +97,18 @@ pub drop_front : (xs ys : List Commit) → drop (length xs) (xs ++ ys) ≡ ys
 drop_front [] ys = refl
 drop_front (x ∷ xs) ys = drop_front xs ys
 
+-- the edits of a pass in a front of the log that has all that the site was opened with
+pub own_front : (number : ℕ) (opened past left log handed : List Commit) → Begins opened log → Begins log (opened ++ past) → IsSublist (by_pass number (past ++ left)) handed → IsSublist (by_pass number (drop (length opened) log)) handed
+own_front number opened past left log handed whole seen own =
+    let front = whole.0 in
+    let more = seen.0 in
+    let past_is : past ≡ front ++ more = sym (drop_front opened past) ∙ ap (drop (length opened)) (seen.1 ∙ ap (λ (l : List Commit). l ++ more) whole.1 ∙ append_assoc opened front more) ∙ drop_front opened (front ++ more) in
+    let all : by_pass number (past ++ left) ≡ by_pass number front ++ by_pass number (more ++ left) =
+    ap (λ (l : List Commit). by_pass number (l ++ left)) past_is ∙ ap (by_pass number) (append_assoc front more left) ∙ filter-append (λ c. c.pass == number) front (more ++ left) in
+    let front_is : drop (length opened) log ≡ front = ap (drop (length opened)) whole.1 ∙ drop_front opened front in
+    subst (λ (l : List Commit). IsSublist (by_pass number l) handed) (sym front_is)
+    (sub_left (by_pass number front) (by_pass number (more ++ left)) handed (subst (λ (l : List Commit). IsSublist l handed) all own))
+
 shorter : (xs r ys s : List Commit) → xs ++ r ≡ ys ++ s → length xs ≤ length ys → Begins xs ys
 shorter [] r ys s e l = (ys, refl)
 shorter (x ∷ xs) r [] s e l = absurd (omega arith)

@@ -21,7 +21,7 @@ use Rattle.turn_rule.specs.Steps.{bearing, founding, spent, with_hall, with_pass
 use Rattle.turn_rule.specs.Laws.{TablesBeginFresh, SitesOpen, HallsAreTakenOut, GatesAreMarked, LogsAreFollowed, HallsAreGivenBack, PassesAreDrawn, PassesMeet, PassesGetSeats, PassesJoinSeats}
 use Rattle.turn_rule.proofs.Edits.{longer_is, begins_then}
 use Rattle.turn_rule.proofs.Claims.{moved, moved_here, moved_else, at_below, at_one, stands_on, stands_longer, each_set, each_more, others_of_claims, claims_moved, claims_changed, claims_left, claims_new}
-use Rattle.turn_rule.proofs.Books.{turned, turned_sound, drawn, drawn_sound, seen_to, seeing_sound, opening_books, opening_sound, knows, all_know}
+use Rattle.turn_rule.proofs.Books.{turned, turned_sound, drawn, drawn_sound, seen_to, seeing_sound, opening_books, opening_sound, knows, own_in, all_know}
 
 none_some : {A : Type 0} (x : A) → None ≡ Some x → ⊥
 none_some x e = cc
@@ -314,7 +314,7 @@ module _ {S : Type 0} (noted : S → Option HallNote) where
             keeps,
             tt,
             inr (a', gate, record { words = refl; home = o.home; sound = seeing_sound half q l (seeing_sound b p l o.sound c.0 seen whole) there seen whole; fits = each_set (Fits a' gate) s.views id w others here; placed = placed }),
-            (refl, (both.first, both.second)),
+            (refl, (both.first, both.second, own_in b p l o.sound c.0 whole seen, own_in b q l o.sound d.0 whole seen)),
           )
 
   -- ---- passes change their seats

@@ -12,9 +12,9 @@ use Rattle.turn_rule.specs.declared.notes.HallNote.{HallNote}
 use Rattle.turn_rule.specs.declared.notes.PassNote.{PassNote}
 use Rattle.turn_rule.specs.declared.notes.FounderNote.{FounderNote}
 use Rattle.turn_rule.specs.declared.notes.Note.{Note}
-use Rattle.turn_rule.specs.Logs.{waiting}
+use Rattle.turn_rule.specs.Logs.{waiting, since}
 use Rattle.turn_rule.specs.Rule.{Account, Claims, IsAmong, IsOpen, IsFresh, founder_in}
-use Rattle.turn_rule.specs.Words.{Bears, since, IsTheHall, ArePasses, IsFounder}
+use Rattle.turn_rule.specs.Words.{Bears, IsTheHall, ArePasses, IsFounder}
 use Rattle.turn_rule.specs.Laws.{RuleInPlainWords}
 use Rattle.turn_rule.proofs.Edits.{drop_front}
 use Rattle.turn_rule.proofs.Claims.{at_below, at_one, at_some}

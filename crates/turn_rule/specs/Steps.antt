@@ -11,7 +11,7 @@ use Rattle.turn_rule.specs.declared.notes.HallNote.{HallNote}
 use Rattle.turn_rule.specs.declared.notes.PassNote.{PassNote}
 use Rattle.turn_rule.specs.declared.notes.FounderNote.{FounderNote}
 use Rattle.turn_rule.specs.declared.notes.Note.{Note}
-use Rattle.turn_rule.specs.Logs.{waiting, newest_of}
+use Rattle.turn_rule.specs.Logs.{waiting, since, newest_of}
 use Rattle.turn_rule.specs.Rule.{Counted, IsSum, capped}
 
 -- ---- the notes of seats
@@ -34,6 +34,10 @@ with_passes passes note = record { fresh = note.fresh; hall = note.hall; founder
 
 -- ---- what a pass knows
 
+-- the edits of a pass in a log, since the opening, are of those that it handed in, in that order
+abbrev pub AreOwnIn : PassNote → List Commit → Type 0
+AreOwnIn pass log = IsSublist (by_pass pass.number (drop (length pass.opened.log) log)) pass.handed
+
 -- what a pass knows of the hall that it has out
 pub record Knows (hall : HallNote) (pass : PassNote) : Type 0 where
   pub loaded : hall.loaded ≡ pass.opened.loaded
@@ -41,8 +45,8 @@ pub record Knows (hall : HallNote) (pass : PassNote) : Type 0 where
   pub whole : Begins pass.opened.log hall.log
   pub faults : pass.faults ≤ hall.faults
   pub steady : hall.loaded.steadfast ≡ true → hall.faults ≡ pass.faults
-  -- its edits since the opening are of those that it handed in, in that order
-  pub own : IsSublist (by_pass pass.number (drop (length pass.opened.log) hall.log)) pass.handed
+  -- its edits since the opening, and the pending one where that is its own, are of those that it handed in, in that order
+  pub own : IsSublist (by_pass pass.number (since pass.opened hall)) pass.handed
 
 -- ---- a turn
 
@@ -119,12 +123,13 @@ met [] = []
 met (pass ∷ []) = pass ∷ []
 met (pass ∷ other ∷ others) = seeing (longer pass.seen other.seen) pass ∷ seeing (longer pass.seen other.seen) other ∷ others
 
--- what each of them had seen is a front of it
+-- what each of them had seen is a front of it, and its own edits there are of those that it handed in
 abbrev pub AreMet : List PassNote → Type 0
 AreMet [] = Unit {0}
 AreMet (pass ∷ []) = Unit {0}
 AreMet (pass ∷ other ∷ others) =
     Begins pass.seen (longer pass.seen other.seen) × Begins other.seen (longer pass.seen other.seen)
+    × AreOwnIn pass (longer pass.seen other.seen) × AreOwnIn other (longer pass.seen other.seen)
 
 -- ---- passes change their seats
 

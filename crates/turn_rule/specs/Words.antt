@@ -1,16 +1,15 @@
 -- The rule in plain words, without the account: what is true of the words, the slot and the seats between any two steps.
-use Rattle.std.specs.Prelude.{◌≡◌, ◌≢◌, ℕ, ◌<◌, ◌≤◌, List, [], ◌∷◌, ◌++◌, length, drop, slice_index, All, Option, Some}
+use Rattle.std.specs.Prelude.{◌≡◌, ◌≢◌, ℕ, ◌<◌, ◌≤◌, [], ◌∷◌, length, slice_index, All, Option, Some}
 use mathlib.Core.Option.{some}
 use lib.ListN.{get_elem?}
 use Rattle.atomic_table.specs.Table.{State}
 use Rattle.content_state.specs.Replay.{Begins}
-use Rattle.content_state.specs.declared.commit.Commit.{Commit}
 use Rattle.site_house.specs.House.{IsSublist, by_pass}
 use Rattle.turn_rule.specs.declared.notes.HallNote.{HallNote}
 use Rattle.turn_rule.specs.declared.notes.PassNote.{PassNote}
 use Rattle.turn_rule.specs.declared.notes.FounderNote.{FounderNote}
 use Rattle.turn_rule.specs.declared.notes.Note.{Note}
-use Rattle.turn_rule.specs.Logs.{waiting}
+use Rattle.turn_rule.specs.Logs.{since}
 use Rattle.turn_rule.specs.Rule.{Stands}
 
 -- a seat has this note
@@ -20,10 +19,6 @@ Sits state seat note = get_elem? state.views seat ≡ some note
 -- a pass stands on a seat
 abbrev pub Bears : {S : Type 0} → State S Note → ℕ → PassNote → Type 0
 Bears state seat pass = Stands state.views seat pass
-
--- the edits since the opening, and then the pending one
-abbrev pub since : HallNote → HallNote → List Commit
-since opened hall = drop (length opened.log) hall.log ++ waiting hall
 
 module _ {S : Type 0} (noted : S → Option HallNote) (state : State S Note) where
   -- Where the hall is, whether it lies in the slot or is out with a seat.

@@ -2,7 +2,7 @@ use Rattle.std.proofs.Common.{arith, ap, refl, ◌∙◌, Some, None, [], ◌∷
 use Rattle.turn_rule.specs.Steps.{with_hall}
 use Rattle.turn_rule.proofs.Moves.{logs_follow, halls_back}
 use Rattle.site_turn.specs.Views.{noted, noted_in, first_pass}
-use Rattle.site_turn.proofs.Seats.{exchanged, followed}
+use Rattle.site_turn.proofs.Seats.{exchanged, followed, back_own}
 use Rattle.site_turn.proofs.Going.{grown, not_less}
 use Rattle.site_turn.proofs.turns.back.Goals as goal
 
@@ -42,6 +42,9 @@ pub returns-clause-knows : goal.returns-clause-knows
 returns-clause-knows g c =
     let o = c.requires.out in
     (followed g.T.Kind.counts g.T.Kind.hands _ _ (first_pass c.args.seat.me.0.passes) o.old c.args.hall (exchanged _ _ _ None (Some c.args.hall) o.me_is c.exchange-slot.ensures.3) c.fetch_add.ensures.2).1
+
+pub returns-clause-own : goal.returns-clause-own
+returns-clause-own g c = back_own g.T.Kind.counts g.T.Kind.hands (noted c.args.hall) (first_pass c.args.seat.me.0.passes) _ (returns-clause-back g c) (returns-clause-knows g c)
 
 pub overflow_sub-length : goal.overflow_sub-length
 overflow_sub-length g c =

@@ -10,7 +10,7 @@ use Rattle.site_hall.specs.Handed.{handed_in, LeavesHanded}
 use Rattle.site_hall.specs.Ready.{Stops, published}
 use Rattle.site_hall.specs.ReadyEdit.{Ready}
 use Rattle.site_hall.specs.declared.stop.Stop.{Stop}
-use Rattle.site_hall.proofs.Callers.{settled_alone, starved_alone, settled_moves, starved_moves, accepted_moves, accepted_answers, failed_moves, failed_answers, steadfast_on, valid_seen, with_hall}
+use Rattle.site_hall.proofs.Callers.{alone_own, settled_alone, starved_alone, settled_moves, starved_moves, accepted_moves, accepted_answers, failed_moves, failed_answers, steadfast_on, valid_seen, with_hall}
 use Rattle.site_hall.proofs.alone.AloneHouse.commit.Goals as goal
 
 -- ---- once what was pending is settled
@@ -114,3 +114,23 @@ returns-in-OutOfMemory-stop-clause-moves g c =
 
 pub returns-in-OutOfMemory-stop-clause-valid : goal.returns-in-OutOfMemory-stop-clause-valid
 returns-in-OutOfMemory-stop-clause-valid g c = valid_seen c.prepare.new.self c.prepare.ensures.is_hall
+
+-- ---- its own edits, whatever the answer
+
+pub returns-in-Ok-hand_in-clause-own : goal.returns-in-Ok-hand_in-clause-own
+returns-in-Ok-hand_in-clause-own g c = (returns-in-Ok-hand_in-clause-moves g c).own (alone_own c.args.self.now (subst IsAlone c.self.view_is c.self.invariant))
+
+pub returns-in-Failed-clause-own : goal.returns-in-Failed-clause-own
+returns-in-Failed-clause-own g c = (returns-in-Failed-clause-moves g c).own (alone_own c.args.self.now (subst IsAlone c.self.view_is c.self.invariant))
+
+pub returns-in-OutOfMemory-clause-own : goal.returns-in-OutOfMemory-clause-own
+returns-in-OutOfMemory-clause-own g c = (returns-in-OutOfMemory-clause-moves g c).own (alone_own c.args.self.now (subst IsAlone c.self.view_is c.self.invariant))
+
+pub returns-in-Refused-clause-own : goal.returns-in-Refused-clause-own
+returns-in-Refused-clause-own g c = (returns-in-Refused-clause-moves g c).own (alone_own c.args.self.now (subst IsAlone c.self.view_is c.self.invariant))
+
+pub returns-in-OutOfMemory-stop-clause-own : goal.returns-in-OutOfMemory-stop-clause-own
+returns-in-OutOfMemory-stop-clause-own g c = (returns-in-OutOfMemory-stop-clause-moves g c).own (alone_own c.args.self.now (subst IsAlone c.self.view_is c.self.invariant))
+
+pub returns-in-Failed-stop-clause-own : goal.returns-in-Failed-stop-clause-own
+returns-in-Failed-stop-clause-own g c = alone_own c.keeper_failed-in-Failed-stop.new.self c.keeper_failed-in-Failed-stop.ensures.is_alone

@@ -1,7 +1,7 @@
 use Rattle.std.proofs.Common.{◌∙◌, ◌≤◌, ℕ, sym, subst, arith}
 use Rattle.site_house.specs.House.{Moves, up}
-use Rattle.site_hall.specs.Alone.{AloneView, house_of}
-use Rattle.site_hall.proofs.Callers.{kept_beside, stock_alone, stock_moves}
+use Rattle.site_hall.specs.Alone.{AloneView, IsAlone, house_of}
+use Rattle.site_hall.proofs.Callers.{alone_own, kept_beside, stock_alone, stock_moves}
 use Rattle.site_hall.proofs.alone.AloneHouse.keep.Goals as goal
 use Rattle.site_hall.proofs.alone.AloneHouse.keep.Goals.{in-Ok, in-Err}
 
@@ -18,3 +18,6 @@ returns-clause-moves g c =
           let more = subst (λ (v : AloneView). a.unkept ≤ v.unkept) w.not_kept.ensures.counted w.not_kept.ensures.grows in
           subst (λ (v : AloneView). Moves (house_of c.args.self.now) (house_of v)) (sym (w.self-is ∙ w.not_kept.ensures.counted)) (moves (up a.unkept) more)
     ]
+
+pub returns-clause-own : goal.returns-clause-own
+returns-clause-own g c = (returns-clause-moves g c).own (alone_own c.args.self.now (subst IsAlone c.self.view_is c.self.invariant))

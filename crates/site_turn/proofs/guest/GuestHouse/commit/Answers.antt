@@ -1,5 +1,5 @@
 use Rattle.std.specs.Option.{option_copied}
-use Rattle.site_turn.proofs.Houses.{guest_moves, guest_answers, commits_valid}
+use Rattle.site_turn.proofs.Houses.{guest_moves, guest_answers, commits_own, commits_valid}
 use Rattle.site_turn.proofs.guest.GuestHouse.commit.Goals as goal
 
 pub returns-clause-moves : goal.returns-clause-moves
@@ -12,3 +12,6 @@ returns-clause-answers g c = guest_answers c.args.self.now.pass.now c.commit-ans
 
 pub returns-clause-valid : goal.returns-clause-valid
 returns-clause-valid g c = commits_valid _ _ _ _ _ _ _ c.commit-answer.ensures.commits
+
+pub returns-clause-own : goal.returns-clause-own
+returns-clause-own g c = commits_own _ _ _ _ _ _ _ c.commit-answer.ensures.commits

@@ -1,6 +1,8 @@
 use Rattle.std.proofs.Common.{◌∙◌, ap, sym, subst, false}
 use Rattle.turn_rule.specs.Steps.{Knows}
 use Rattle.site_turn.specs.Views.{noted, first_pass, pass_of}
+use Rattle.site_hall.specs.Hall.{HallView}
+use Rattle.site_hall.specs.Looked.{KeepsUnder}
 use Rattle.site_turn.specs.Turns.{Looks, counts_of_keep}
 use Rattle.site_turn.specs.Kinds.{counts_of}
 use Rattle.site_turn.proofs.Halls.{IsTurn, keep_turn}
@@ -32,9 +34,13 @@ returns-clause-looks g c =
     let first = ap (λ m. first_pass m.0.passes) c.out-seat.ensures.taken ∙ same in
     let before = subst (Knows (noted old)) same c.out-seat.ensures.knows in
     let turn = subst (λ m. IsTurn m false pass.number old new) (sym c.kept-deed.ensures) (keep_turn c.keep-answer.result pass.number old new c.args.bin c.args.key c.args.kept c.keep-answer.ensures.keeps) in
-    subst (λ p. Looks (counts_of_keep c.keep-answer.result) p (pass_of c.back_from.result.views)) (ap (λ v. v.note) c.self.view_is)
-    (subst (λ m. Looks m pass (pass_of c.back_from.result.views)) c.kept-deed.ensures (record {
-      hall = new;
+    let does : HallView → HallView → Type 0 = λ before after. KeepsUnder c.keep-answer.result before after c.args.bin c.args.key c.args.kept in
+    subst (λ p. Looks (counts_of_keep c.keep-answer.result) does p (pass_of c.back_from.result.views)) (ap (λ v. v.note) c.self.view_is)
+    (subst (λ m. Looks m does pass (pass_of c.back_from.result.views)) c.kept-deed.ensures (record {
+      before = old;
+      after = new;
+      knows = before;
+      did = c.keep-answer.ensures.keeps;
       is_hall = c.back_from.ensures.is_hall;
       went = went_back counts false pass _ c.back_from.result.views old new first c.back_from.ensures.back before turn c.back_from.ensures.knows;
     }))

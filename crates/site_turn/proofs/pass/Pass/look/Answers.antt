@@ -1,6 +1,8 @@
 use Rattle.std.proofs.Common.{◌∙◌, ap, sym, subst, false}
 use Rattle.turn_rule.specs.Steps.{Knows}
 use Rattle.site_turn.specs.Views.{noted, first_pass, pass_of}
+use Rattle.site_hall.specs.Hall.{HallView}
+use Rattle.site_hall.specs.Looked.{LooksUp}
 use Rattle.site_turn.specs.Turns.{Looks, counts_of_look}
 use Rattle.site_turn.specs.Kinds.{counts_of}
 use Rattle.site_turn.proofs.Halls.{IsTurn, look_turn}
@@ -27,9 +29,13 @@ returns-clause-looks g c =
     let first = ap (λ m. first_pass m.0.passes) c.out-seat.ensures.taken ∙ same in
     let before = subst (Knows (noted old)) same c.out-seat.ensures.knows in
     let turn = subst (λ m. IsTurn m false pass.number old new) (sym c.looked-deed.ensures) (look_turn c.look-found.result pass.number old new c.args.bin c.args.key.now c.look-found.ensures.looks) in
-    subst (λ p. Looks (counts_of_look c.look-found.result) p (pass_of c.back_from.result.views)) (ap (λ v. v.note) c.self.view_is)
-    (subst (λ m. Looks m pass (pass_of c.back_from.result.views)) c.looked-deed.ensures (record {
-      hall = new;
+    let does : HallView → HallView → Type 0 = λ before after. LooksUp c.look-found.result before after c.args.bin c.args.key.now in
+    subst (λ p. Looks (counts_of_look c.look-found.result) does p (pass_of c.back_from.result.views)) (ap (λ v. v.note) c.self.view_is)
+    (subst (λ m. Looks m does pass (pass_of c.back_from.result.views)) c.looked-deed.ensures (record {
+      before = old;
+      after = new;
+      knows = before;
+      did = c.look-found.ensures.looks;
       is_hall = c.back_from.ensures.is_hall;
       went = went_back counts false pass _ c.back_from.result.views old new first c.back_from.ensures.back before turn c.back_from.ensures.knows;
     }))

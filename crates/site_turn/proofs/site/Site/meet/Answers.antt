@@ -2,7 +2,7 @@ use Rattle.std.proofs.Common.{◌∙◌, arith, ap, sym, [], ◌∷◌}
 use Rattle.turn_rule.specs.Steps.{bearing, joined, left_of, right_of, longer, seeing}
 use Rattle.turn_rule.proofs.Moves.{passes_joined, passes_met, passes_seated}
 use Rattle.site_turn.specs.Views.{noted_in, pass_of}
-use Rattle.site_turn.proofs.Seats.{seat_is, two_met, has_seen}
+use Rattle.site_turn.proofs.Seats.{seat_is, two_met, two_own, has_seen}
 use Rattle.site_turn.proofs.site.Site.meet.Goals as goal
 
 pub join_seat-requires : goal.join_seat-requires
@@ -70,8 +70,9 @@ invariant_of-one g c =
     let two = seat_is _ c.into_seat-seat.result.me (bearing q) (ap (λ b. b.views) second ∙ c.other.invariant.bears) b.2 b.3 in
     let both = c.join_seat.ensures in
     let have_met = two_met c.join_seat.new.seat.me c.load.new.seat.me p q (both.2 ∙ λ i. (joined ((two i).0) ((one i).0), (two i).1)) c.load.ensures.2 in
+    let own = two_own c.join_seat.new.seat.me c.load.new.seat.me p q (both.2 ∙ λ i. (joined ((two i).0) ((one i).0), (two i).1)) c.load.ensures.2 in
     let views = c.into_badge.ensures.2 ∙ ap (λ m. m.0 ∷ []) c.split_seat-new.ensures.4 ∙ ap (λ m. right_of m.0 ∷ []) have_met in
-    has_seen c.one.inside.seat.views c.into_badge.result.views _ _ (longer p.seen q.seen) c.one.invariant views
+    has_seen c.one.inside.seat.views c.into_badge.result.views _ _ (longer p.seen q.seen) c.one.invariant views own.0
 
 pub invariant_of-other : goal.invariant_of-other
 invariant_of-other g c =
@@ -85,8 +86,9 @@ invariant_of-other g c =
     let two = seat_is _ c.into_seat-seat.result.me (bearing q) (ap (λ b. b.views) second ∙ c.other.invariant.bears) b.2 b.3 in
     let both = c.join_seat.ensures in
     let have_met = two_met c.join_seat.new.seat.me c.load.new.seat.me p q (both.2 ∙ λ i. (joined ((two i).0) ((one i).0), (two i).1)) c.load.ensures.2 in
+    let own = two_own c.join_seat.new.seat.me c.load.new.seat.me p q (both.2 ∙ λ i. (joined ((two i).0) ((one i).0), (two i).1)) c.load.ensures.2 in
     let views = c.into_badge-2.ensures.2 ∙ ap (λ m. m.0 ∷ []) c.split_seat-new.ensures.2 ∙ ap (λ m. left_of m.0 ∷ []) have_met in
-    has_seen c.other.inside.seat.views c.into_badge-2.result.views _ _ (longer p.seen q.seen) c.other.invariant views
+    has_seen c.other.inside.seat.views c.into_badge-2.result.views _ _ (longer p.seen q.seen) c.other.invariant views own.1
 
 pub returns-clause-one : goal.returns-clause-one
 returns-clause-one g c =
