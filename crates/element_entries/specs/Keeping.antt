@@ -11,7 +11,6 @@ use Rattle.cacheability.specs.InOrder.{union}
 use Rattle.cache_contexts.specs.Optimised.{has}
 use Rattle.cache_entries.specs.declared.kept.Bin.{Bin}
 use Rattle.cache_entries.specs.declared.kept.Bin.TheVariants as bin
-use Rattle.element_entries.specs.Keys.{required}
 
 -- A fragment may be kept where its age isn't 0; so may the page of a target. The page of a path may be where besides it is
 -- for no one viewer or session.
@@ -20,12 +19,12 @@ MayKeep bin.Fragments c = c.max_age ≡ Seconds 0 → ⊥
 MayKeep bin.Dynamic c = MustPlacehold c → ⊥
 MayKeep bin.Anonymous c = c.max_age ≡ Seconds 0 → ⊥
 
--- every context is one that every element is kept by
-abbrev pub all_required : List Context → Bool
-all_required contexts = list_all (has required) contexts
+-- every context is one of the first key's
+abbrev pub all_first : List Context → List Context → Bool
+all_first first contexts = list_all (has first) contexts
 
--- The contexts of the second key, where there is one: those that a redirect told and these, or these where more than the
--- required ones are among them.
-abbrev pub second_contexts : Option (List Context) → List Context → Option (List Context)
-second_contexts None contexts = if all_required contexts then None else Some contexts
-second_contexts (Some told) contexts = Some (union context_cmp told contexts)
+-- The contexts of the second key, where there is one: those that a redirect told and these, or these where more than those of the
+-- first key are among them.
+abbrev pub second_contexts : List Context → Option (List Context) → List Context → Option (List Context)
+second_contexts first None contexts = if all_first first contexts then None else Some contexts
+second_contexts first (Some told) contexts = Some (union context_cmp told contexts)

@@ -6,6 +6,7 @@ use Rattle.cacheability.specs.declared.context.Context.{Context}
 use Rattle.cacheability.specs.declared.tag.Tag.{Tag}
 use Rattle.cacheability.specs.declared.tag.Tag.TheVariants as tag
 use Rattle.tag_counts.specs.Counts.{sum_of}
+use Rattle.content_state.specs.Context.{Visit}
 use Rattle.content_state.specs.Plan.{Needs}
 use Rattle.cache_contexts.specs.Values.{valued}
 use Rattle.cache_contexts.specs.LeftOut.{LeavesOut}
@@ -20,11 +21,11 @@ needs_of j = record { tags = j.cacheability.tags; contexts = j.cacheability.cont
 
 -- What an entry says of itself: of the contexts that were needed and the required ones those that no other makes redundant;
 -- the tags that were needed, those that stand in for the other contexts, and `rendered`; and the age.
-pub record Bubbles (r : Reader) (needed said : Cacheability) : Type 0 where
+pub record Bubbles (v : Visit) (needed said : Cacheability) : Type 0 where
   pub all : List Context
   pub stand_ins : List Tag
   pub all_are : HasBoth needed.contexts required all
-  pub leaves_out : LeavesOut (visit r) all said.contexts stand_ins
+  pub leaves_out : LeavesOut v all said.contexts stand_ins
   pub tags_are : (t : Tag) → Contains said.tags t ↔ ((Contains needed.tags t ⊎ (t ≡ tag.Rendered)) ⊎ Contains stand_ins t)
   pub age : said.max_age ≡ needed.max_age
 
@@ -35,7 +36,7 @@ pub record IsEntryOf (r : Reader) (j : Joined) (e : Entry) : Type 0 where
   pub libraries : e.libraries ≡ j.libraries.items
   pub last : e.last ≡ j.last
   pub status : e.status ≡ j.status
-  pub bubbles : Bubbles r j.cacheability e.cacheability
+  pub bubbles : Bubbles (visit r) j.cacheability e.cacheability
   pub made_at : e.made_at ≡ r.state.number
   pub made_moment : e.made_moment ≡ r.moment
   pub values : e.values ≡ map (valued (visit r)) e.cacheability.contexts

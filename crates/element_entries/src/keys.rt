@@ -1,23 +1,16 @@
 //! Under which keys elements are kept.
 ghost use Rattle.std.specs.Prelude.{◌≡◌, IfOk, map};
 ghost use Rattle.cache_contexts.specs.Values.{valued};
-ghost use Rattle.element_entries.specs.Keys.{visit, required, key_by};
+ghost use Rattle.element_entries.specs.Keys.{visit, first_by, key_by};
 
 use crate::finding::same_contexts;
+use crate::first::{Declared, first_contexts};
 use crate::reader::Reader;
 use cache_contexts::{ContextValue, values};
 use cache_entries::{Entry, Key, Subject};
 use cacheability::Context;
 use content_rows::{Duplicate, Items};
 use std::alloc::{AllocError, Global};
-
-/// The contexts that every element is kept by: the language, the theme, and what the viewer is permitted.
-/// <https://www.drupal.org/docs/drupal-apis/render-api/cacheability-of-render-arrays>
-pub fn required_contexts() -> [Context; 3]
-    ensures { result ≡ required }
-{
-    [Context::Language, Context::Theme, Context::UserPermissions]
-}
 
 /// What is kept, once more. `Err` only where memory is wanting.
 pub fn duplicate_subject(alloc: Global, subject: &Subject) -> Result<Subject, AllocError>
@@ -42,14 +35,19 @@ pub fn values_for(
     values(alloc, reader.state, reader.account, reader.ask, contexts)
 }
 
-/// The first key of what is kept, with the values of the required contexts for a reader. `Err` only where memory is wanting.
-pub fn first_key(alloc: Global, reader: &Reader<'_>, subject: Subject) -> Result<Key, AllocError>
-    ensures { IfOk result (λ key. key ≡ key_by (visit reader.now) subject required) }
+/// The first key of what is kept, with the values of the required contexts and of what it declares, for a reader. `Err` only where
+/// memory is wanting.
+pub fn first_key(
+    alloc: Global,
+    reader: &Reader<'_>,
+    subject: Subject,
+    declared: Declared,
+) -> Result<Key, AllocError>
+    ensures { IfOk result (λ key. key ≡ key_by (visit reader.now) subject (first_by declared)) }
 {
-    let contexts = required_contexts();
     Ok(Key {
         subject,
-        values: values_for(alloc, reader, &contexts)?,
+        values: values_for(alloc, reader, first_contexts(declared).as_slice())?,
     })
 }
 

@@ -3,7 +3,7 @@ ghost use Rattle.std.specs.Prelude.{◌≡◌, IfOk, OnOk};
 ghost use Rattle.cacheability.specs.InOrder.{HasBoth, AddsItem, union};
 ghost use Rattle.cacheability.specs.Tag.{tag_cmp};
 ghost use Rattle.cacheability.specs.declared.tag.Tag.TheVariants as tag;
-ghost use Rattle.element_entries.specs.Keys.{required};
+ghost use Rattle.element_entries.specs.Keys.{visit, required};
 ghost use Rattle.element_entries.specs.Making.{Bubbles, IsEntryOf};
 
 use crate::keys::values_for;
@@ -47,7 +47,7 @@ fn bubbled(
     reader: &Reader<'_>,
     mut cacheability: Cacheability,
 ) -> Result<Cacheability, AllocError>
-    ensures { IfOk result (λ said. Bubbles reader.now cacheability said) }
+    ensures { IfOk result (λ said. Bubbles (visit reader.now) cacheability said) }
 {
     add_required(&mut cacheability)?;
     let said = optimise(

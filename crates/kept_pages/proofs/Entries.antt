@@ -1,5 +1,5 @@
 -- What was found, and what was made.
-use Rattle.std.proofs.Common.{ℕ, List, [], ◌∷◌, ◌≡◌, ◌+◌, sym, ◌∙◌, ap, subst, arith, Option, Some, None, IfSome, inl, inr, map, length, take, length-append}
+use Rattle.std.proofs.Common.{refl, ℕ, List, [], ◌∷◌, ◌≡◌, ◌+◌, sym, ◌∙◌, ap, subst, arith, Option, Some, None, IfSome, inl, inr, map, length, take, length-append}
 use Rattle.std.proofs.lemmas.List.{take-append-le, length-take-le}
 use Rattle.std.specs.Arc.{arc_value}
 use Rattle.std.specs.declared.sync.Arc.{Arc}
@@ -37,7 +37,7 @@ use Rattle.element_entries.proofs.Entries.{made_on}
 use Rattle.site_house.specs.House.{HouseView, Moves, Stays}
 use Rattle.site_house.specs.Bins.{IsSeenIn, IsSoundIn}
 use Rattle.site_house.proofs.Histories.{replay_number}
-use Rattle.site_house.proofs.Moving.{moves_on}
+use Rattle.site_house.proofs.Moving.{moves_same, moves_on}
 use Rattle.kept_pages.specs.Houses.{Steady, Reads, IsMadeFor}
 use Rattle.kept_pages.specs.Joins.{IsWhole}
 use Rattle.kept_pages.proofs.Parts.{same_pieces}
@@ -48,6 +48,9 @@ steady_on a b = record { moves = moves_on a.moves b.moves; stays = record { hand
 
 pub steady_of : {old new : HouseView} → Moves old new → Stays old new → Steady old new
 steady_of moves stays = record { moves = moves; stays = stays }
+
+pub steady_same : (house : HouseView) → Steady house house
+steady_same house = record { moves = moves_same house; stays = record { handed = refl; keepers = refl } }
 
 -- a state that was seen is still seen
 pub seen_on : (old new : HouseView) (s : State) → Moves old new → IsSeenIn old s → IsSeenIn new s

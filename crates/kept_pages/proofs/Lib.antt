@@ -2,9 +2,10 @@ pub mod Parts
 pub mod Entries
 pub mod OfFrames
 pub mod Shelves
+pub mod Using
+pub mod Taking
 pub mod Counting
 pub mod Lasting
 pub mod Pages
-pub mod Using
 pub mod Timeless
 pub mod Most

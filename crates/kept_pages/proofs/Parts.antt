@@ -1,6 +1,6 @@
 -- Elements whose places are filled in, part by part.
 use Rattle.std.proofs.Common.{ℕ, zero, suc, Bool, true, false, List, [], ◌∷◌, ◌++◌, ◌≡◌, ◌<◌, ◌≤◌, ◌+◌, refl, sym, ◌∙◌, ap, subst, append_assoc, append-nil, take, length, get_or, Option, Some, None, Contains, inl, inr}
-use Rattle.std.specs.Prelude.{◌==◌, if◌then◌else◌, IfOk, OnOk, Result, Ok, Err}
+use Rattle.std.specs.Prelude.{◌==◌, if◌then◌else◌, IfOk, Result, Ok, Err}
 use Rattle.std.proofs.lemmas.Grind.{take_at_read}
 use Rattle.cacheability.specs.declared.cacheability.Cacheability.{Cacheability}
 use Rattle.html_out.specs.declared.part.Segment.{Segment}
@@ -19,9 +19,9 @@ use Rattle.render_canvas.specs.Board.{pieces_of}
 use Rattle.render_canvas.specs.Canvas.{Keeps}
 use Rattle.render_canvas.specs.Finished.{needs_of as needs_built}
 use Rattle.render_canvas.proofs.BoardLaws.{pieces_of-append}
-use Rattle.render_canvas.proofs.Run.{Keeps-trans, Made-kept}
+use Rattle.render_canvas.proofs.Run.{Keeps-refl, Keeps-trans, Made-kept}
 use Rattle.render_array.specs.declared.element.Element.TheVariants as element
-use Rattle.render_array.specs.Built.{Builds}
+use Rattle.render_array.specs.Built.{TellsExactly, Builds}
 use Rattle.render_array.specs.Whole.{shown_below, whole, fragment_level}
 use Rattle.renderer.proofs.Joining.{fills_kept, fills_append, fills_bytes, parts_append, no_later, least_first, least_second, within_both}
 use Rattle.renderer.proofs.Standing.{some_below, none_below}
@@ -45,6 +45,18 @@ same_front : (xs ys zs : List Library) → SameMembers xs ys → SameMembers (xs
 same_front xs ys zs same = record {
   there = λ x h. elim (in_append xs zs x h) [ inl g ↦ in_left ys zs x (same.there x g) | inr g ↦ in_right ys zs x g ];
   back = λ x h. elim (in_append ys zs x h) [ inl g ↦ in_left xs zs x (same.back x g) | inr g ↦ in_right xs zs x g ];
+}
+
+pub joins_none : (fill : Filling) (v : Visit) (j : Joined) → Joins fill v [] j j
+joins_none fill v j = record {
+  shown = [];
+  attached = [];
+  appended = sym (append-nil (pieces_of j.segments));
+  libraries = subst (λ l. SameMembers j.libraries.items l) (sym (append-nil j.libraries.items)) (same_refl j.libraries.items);
+  kept = Keeps-refl (needs_of j);
+  not_over = λ h. h;
+  status = refl;
+  fills = (refl, refl);
 }
 
 joins_then : (fill : Filling) (v : Visit) (a b : List Piece) (old mid new : Joined) → Joins fill v a old mid → Joins fill v b mid new → Joins fill v (a ++ b) old new
@@ -197,6 +209,7 @@ begins_of p v b begun builds segments none libraries cacheability last status on
     same = subst (SameMembers b.libraries) (sym libraries) (same_refl b.libraries);
   };
   not_over = subst (λ n. v.moment ≤ n) (sym last) builds.not_over;
+  exact = subst (λ (c : Cacheability). TellsExactly p v c) (sym cacheability) builds.exact;
   places = ap (λ s. open_places (pieces_of s)) segments ∙ builds.places;
   none = none;
   one = one;
@@ -210,12 +223,12 @@ pub begun_whole : (fill : Filling) (v : Visit) (p : Plan (Option ℕ)) (begun : 
 begun_whole fill v p begun new begins joins = whole_of fill v p begun.filled.joined.status (pieces_of begun.segments) begun.filled.joined.libraries.items begun.filled.joined new
     begins.makes begins.not_over refl (ap pieces_of begins.none) refl joins
 
--- what holds anyway holds of a call that ends well
-pub on_ok_any : {A E Q : Type 0} (r : Result A E) → Q → OnOk r Q
-on_ok_any (Ok x) q = q
-on_ok_any (Err e) q = tt
-
 -- two facts of what a call gives
 pub if_ok_both : {A E : Type 0} {P Q R : A → Type 0} (r : Result A E) → ((x : A) → P x → Q x → R x) → IfOk r P → IfOk r Q → IfOk r R
 if_ok_both (Ok x) f p q = f x p q
 if_ok_both (Err e) f p q = tt
+
+-- and three
+pub if_ok_three : {A E : Type 0} {P Q R S : A → Type 0} (r : Result A E) → ((x : A) → P x → Q x → R x → S x) → IfOk r P → IfOk r Q → IfOk r R → IfOk r S
+if_ok_three (Ok x) f p q s = f x p q s
+if_ok_three (Err e) f p q s = tt

@@ -21,11 +21,12 @@ use Rattle.cache_entries.specs.Entries.{IsFresh}
 use Rattle.fragment_cache.specs.Bins.{Bins, Shelf, Thing, Whole, Towards, shelf_of, with_shelf, thing_of, thing_found, IsAbsent, MovesUp, LooksIn, Replaces, KeepsAt}
 use Rattle.element_entries.specs.Readers.{Reader}
 use Rattle.element_entries.specs.Keeping.{MayKeep, second_contexts}
-use Rattle.element_entries.specs.Keys.{visit, required, key_by}
+use Rattle.element_entries.specs.Keys.{visit, declared_by, first_by, first_contexts, key_by}
+use Rattle.element_entries.specs.declared.first.Declared.{Declared}
 use Rattle.site_house.specs.House.{HouseView}
 use Rattle.site_house.specs.Bins.{LooksAt, LooksUp, KeepsUnder, KeepsAt as KeepsInHouse, unkept_by}
 use Rattle.kept_pages.specs.declared.looking.Seen.{Seen}
-use Rattle.kept_pages.specs.Held.{Shelves, IsTold, looked_by, things_in, NothingLost, Rises, StaysKept, StandsFresh, HeldBy, Held, StandsAlone, SeenOnce, SeenIn, Landed, Puts, StandsBy, IsHeldBy, Offers, Closes}
+use Rattle.kept_pages.specs.Held.{Shelves, IsTold, first_of, looked_by, things_in, NothingLost, Rises, StaysKept, StandsFresh, HeldBy, Held, StandsAlone, SeenOnce, SeenIn, Landed, Puts, StandsBy, IsHeldBy, Offers, Closes}
 
 pub stays-refl : (s : Shelves) → StaysKept s s
 stays-refl s = record { things = λ b. same_refl (things_in s b); dropped = refl; unkept = refl }
@@ -183,9 +184,14 @@ module _ (r : Reader) (house new : HouseView) (b : Bin) (key : Key) where
       saw_nothing r old b key k.0 new k.1 (looks.unkept ∙ told.unkept) (subst (λ (x : Answer). LooksIn old.bins b key (thing_found x) k.0) is k.2)
 
 -- ---- a look at both keys
+
+-- the key with the values of the first contexts is the first one
+pub first_is : (r : Reader) (key : Key) (declared : Declared) → key ≡ key_by (visit r) key.subject (first_by declared) → declared ≡ declared_by r.state.rows key.subject → key ≡ first_of r key.subject
+first_is r key declared is same = is ∙ ap (λ (d : Declared). key_by (visit r) key.subject (first_by d)) same
+
 module _ (r : Reader) (old : Shelves) (b : Bin) (s : Subject) where
   abbrev first_key : Key
-  first_key = key_by (visit r) s required
+  first_key = first_of r s
 
   pub seen_first : (key : Key) (seen : Seen) (new : HouseView) → key ≡ first_key → SeenOnce r old b key seen new → seen.told ≡ None → SeenIn r old b s (record { entry = seen.entry; told = None }) new
   seen_first key seen new is once none =
@@ -382,9 +388,9 @@ lent (Some x) None h = absurd h
 lent (Some x) (Some y) h = ap Some h
 
 -- where there is no second key, the first one was looked at last
-pub looked_first : (told : Option (List Context)) (contexts : List Context) → second_contexts told contexts ≡ None → looked_by told ≡ required
-looked_first None contexts none = refl
-looked_first (Some c) contexts none = absurd (let same = none in cc)
+pub looked_first : (first : List Context) (told : Option (List Context)) (contexts : List Context) → second_contexts first told contexts ≡ None → looked_by first told ≡ first
+looked_first first None contexts none = refl
+looked_first first (Some c) contexts none = absurd (let same = none in cc)
 
 -- the contexts of a second key, if there is one
 pub no_second : (o : Option (Arc (List Context) Global)) (second : Option (List Context)) → o ≡ None → option_map arc_value o ≡ second → second ≡ None
@@ -394,7 +400,7 @@ pub one_second : (o : Option (Arc (List Context) Global)) (second : Option (List
 one_second o second x is same = sym same ∙ ap (option_map arc_value) is
 
 module _ (r : Reader) (old : Shelves) (b : Bin) (s : Subject) (e : Entry) (fresh : IsFresh r.state r.viewer r.ask r.moment e) where
-  pub offered_first : (told : Option (List Context)) (new : HouseView) → second_contexts told e.cacheability.contexts ≡ None → Puts old b (key_by (visit r) s required) (Whole e) new → Offers r old b s told e new
+  pub offered_first : (told : Option (List Context)) (new : HouseView) → second_contexts (first_contexts r.state.rows s) told e.cacheability.contexts ≡ None → Puts old b (first_of r s) (Whole e) new → Offers r old b s told e new
   offered_first told new is p = record {
     after = p.after;
     is = p.is;
@@ -405,8 +411,8 @@ module _ (r : Reader) (old : Shelves) (b : Bin) (s : Subject) (e : Entry) (fresh
     };
   }
 
-  pub offered_second : (told : Option (List Context)) (contexts : List Context) (mid new : HouseView) → second_contexts told e.cacheability.contexts ≡ Some contexts
-      → (p : Puts old b (key_by (visit r) s required) (Towards contexts) mid) → Puts p.after b (key_by (visit r) s contexts) (Whole e) new → Offers r old b s told e new
+  pub offered_second : (told : Option (List Context)) (contexts : List Context) (mid new : HouseView) → second_contexts (first_contexts r.state.rows s) told e.cacheability.contexts ≡ Some contexts
+      → (p : Puts old b (first_of r s) (Towards contexts) mid) → Puts p.after b (key_by (visit r) s contexts) (Whole e) new → Offers r old b s told e new
   offered_second told contexts mid new is p q = record {
     after = q.after;
     is = q.is;
@@ -414,7 +420,7 @@ module _ (r : Reader) (old : Shelves) (b : Bin) (s : Subject) (e : Entry) (fresh
     kept = λ none. go (p.landed (lost_first old p.after q.after p.rises q.rises none)) (q.landed (lost_then old p.after q.after p.rises q.rises none));
   }
     where
-      go : Landed old b (key_by (visit r) s required) (Towards contexts) p.after → Landed p.after b (key_by (visit r) s contexts) (Whole e) q.after → IsHeldBy r old b s told e q.after
+      go : Landed old b (first_of r s) (Towards contexts) p.after → Landed p.after b (key_by (visit r) s contexts) (Whole e) q.after → IsHeldBy r old b s told e q.after
       go l m = record {
         held = subst (λ (second : Option (List Context)). StandsBy r (things_in q.after b) s second e) (sym is)
             (record { there = m.there; fresh = fresh }, elim (m.others b _ l.there) [ inl a ↦ inl a | inr k ↦ inr k.1 ]);

@@ -1,17 +1,25 @@
 -- What is kept is used, and what may be kept is.
-use Rattle.std.proofs.Common.{ℕ, List, Option, ◌≡◌, inl, inr, refl, sym, subst, arith}
+use Rattle.std.proofs.Common.{List, Option, ◌≡◌, inl, inr, sym, subst, arith}
 use Rattle.cacheability.specs.declared.context.Context.{Context}
 use Rattle.cache_entries.specs.declared.entry.Entry.{Entry}
 use Rattle.cache_entries.specs.declared.key.Subject.{Subject}
 use Rattle.cache_entries.specs.declared.kept.Bin.{Bin}
 use Rattle.element_entries.specs.Readers.{Reader}
 use Rattle.element_entries.specs.Keeping.{MayKeep, second_contexts}
+use Rattle.element_entries.specs.Keys.{first_contexts}
 use Rattle.site_house.specs.House.{HouseView}
-use Rattle.kept_pages.specs.Held.{Shelves, IsTold, NothingLost, Rises, StaysKept, HeldBy, Held, IsHeldBy, ClosesTo, Goes, Tells}
+use Rattle.kept_pages.specs.Held.{Shelves, IsTold, NothingLost, Rises, StaysKept, HeldBy, Held, IsHeldBy, ClosesTo, Goes, AllHeld, JustHeld, RestIsBuilt, GoesTo}
 use Rattle.kept_pages.specs.Went.{Went, Done, Found, Built}
-use Rattle.kept_pages.specs.Used.{AllHeld, JustHeld, RestIsBuilt, KeptAndUsed}
-use Rattle.kept_pages.proofs.Counting.{stays_back, stays_held}
 use Rattle.kept_pages.proofs.Shelves.{rises-then, lost_first, lost_then, stands_held}
+
+-- what stays kept stays held
+pub stays_back : (r : Reader) (a b : Shelves) → StaysKept a b → (d : Bin) (x : Subject) (e : Entry) → HeldBy r b d x e → HeldBy r a d x e
+stays_back r a b stays d x e (inl k) = inl (record { there = (stays.things d).back _ k.there; fresh = k.fresh })
+stays_back r a b stays d x e (inr k) = inr (record { contexts = k.contexts; redirect = (stays.things d).back _ k.redirect; second = record { there = (stays.things d).back _ k.second.there; fresh = k.second.fresh } })
+
+pub stays_held : (r : Reader) (a b : Shelves) → StaysKept a b → (d : Bin) (x : Subject) → Held r a d x → Held r b d x
+stays_held r a b stays d x (e, inl k) = (e, inl (record { there = (stays.things d).there _ k.there; fresh = k.fresh }))
+stays_held r a b stays d x (e, inr k) = (e, inr (record { contexts = k.contexts; redirect = (stays.things d).there _ k.redirect; second = record { there = (stays.things d).there _ k.second.there; fresh = k.second.fresh } }))
 
 stays_rises : (a b : Shelves) → StaysKept a b → Rises a b
 stays_rises a b stays = let d = stays.dropped in let u = stays.unkept in record { dropped = omega arith; unkept = omega arith }
@@ -46,7 +54,7 @@ one_of r new b c s x e held is =
     subst (λ y. Held r new c y) (sym is.1) (subst (λ d. Held r new d s) (sym is.0) (e, held))
 
 held_of : (r : Reader) (old new : Shelves) (b : Bin) (s : Subject) (told : Option (List Context)) (e : Entry) → IsHeldBy r old b s told e new → HeldBy r new b s e
-held_of r old new b s told e kept = stands_held r new b s (second_contexts told e.cacheability.contexts) e kept.held
+held_of r old new b s told e kept = stands_held r new b s (second_contexts (first_contexts r.state.rows s) told e.cacheability.contexts) e kept.held
 
 kept_held : (r : Reader) (old new : Shelves) (b : Bin) (s : Subject) (told : Option (List Context)) (e : Entry) → IsHeldBy r old b s told e new → (c : Bin) (x : Subject) → Held r old c x → Held r new c x
 kept_held r old new b s told e kept c x (f, inl h) = elim (kept.others c _ h.there) [
@@ -133,16 +141,12 @@ rest_of r first old (Built b s e inner rest) new alike (h, (told, looked, filled
     let others = rest_of r first kept rest new (alike_stays r first filled kept i.alike (not_kept r filled b s told e kept closes may_not)) k just.2 in
     record { rest = (may_not, i.rest, others.rest); alike = others.alike }
 
--- what is told of a call
-pub used_of : (r : Reader) (Shape : Went → Type 0) (old new : HouseView) (built : ℕ) → Tells r Shape old new 0 built → (shelves : Shelves) → IsTold old shelves → KeptAndUsed r Shape shelves new built
-used_of r Shape old new built t shelves told =
-    let g = t.goes shelves told in
-    record {
-      tree = t.tree;
-      shape = t.shape;
-      counted = (let told = t.counted 0 refl in omega arith);
-      after = g.after;
-      is = g.is;
-      held = λ none. all_held r shelves t.tree g.after g.goes none;
-      rest = λ just. (rest_of r shelves shelves t.tree g.after (record { there = λ c x h. h; back = λ c x h. h }) g.goes just).rest;
-    }
+-- what became of it, and what follows
+pub goes_to : (r : Reader) (old : Shelves) (t : Went) (new : HouseView) (after : Shelves) → IsTold new after → Goes r old t after → GoesTo r old t new
+goes_to r old t new after is g = record {
+  after = after;
+  is = is;
+  goes = g;
+  held = λ none. all_held r old t after g none;
+  rest = λ just. (rest_of r old old t after (record { there = λ c x h. h; back = λ c x h. h }) g just).rest;
+}

@@ -3,6 +3,7 @@
 use Rattle.std.specs.Prelude.{ℕ, List, ◌≡◌, ◌≤◌, ◌<◌, ◌⊎◌, ◌+◌, min, Contains, Option, Some, None, IfSome, option_map}
 use Rattle.std.specs.Arc.{arc_value}
 use Rattle.cacheability.specs.declared.context.Context.{Context}
+use Rattle.content_state.specs.Met.{Met}
 use Rattle.content_state.specs.Places.{SameMembers}
 use Rattle.cache_entries.specs.declared.entry.Entry.{Entry}
 use Rattle.cache_entries.specs.declared.key.Key.{Key}
@@ -12,10 +13,10 @@ use Rattle.cache_entries.specs.Entries.{IsFresh}
 use Rattle.fragment_cache.specs.Bins.{Bins, Thing, Whole, Towards, shelf_of}
 use Rattle.element_entries.specs.Readers.{Reader}
 use Rattle.element_entries.specs.Keeping.{MayKeep, second_contexts}
-use Rattle.element_entries.specs.Keys.{visit, required, key_by}
+use Rattle.element_entries.specs.Keys.{visit, first_contexts, key_by}
 use Rattle.site_house.specs.House.{HouseView}
 use Rattle.kept_pages.specs.declared.looking.Seen.{Seen}
-use Rattle.kept_pages.specs.Went.{Went, Done, Found, Built, number_built}
+use Rattle.kept_pages.specs.Went.{Went, Done, Found, Built, number_built, entries_in, Says}
 
 -- what is kept, and how often something wasn't kept for want of memory
 pub record Shelves : Type 0 where
@@ -50,6 +51,10 @@ pub record StaysKept (old new : Shelves) : Type 0 where
 
 -- ---- what is held for a reader
 
+-- the key that something is looked for by first
+abbrev pub first_of : Reader → Subject → Key
+first_of r s = key_by (visit r) s (first_contexts r.state.rows s)
+
 -- a fresh entry stands at a key
 pub record StandsFresh (r : Reader) (things : List (Key × Thing)) (key : Key) (e : Entry) : Type 0 where
   pub there : Contains things (key, Whole e)
@@ -58,12 +63,12 @@ pub record StandsFresh (r : Reader) (things : List (Key × Thing)) (key : Key) (
 -- or at the second key, which the redirect at the first gives
 pub record StandsBehind (r : Reader) (things : List (Key × Thing)) (s : Subject) (e : Entry) : Type 0 where
   pub contexts : List Context
-  pub redirect : Contains things (key_by (visit r) s required, Towards contexts)
+  pub redirect : Contains things (first_of r s, Towards contexts)
   pub second : StandsFresh r things (key_by (visit r) s contexts) e
 
 -- what is held in a bin, by an entry
 abbrev pub HeldBy : Reader → Shelves → Bin → Subject → Entry → Type 0
-HeldBy r shelves b s e = StandsFresh r (things_in shelves b) (key_by (visit r) s required) e ⊎ StandsBehind r (things_in shelves b) s e
+HeldBy r shelves b s e = StandsFresh r (things_in shelves b) (first_of r s) e ⊎ StandsBehind r (things_in shelves b) s e
 
 abbrev pub Held : Reader → Shelves → Bin → Subject → Type 0
 Held r shelves b s = (e : Entry) × HeldBy r shelves b s e
@@ -87,17 +92,17 @@ pub record SeenOnce (r : Reader) (old : Shelves) (b : Bin) (key : Key) (seen : S
 
 -- what a redirect at the first key tells, if one stands there
 abbrev pub IsToldBy : Reader → Shelves → Bin → Subject → Option (List Context) → Type 0
-IsToldBy r shelves b s None = (c : List Context) → Contains (things_in shelves b) (key_by (visit r) s required, Towards c) → ⊥
-IsToldBy r shelves b s (Some c) = StandsAlone (things_in shelves b) (key_by (visit r) s required) c
+IsToldBy r shelves b s None = (c : List Context) → Contains (things_in shelves b) (first_of r s, Towards c) → ⊥
+IsToldBy r shelves b s (Some c) = StandsAlone (things_in shelves b) (first_of r s) c
 
--- the contexts of the key that was looked at last, by what a redirect told
-abbrev pub looked_by : Option (List Context) → List Context
-looked_by None = required
-looked_by (Some contexts) = contexts
+-- the contexts of the key that was looked at last, by those of the first one and what a redirect told
+abbrev pub looked_by : List Context → Option (List Context) → List Context
+looked_by first None = first
+looked_by first (Some contexts) = contexts
 
 -- it is that key
 abbrev pub IsLookedAt : Reader → Key → Option (List Context) → Type 0
-IsLookedAt r key told = key ≡ key_by (visit r) key.subject (looked_by told)
+IsLookedAt r key told = key ≡ key_by (visit r) key.subject (looked_by (first_contexts r.state.rows key.subject) told)
 
 -- a look at the first key, and at the second where a redirect gives it: it is held by what was seen, or isn't held; and what the
 -- redirect told
@@ -126,14 +131,14 @@ pub record Puts (old : Shelves) (b : Bin) (key : Key) (thing : Thing) (new : Hou
 -- A fresh entry stands at the first key, or at the second one, behind the redirect to these contexts. Where they give the first
 -- key, it stands there in place of the redirect.
 abbrev pub StandsBy : Reader → List (Key × Thing) → Subject → Option (List Context) → Entry → Type 0
-StandsBy r things s None e = StandsFresh r things (key_by (visit r) s required) e
+StandsBy r things s None e = StandsFresh r things (first_of r s) e
 StandsBy r things s (Some contexts) e =
     StandsFresh r things (key_by (visit r) s contexts) e
-    × (Contains things (key_by (visit r) s required, Towards contexts) ⊎ (key_by (visit r) s required ≡ key_by (visit r) s contexts))
+    × (Contains things (first_of r s, Towards contexts) ⊎ (first_of r s ≡ key_by (visit r) s contexts))
 
 -- An entry is held, behind a redirect that takes over what was told; and nothing under keys of anything else changed.
 pub record IsHeldBy (r : Reader) (old : Shelves) (b : Bin) (s : Subject) (told : Option (List Context)) (e : Entry) (new : Shelves) : Type 0 where
-  pub held : StandsBy r (things_in new b) s (second_contexts told e.cacheability.contexts) e
+  pub held : StandsBy r (things_in new b) s (second_contexts (first_contexts r.state.rows s) told e.cacheability.contexts) e
   pub others : (c : Bin) (p : Key × Thing) → Contains (things_in old c) p → Contains (things_in new c) p ⊎ ((c ≡ b) × (p.0.subject ≡ s))
 
 -- an entry was to be kept: where nothing was lost it is held
@@ -170,10 +175,34 @@ Goes r old (Built b s e inner rest) new =
     (Held r old b s → ⊥) × ((told : Option (List Context)) × (looked : Shelves) × (filled : Shelves) × (kept : Shelves) × IsToldBy r old b s told
     × StaysKept old looked × Goes r looked inner filled × ClosesTo r filled b s told e kept × Goes r kept rest new)
 
+-- ---- what is kept is used, and what may be kept is
+
+-- each that was needed, and may be kept, is held
+abbrev pub AllHeld : Reader → Shelves → Went → Type 0
+AllHeld r shelves Done = Unit {0}
+AllHeld r shelves (Found b s e rest) = Held r shelves b s × AllHeld r shelves rest
+AllHeld r shelves (Built b s e inner rest) = (MayKeep b e.cacheability → Held r shelves b s) × AllHeld r shelves inner × AllHeld r shelves rest
+
+-- of what was needed just that was held which may be kept
+abbrev pub JustHeld : Reader → Shelves → Went → Type 0
+JustHeld r shelves Done = Unit {0}
+JustHeld r shelves (Found b s e rest) = (Held r shelves b s → MayKeep b e.cacheability) × JustHeld r shelves rest
+JustHeld r shelves (Built b s e inner rest) = (MayKeep b e.cacheability → Held r shelves b s) × JustHeld r shelves inner × JustHeld r shelves rest
+
+-- just that was built which may not be kept
+abbrev pub RestIsBuilt : Went → Type 0
+RestIsBuilt Done = Unit {0}
+RestIsBuilt (Found b s e rest) = MayKeep b e.cacheability × RestIsBuilt rest
+RestIsBuilt (Built b s e inner rest) = (MayKeep b e.cacheability → ⊥) × RestIsBuilt inner × RestIsBuilt rest
+
+-- This became of it. Where nothing was lost meanwhile, each that was needed and may be kept is held afterwards; and where just what
+-- may be kept was held before, just the rest was built.
 pub record GoesTo (r : Reader) (old : Shelves) (t : Went) (new : HouseView) : Type 0 where
   pub after : Shelves
   pub is : IsTold new after
   pub goes : Goes r old t after
+  pub held : NothingLost old after → AllHeld r after t
+  pub rest : JustHeld r old t → RestIsBuilt t
 
 -- What was needed is of such a shape; so many more were built, up to the greatest u64; and where the house tells what is kept,
 -- this became of it.
@@ -189,8 +218,10 @@ pub record BuildsTo (r : Reader) (old : Shelves) (inner : Went) (b : Bin) (s : S
   pub goes : Goes r old inner filled
   pub closes : Closes r filled b s told e new
 
-pub record BuiltUp (r : Reader) (Inner : Went → Type 0) (b : Bin) (s : Subject) (told : Option (List Context)) (e : Entry) (old new : HouseView) (built : ℕ) : Type 0 where
+-- so it was, which met this itself, and says what bubbles of all
+pub record BuiltUp (r : Reader) (own : Met) (Inner : Went → Type 0) (b : Bin) (s : Subject) (told : Option (List Context)) (e : Entry) (old new : HouseView) (built : ℕ) : Type 0 where
   pub inner : Went
   pub of_places : Inner inner
+  pub says : Says (visit r) own (entries_in inner) e
   pub counted : built ≡ min (number_built (Built b s e inner Done)) 18446744073709551615
   pub goes : (shelves : Shelves) → IsTold old shelves → BuildsTo r shelves inner b s told e new

@@ -17,6 +17,7 @@ use Rattle.page_meaning.specs.Meaning.{meaning, for_everybody}
 use Rattle.render_canvas.specs.Board.{pieces_of}
 use Rattle.render_canvas.specs.Canvas.{Keeps}
 use Rattle.render_array.specs.declared.element.Element.TheVariants as element
+use Rattle.render_array.specs.Built.{TellsExactly}
 use Rattle.render_array.specs.Whole.{level, element_level, shown_below, whole}
 use Rattle.element_entries.specs.declared.making.Joined.{Joined}
 use Rattle.element_entries.specs.Making.{needs_of}
@@ -28,11 +29,12 @@ pub record IsWhole (p : Plan (Option ℕ)) (v : Visit) (j : Joined) : Type 0 whe
   pub makes : MakesWhole p v j.status (pieces_of j.segments) j.libraries.items (needs_of j)
   pub not_over : v.moment ≤ j.last
 
--- A plan makes what was begun, its places left open, and it may be shown at the visit's moment; nothing of it was shown yet, and one
--- element was built.
+-- A plan makes what was begun, its places left open, and it may be shown at the visit's moment; what the plan meets is told, and no
+-- more; nothing of it was shown yet, and one element was built.
 pub record Begins (p : Plan (Option ℕ)) (v : Visit) (begun : Begun) : Type 0 where
   pub makes : MakesWhole p v begun.filled.joined.status (pieces_of begun.segments) begun.filled.joined.libraries.items (needs_of begun.filled.joined)
   pub not_over : v.moment ≤ begun.filled.joined.last
+  pub exact : TellsExactly p v begun.filled.joined.cacheability
   pub places : open_places (pieces_of begun.segments) ≡ (met p v).places
   pub none : begun.filled.joined.segments ≡ []
   pub one : begun.filled.built ≡ 1

@@ -1,5 +1,6 @@
 -- What of a page is needed: what stands in the places of what is built, at any depth.
 use Rattle.std.specs.Prelude.{ℕ, zero, suc, List, [], ◌∷◌, ◌≡◌, ◌==◌, Bool, true, false, Option, Some, None}
+use Rattle.std.specs.List.{flat_map}
 use Rattle.cacheability.specs.declared.tag.Tag.{Tag}
 use Rattle.content_state.specs.declared.element.Fragment.{Fragment}
 use Rattle.content_state.specs.declared.element.Fragment.TheVariants as fragment
@@ -7,7 +8,7 @@ use Rattle.content_state.specs.declared.element.Hole.{Hole}
 use Rattle.content_state.specs.declared.element.Hole.TheVariants as hole
 use Rattle.content_state.specs.Context.{Visit}
 use Rattle.content_state.specs.Plan.{Plan, Done as Gives, ◌>>◌}
-use Rattle.content_state.specs.Met.{met, result_of}
+use Rattle.content_state.specs.Met.{Met, met_nothing, met_tags, met_both, met, result_of}
 use Rattle.content_state.specs.Places.{open_places}
 use Rattle.cache_entries.specs.declared.entry.Entry.{Entry}
 use Rattle.cache_entries.specs.declared.key.Subject.TheVariants as subject
@@ -31,11 +32,20 @@ Visits At (h ∷ hs) t = OneThen (At h) (Visits At hs) t
 abbrev pub InPlaces : (Hole → Went → Type 0) → Visit → Plan (Option ℕ) → Went → Type 0
 InPlaces At v p t = Visits At (met p v).places t
 
+-- what is met where a fragment is built
+abbrev pub met_fragment : Fragment → Visit → Met
+met_fragment f v = met {A = Option ℕ} (fragment_shown f >> Gives None) v
+
+-- a fragment, found by an entry, or built by it, of what stands in its places
+abbrev pub FragmentBy : (Hole → Went → Type 0) → Visit → Fragment → Entry → Went → Type 0
+FragmentBy At v f entry t =
+    OfElement v (met_fragment f v) (InPlaces At v (fragment_shown f >> Gives None)) bin.Fragments (subject.Fragment f) entry t
+
 -- in the place of the libraries nothing is needed; in that of a fragment the fragment, found, or built of what stands in its
 -- places
 pub record OfFragment (At : Hole → Went → Type 0) (v : Visit) (f : Fragment) (t : Went) : Type 0 where
   pub entry : Entry
-  pub element : OfElement (InPlaces At v (fragment_shown f >> Gives None)) bin.Fragments (subject.Fragment f) entry t
+  pub element : FragmentBy At v f entry t
 
 abbrev pub OfPlace : (Hole → Went → Type 0) → Visit → Hole → Went → Type 0
 OfPlace At v hole.Meta t = t ≡ Done
@@ -85,9 +95,18 @@ NeededInFrame v (hole.Fragment f) t =
 abbrev pub InFrame : List ℕ → Visit → Went → Type 0
 InFrame path v t = InPlaces (NeededInFrame v) v (plan_of path element.Page) t
 
+-- the tags that it depends on which places stay open in it
+abbrev pub tags_asked : Visit → Hole → List Tag
+tags_asked v hole.Meta = []
+tags_asked v (hole.Fragment f) = tags_of_lazy v f
+
+-- what is met where it is built: what its plan meets, and which places stay open
+abbrev pub met_in_frame : List ℕ → Visit → Met
+met_in_frame path v = met_both (met_tags (flat_map (tags_asked v) (met (plan_of path element.Page) v).places)) (met (plan_of path element.Page) v)
+
 -- the page of a path as it is kept for whoever views it, found or built
 abbrev pub OfFrame : List ℕ → Visit → Entry → Went → Type 0
-OfFrame path v page t = OfElement (InFrame path v) bin.Dynamic (subject.Page path) page t
+OfFrame path v page t = OfElement v (met_in_frame path v) (InFrame path v) bin.Dynamic (subject.Page path) page t
 
 -- what stands in the places that it leaves open, which were filled in then
 abbrev pub InHoles : Visit → Entry → Went → Type 0
@@ -99,10 +118,11 @@ pub record OfWhole (path : List ℕ) (v : Visit) (t : Went) : Type 0 where
   pub here : IsHere meaning (subject.Page path) v page
   pub both : OneThen (OfFrame path v page) (InHoles v page) t
 
--- what is needed for a viewer without a session: the whole page of the target, found, or built
+-- what is needed for a viewer without a session: the whole page of the target, found, or put together of its entries, where
+-- nothing is met besides
 pub record OfTarget (v : Visit) (t : Went) : Type 0 where
   pub entry : Entry
-  pub element : OfElement (OfWhole v.ask.path v) bin.Anonymous (subject.Target v.ask.target) entry t
+  pub element : OfElement v met_nothing (OfWhole v.ask.path v) bin.Anonymous (subject.Target v.ask.target) entry t
 
 -- what is needed for the page of a request: for whoever has a session, whose token this is, the whole page of the path is put together
 abbrev pub ForSession : Option (List ℕ) → Visit → Went → Type 0

@@ -1,6 +1,7 @@
 //! Pages as they are kept for whoever views them: the places of lazy blocks are left open there.
 ghost use Rattle.std.specs.Prelude.{◌≡◌, ◌∷◌, [], IfOk, OnOk};
 ghost use Rattle.std.specs.Arc.{arc_value};
+ghost use Rattle.std.specs.List.{flat_map};
 ghost use Rattle.std.specs.Option.{option_copied};
 ghost use Rattle.html_out.specs.Segment.{part_of, parts_of};
 ghost use Rattle.content_state.specs.Plan.{Place};
@@ -14,7 +15,8 @@ ghost use Rattle.render_array.specs.Whole.{fragment_level};
 ghost use Rattle.element_entries.specs.Keys.{visit};
 ghost use Rattle.kept_pages.specs.Houses.{Steady, Reads};
 ghost use Rattle.kept_pages.specs.Joins.{IsWhole, TakesFragment, in_shared, Joins};
-ghost use Rattle.kept_pages.specs.Needed.{Visits, OfFragment, NeededBelow, NeededInFrame, InFrame, OfFrame};
+ghost use Rattle.kept_pages.specs.Needed.{Visits, OfFragment, NeededBelow, NeededInFrame, InFrame, tags_asked, met_in_frame, OfFrame};
+ghost use Rattle.kept_pages.specs.Went.{TakesIn, GathersIn};
 ghost use Rattle.kept_pages.specs.Held.{IsLookedAt, Tells, BuiltUp};
 
 use crate::filling::some_fragment;
@@ -26,7 +28,7 @@ use cache_entries::{Bin, Key, Subject};
 use cacheability::{Context, OrderedSet};
 use content_rows::Duplicate;
 use content_state::{Fragment, Hole};
-use element_entries::{Reader, first_key};
+use element_entries::{Declared, Reader, first_key};
 use html_out::Segment;
 use render_array::Element;
 use site_house::House;
@@ -45,8 +47,15 @@ pub fn some_frame<H: House>(
     ensures told { IfOk result (λ child. Tells reader.now (OfFrame reader.now.ask.path (visit reader.now) (arc_value child.entry)) (H.sees house.old) (H.sees house.new) 0 child.built) }
 {
     let subject = Subject::Page(reader.ask().path.duplicate(alloc)?);
-    let mut key = first_key(alloc, reader, subject)?;
-    let Seen { entry, told } = look(alloc, house, reader, Bin::Dynamic, &mut key)?;
+    let mut key = first_key(alloc, reader, subject, Declared::Nothing)?;
+    let Seen { entry, told } = look(
+        alloc,
+        house,
+        reader,
+        Bin::Dynamic,
+        &mut key,
+        Declared::Nothing,
+    )?;
     match entry {
         Some(entry) => Ok(Child { entry, built: 0 }),
         None => built_frame(alloc, house, reader, key, told.as_deref()),
@@ -66,7 +75,7 @@ fn built_frame<H: House>(
     requires looked { IsLookedAt reader.now key (option_copied told) }
     ensures steady { Steady (H.sees house.old) (H.sees house.new) }
     ensures here { IfOk result (λ child. IsHere meaning (subject_is.Page reader.now.ask.path) (visit reader.now) (arc_value child.entry)) }
-    ensures told { IfOk result (λ child. BuiltUp reader.now (InFrame reader.now.ask.path (visit reader.now)) bin_is.Dynamic (subject_is.Page reader.now.ask.path) (option_copied told.entry) (arc_value child.entry) (H.sees house.old) (H.sees house.new) child.built) }
+    ensures told { IfOk result (λ child. BuiltUp reader.now (met_in_frame reader.now.ask.path (visit reader.now)) (InFrame reader.now.ask.path (visit reader.now)) bin_is.Dynamic (subject_is.Page reader.now.ask.path) (option_copied told.entry) (arc_value child.entry) (H.sees house.old) (H.sees house.new) child.built) }
 {
     let filled = build_frame(alloc, house, reader)?;
     keep_filled(alloc, house, reader, Bin::Dynamic, key, filled, told)
@@ -81,7 +90,7 @@ fn build_frame<H: House>(
     requires { Reads (H.sees house.old) reader.now }
     ensures steady { Steady (H.sees house.old) (H.sees house.new) }
     ensures whole { IfOk result (λ f. IsWhole (framed reader.now.ask.path) (visit reader.now) f.joined) }
-    ensures told { IfOk result (λ f. Tells reader.now (InFrame reader.now.ask.path (visit reader.now)) (H.sees house.old) (H.sees house.new) 1 f.built) }
+    ensures told { IfOk result (λ f. Tells reader.now (GathersIn (InFrame reader.now.ask.path (visit reader.now)) (met_in_frame reader.now.ask.path (visit reader.now)) f.joined.cacheability) (H.sees house.old) (H.sees house.new) 1 f.built) }
 {
     let Begun {
         segments,
@@ -102,7 +111,7 @@ fn add_shared_parts<H: House>(
     requires { Reads (H.sees house.old) reader.now }
     ensures steady { Steady (H.sees house.old) (H.sees house.new) }
     ensures joins { OnOk result (Joins in_shared (visit reader.now) (pieces_of (parts_of parts.now)) filled.old.joined filled.new.joined) }
-    ensures told { OnOk result (Tells reader.now (Visits (NeededInFrame (visit reader.now)) (open_places (pieces_of (parts_of parts.now)))) (H.sees house.old) (H.sees house.new) filled.old.built filled.new.built) }
+    ensures told { OnOk result (Tells reader.now (TakesIn (Visits (NeededInFrame (visit reader.now)) (open_places (pieces_of (parts_of parts.now)))) (flat_map (tags_asked (visit reader.now)) (open_places (pieces_of (parts_of parts.now)))) filled.old.joined.cacheability filled.new.joined.cacheability) (H.sees house.old) (H.sees house.new) filled.old.built filled.new.built) }
 {
     for part in parts {
         add_shared_part(alloc, house, reader, part, filled)?;
@@ -121,7 +130,7 @@ fn add_shared_part<H: House>(
     requires { Reads (H.sees house.old) reader.now }
     ensures steady { Steady (H.sees house.old) (H.sees house.new) }
     ensures joins { OnOk result (Joins in_shared (visit reader.now) (pieces_of (part_of part.now ∷ [])) filled.old.joined filled.new.joined) }
-    ensures told { OnOk result (Tells reader.now (Visits (NeededInFrame (visit reader.now)) (open_places (pieces_of (part_of part.now ∷ [])))) (H.sees house.old) (H.sees house.new) filled.old.built filled.new.built) }
+    ensures told { OnOk result (Tells reader.now (TakesIn (Visits (NeededInFrame (visit reader.now)) (open_places (pieces_of (part_of part.now ∷ [])))) (flat_map (tags_asked (visit reader.now)) (open_places (pieces_of (part_of part.now ∷ [])))) filled.old.joined.cacheability filled.new.joined.cacheability) (H.sees house.old) (H.sees house.new) filled.old.built filled.new.built) }
 {
     match part {
         Segment::Bytes(shared) => add_bytes(&mut filled.joined, shared),
@@ -140,7 +149,7 @@ fn add_shared_place<H: House>(
     requires { Reads (H.sees house.old) reader.now }
     ensures steady { Steady (H.sees house.old) (H.sees house.new) }
     ensures joins { OnOk result (Joins in_shared (visit reader.now) (Place hole.now ∷ []) filled.old.joined filled.new.joined) }
-    ensures told { OnOk result (Tells reader.now (Visits (NeededInFrame (visit reader.now)) (hole.now ∷ [])) (H.sees house.old) (H.sees house.new) filled.old.built filled.new.built) }
+    ensures told { OnOk result (Tells reader.now (TakesIn (Visits (NeededInFrame (visit reader.now)) (hole.now ∷ [])) (flat_map (tags_asked (visit reader.now)) (hole.now ∷ [])) filled.old.joined.cacheability filled.new.joined.cacheability) (H.sees house.old) (H.sees house.new) filled.old.built filled.new.built) }
 {
     match hole {
         Hole::Meta => leave_open(&mut filled.joined, hole),
@@ -165,7 +174,7 @@ fn add_shared_fragment<H: House>(
     requires { Reads (H.sees house.old) reader.now }
     ensures steady { Steady (H.sees house.old) (H.sees house.new) }
     ensures takes { OnOk result (TakesFragment (visit reader.now) fragment.now filled.old.joined filled.new.joined) }
-    ensures told { OnOk result (Tells reader.now (OfFragment (NeededBelow (fragment_level fragment.now) (visit reader.now)) (visit reader.now) fragment.now) (H.sees house.old) (H.sees house.new) filled.old.built filled.new.built) }
+    ensures told { OnOk result (Tells reader.now (TakesIn (OfFragment (NeededBelow (fragment_level fragment.now) (visit reader.now)) (visit reader.now) fragment.now) [] filled.old.joined.cacheability filled.new.joined.cacheability) (H.sees house.old) (H.sees house.new) filled.old.built filled.new.built) }
 {
     let child = some_fragment(alloc, house, reader, fragment)?;
     add_child(alloc, &mut filled.joined, &child.entry)?;

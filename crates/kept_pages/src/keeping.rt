@@ -8,16 +8,18 @@ ghost use Rattle.fragment_cache.specs.Bins.{thing_of};
 ghost use Rattle.page_meaning.specs.Meaning.{meaning};
 ghost use Rattle.render_canvas.specs.Board.{pieces_of};
 ghost use Rattle.site_house.specs.Bins.{MayBeKeptIn};
-ghost use Rattle.element_entries.specs.Keys.{visit, required, key_by};
+ghost use Rattle.element_entries.specs.Keys.{visit, declared_by, key_by};
+ghost use Rattle.element_entries.specs.Making.{Bubbles};
 ghost use Rattle.kept_pages.specs.Houses.{Steady, Reads, IsMadeFor};
 ghost use Rattle.kept_pages.specs.Joins.{IsWhole};
-ghost use Rattle.kept_pages.specs.Held.{Shelves, IsTold, IsLookedAt, Puts, Offers, Closes};
+ghost use Rattle.kept_pages.specs.Held.{Shelves, IsTold, first_of, IsLookedAt, Puts, Offers, Closes};
 
 use crate::joining::{Child, Filled};
 use cache_entries::{Bin, Entry, Kept, Key, Subject};
 use cacheability::{Context, OrderedSet};
 use element_entries::{
-    Reader, duplicate_subject, entry_of, first_key, key_beside, may_keep, redirect_to,
+    Declared, Reader, declared_by, duplicate_subject, entry_of, first_key, key_beside, may_keep,
+    redirect_to,
 };
 use site_house::House;
 use std::alloc::{AllocError, Global};
@@ -42,14 +44,19 @@ fn first_again(
     alloc: Global,
     reader: &Reader<'_>,
     key: Key,
+    declared: Declared,
     told: Option<&OrderedSet<Context>>,
 ) -> Result<Key, AllocError>
-    requires { IsLookedAt reader.now key (option_copied told) }
-    ensures { IfOk result (λ first. first ≡ key_by (visit reader.now) key.subject required) }
+    requires looked { IsLookedAt reader.now key (option_copied told) }
+    requires declared { declared ≡ declared_by reader.now.state.rows key.subject }
+    ensures { IfOk result (λ first. first ≡ first_of reader.now key.subject) }
 {
     match told {
         None => Ok(key),
-        Some(_) => first_key(alloc, reader, duplicate_subject(alloc, &key.subject)?),
+        Some(_) => {
+            let subject = duplicate_subject(alloc, &key.subject)?;
+            first_key(alloc, reader, subject, declared)
+        }
     }
 }
 
@@ -80,11 +87,12 @@ fn keep<H: House>(
     ensures told { OnOk result ((shelves : Shelves) → IsTold (H.sees house.old) shelves → Offers reader.now shelves bin key.subject (option_copied told.entry) (arc_value entry.now) (H.sees house.new)) }
 {
     let shared = Arc::try_clone(entry)?;
-    match redirect_to(alloc, told, &entry.cacheability.contexts)? {
+    let declared = declared_by(reader.state(), &key.subject);
+    match redirect_to(alloc, declared, told, &entry.cacheability.contexts)? {
         None => offer(alloc, house, bin, key, Kept::Entry(shared)),
         Some(contexts) => {
             let second = key_by_entry(alloc, reader, &key.subject, contexts.as_slice(), entry)?;
-            let first = first_again(alloc, reader, key, told)?;
+            let first = first_again(alloc, reader, key, declared, told)?;
             offer(alloc, house, bin, first, Kept::Redirect(contexts));
             offer(alloc, house, bin, second, Kept::Entry(shared));
         }
@@ -132,6 +140,7 @@ pub fn keep_filled<H: House>(
     requires asked { IsAskedFor key.subject reader.now.viewer reader.now.ask }
     ensures steady { Steady (H.sees house.old) (H.sees house.new) }
     ensures here { IfOk result (λ child. IsHere meaning key.subject (visit reader.now) (arc_value child.entry)) }
+    ensures says { IfOk result (λ child. Bubbles (visit reader.now) filled.joined.cacheability (arc_value child.entry).cacheability) }
     ensures built { IfOk result (λ child. child.built ≡ filled.built) }
     ensures told { IfOk result (λ child. (shelves : Shelves) → IsTold (H.sees house.old) shelves → Closes reader.now shelves bin key.subject (option_copied told.entry) (arc_value child.entry) (H.sees house.new)) }
 {

@@ -4,13 +4,13 @@ ghost use Rattle.std.specs.Arc.{arc_value};
 ghost use Rattle.cache_contexts.specs.Values.{valued};
 ghost use Rattle.cache_entries.specs.Entries.{IsHere};
 ghost use Rattle.page_meaning.specs.Meaning.{meaning};
-ghost use Rattle.element_entries.specs.Keys.{visit, required, key_by};
+ghost use Rattle.element_entries.specs.Keys.{visit, declared_by, first_by, key_by};
 ghost use Rattle.kept_pages.specs.Houses.{Steady, Reads};
 ghost use Rattle.kept_pages.specs.Held.{Shelves, IsTold, looked_by, SeenOnce, SeenIn};
 
 use cache_entries::{Bin, Entry, Found, Key};
 use cacheability::{Context, OrderedSet};
-use element_entries::{Reader, if_fresh, required_contexts, values_for};
+use element_entries::{Declared, Reader, first_contexts, if_fresh, values_for};
 use site_house::House;
 use std::alloc::{AllocError, Global};
 use std::sync::Arc;
@@ -53,7 +53,7 @@ fn look_once<H: House>(
     }
 }
 
-/// What is kept of something, where it may be shown: at its first key, or at the second that a redirect there gives. The key is
+/// What is kept of something, where it may be shown: at its first key, by what it declares, or at the second that a redirect there gives. The key is
 /// lent, and is then the one that was looked at last: a path or a target is copied once, and what is built is kept under that key.
 pub fn look<H: House>(
     alloc: Global,
@@ -61,16 +61,19 @@ pub fn look<H: House>(
     reader: &Reader<'_>,
     bin: Bin,
     key: &mut Key,
+    declared: Declared,
 ) -> Result<Seen, AllocError>
     requires reads { Reads (H.sees house.old) reader.now }
-    requires is_first { key.old ≡ key_by (visit reader.now) key.old.subject required }
+    requires is_first { key.old ≡ key_by (visit reader.now) key.old.subject (first_by declared) }
+    requires declared { declared ≡ declared_by reader.now.state.rows key.old.subject }
     ensures steady { Steady (H.sees house.old) (H.sees house.new) }
     ensures here { IfOk result (λ seen. IfSome seen.entry (λ e. IsHere meaning key.old.subject (visit reader.now) (arc_value e))) }
     ensures told { IfOk result (λ seen. (shelves : Shelves) → IsTold (H.sees house.old) shelves → SeenIn reader.now shelves bin key.old.subject seen (H.sees house.new)) }
-    ensures looked { IfOk result (λ seen. key.new ≡ key_by (visit reader.now) key.old.subject (looked_by (option_map arc_value seen.told))) }
+    ensures looked { IfOk result (λ seen. key.new ≡ key_by (visit reader.now) key.old.subject (looked_by (first_by declared) (option_map arc_value seen.told))) }
 {
-    let contexts = required_contexts();
-    let Seen { entry, told } = look_once(alloc, house, reader, bin, key, &contexts)?;
+    let first = first_contexts(declared);
+    let contexts = first.as_slice();
+    let Seen { entry, told } = look_once(alloc, house, reader, bin, key, contexts)?;
     match told {
         None => Ok(Seen { entry, told: None }),
         Some(told) => {

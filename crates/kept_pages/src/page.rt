@@ -1,5 +1,5 @@
 //! The page of a request.
-ghost use Rattle.std.specs.Prelude.{◌≡◌, ◌≤◌, IfOk, IsTrue, None, min};
+ghost use Rattle.std.specs.Prelude.{◌≡◌, ◌≤◌, IfOk, IsTrue, None, length, min};
 ghost use Rattle.content_state.specs.Ask.{IsAsk};
 ghost use Rattle.content_state.specs.Viewer.{viewer_of as named_viewer};
 ghost use Rattle.cache_contexts.specs.Values.{visit_on};
@@ -9,29 +9,30 @@ ghost use Rattle.element_entries.specs.Keys.{visit};
 ghost use Rattle.site_house.specs.House.{Moves, Stays};
 ghost use Rattle.site_house.specs.Bins.{IsSeenIn};
 ghost use Rattle.kept_pages.specs.Houses.{Steady, Reads};
-ghost use Rattle.kept_pages.specs.Bodies.{parts_in, libraries_in, status_in, last_in};
+ghost use Rattle.kept_pages.specs.Wholes.{parts_in, libraries_in, status_in, last_in};
 ghost use Rattle.kept_pages.specs.Joins.{MakesPage};
 ghost use Rattle.kept_pages.specs.Lasting.{Lasts};
 ghost use Rattle.kept_pages.specs.Needed.{OfWhole, OfTarget, OfRequest};
-ghost use Rattle.kept_pages.specs.Held.{Shelves, IsTold, Tells};
-ghost use Rattle.kept_pages.specs.Used.{KeptAndUsed};
+ghost use Rattle.kept_pages.specs.Held.{Tells};
 
-use crate::body::{Body, Pieces, body_of};
 use crate::joining::{Child, Filled};
+use crate::pieces::Pieces;
 use crate::whole::{some_target, whole_page};
 use content_state::{Ask, State, Viewer};
 use element_entries::Reader;
-use renderer::meta_text;
+use renderer::Parts;
 use site_access::Account;
 use site_house::House;
 use std::alloc::{AllocError, Global};
 
-/// The page of a request: the status of its reply (RFC 9110, section 15), its body, how many elements were built for it, up to
-/// the greatest u64, and the last moment, in seconds since 1970, at which it may be shown.
+/// The page of a request: the status of its reply (RFC 9110, section 15), its text in the shared pieces that it was put together
+/// from, how many bytes that is, how many elements were built for it, up to the greatest u64, and the last moment, in seconds
+/// since 1970, at which it may be shown.
 #[derive(Drop)]
 pub struct Page {
     pub status: u16,
-    pub body: Body,
+    pub parts: Parts,
+    pub length: u128,
     pub built: u64,
     pub last: u64,
 }
@@ -57,12 +58,12 @@ pub fn render_page<H: House>(
     requires right { IsAsk ask.now }
     ensures moves { Moves (H.sees house.old) (H.sees house.new) }
     ensures stays { Stays (H.sees house.old) (H.sees house.new) }
-    ensures page { IfOk result (λ p. IsPage state.now.rows ask.now now p.status p.body) }
+    ensures page { IfOk result (λ p. IsPage state.now.rows ask.now now p.status p.parts) }
+    ensures length { IfOk result (λ p. p.length ≡ length p.parts) }
     ensures status { IfOk result (λ p. IsTrue (is_page_status p.status)) }
     ensures built { IfOk result (λ p. Tells (record { state = state.now; viewer = viewer.now; ask = ask.now; moment = now }) (OfRequest (visit_on state.now viewer.now ask.now now)) (H.sees house.old) (H.sees house.new) 0 p.built) }
-    ensures used { IfOk result (λ p. (shelves : Shelves) → IsTold (H.sees house.old) shelves → KeptAndUsed (record { state = state.now; viewer = viewer.now; ask = ask.now; moment = now }) (OfRequest (visit_on state.now viewer.now ask.now now)) shelves (H.sees house.new) p.built) }
     ensures at_most { IfOk result (λ p. p.built ≤ min (page_count state.now.rows ask.now now) 18446744073709551615) }
-    ensures lasts { IfOk result (λ p. Lasts state.now ask.now now p.last p.status p.body) }
+    ensures lasts { IfOk result (λ p. Lasts state.now ask.now now p.last p.status p.parts) }
 {
     let account = Account::new(alloc, state, viewer)?;
     let reader = Reader::new(state, &account, ask, now);
@@ -78,9 +79,10 @@ fn request_page<H: House>(
     requires reads { Reads (H.sees house.old) reader.now }
     requires viewer { reader.now.viewer ≡ named_viewer reader.now.state.rows reader.now.ask.cookie reader.now.moment }
     ensures steady { Steady (H.sees house.old) (H.sees house.new) }
-    ensures page { IfOk result (λ p. IsPage reader.now.state.rows reader.now.ask reader.now.moment p.status p.body) }
+    ensures page { IfOk result (λ p. IsPage reader.now.state.rows reader.now.ask reader.now.moment p.status p.parts) }
+    ensures length { IfOk result (λ p. p.length ≡ length p.parts) }
     ensures status { IfOk result (λ p. IsTrue (is_page_status p.status)) }
-    ensures lasts { IfOk result (λ p. Lasts reader.now.state reader.now.ask reader.now.moment p.last p.status p.body) }
+    ensures lasts { IfOk result (λ p. Lasts reader.now.state reader.now.ask reader.now.moment p.last p.status p.parts) }
     ensures told { IfOk result (λ p. Tells reader.now (OfRequest (visit reader.now)) (H.sees house.old) (H.sees house.new) 0 p.built) }
 {
     match reader.viewer().session {
@@ -99,13 +101,14 @@ fn shared_page<H: House>(
     requires nobody { reader.now.viewer.session ≡ None }
     requires viewer { reader.now.viewer ≡ named_viewer reader.now.state.rows reader.now.ask.cookie reader.now.moment }
     ensures steady { Steady (H.sees house.old) (H.sees house.new) }
-    ensures page { IfOk result (λ p. IsPage reader.now.state.rows reader.now.ask reader.now.moment p.status p.body) }
+    ensures page { IfOk result (λ p. IsPage reader.now.state.rows reader.now.ask reader.now.moment p.status p.parts) }
+    ensures length { IfOk result (λ p. p.length ≡ length p.parts) }
     ensures status { IfOk result (λ p. IsTrue (is_page_status p.status)) }
-    ensures lasts { IfOk result (λ p. Lasts reader.now.state reader.now.ask reader.now.moment p.last p.status p.body) }
+    ensures lasts { IfOk result (λ p. Lasts reader.now.state reader.now.ask reader.now.moment p.last p.status p.parts) }
     ensures told { IfOk result (λ p. Tells reader.now (OfTarget (visit reader.now)) (H.sees house.old) (H.sees house.new) 0 p.built) }
 {
     let Child { entry, built } = some_target(alloc, house, reader)?;
-    page_of(alloc, reader, Pieces::Kept(entry), built)
+    page_of(alloc, reader, &Pieces::Kept(entry), built)
 }
 
 /// The page of a request for whoever has a session: nothing of the whole is kept.
@@ -113,35 +116,39 @@ fn own_page<H: House>(alloc: Global, house: &mut H, reader: &Reader<'_>) -> Resu
     requires reads { Reads (H.sees house.old) reader.now }
     requires viewer { reader.now.viewer ≡ named_viewer reader.now.state.rows reader.now.ask.cookie reader.now.moment }
     ensures steady { Steady (H.sees house.old) (H.sees house.new) }
-    ensures page { IfOk result (λ p. IsPage reader.now.state.rows reader.now.ask reader.now.moment p.status p.body) }
+    ensures page { IfOk result (λ p. IsPage reader.now.state.rows reader.now.ask reader.now.moment p.status p.parts) }
+    ensures length { IfOk result (λ p. p.length ≡ length p.parts) }
     ensures status { IfOk result (λ p. IsTrue (is_page_status p.status)) }
-    ensures lasts { IfOk result (λ p. Lasts reader.now.state reader.now.ask reader.now.moment p.last p.status p.body) }
+    ensures lasts { IfOk result (λ p. Lasts reader.now.state reader.now.ask reader.now.moment p.last p.status p.parts) }
     ensures told { IfOk result (λ p. Tells reader.now (OfWhole reader.now.ask.path (visit reader.now)) (H.sees house.old) (H.sees house.new) 0 p.built) }
 {
     let Filled { joined, built } = whole_page(alloc, house, reader)?;
-    page_of(alloc, reader, Pieces::Own(joined), built)
+    page_of(alloc, reader, &Pieces::Own(joined), built)
 }
 
 /// The page that a whole one gives: the lines of its libraries are made last.
 fn page_of(
     alloc: Global,
     reader: &Reader<'_>,
-    pieces: Pieces,
+    pieces: &Pieces,
     built: u64,
 ) -> Result<Page, AllocError>
     requires viewer { reader.now.viewer ≡ named_viewer reader.now.state.rows reader.now.ask.cookie reader.now.moment }
-    requires makes { MakesPage (visit reader.now) (status_in pieces) (pieces_of (parts_in pieces)) (libraries_in pieces) (last_in pieces) }
-    ensures page { IfOk result (λ p. IsPage reader.now.state.rows reader.now.ask reader.now.moment p.status p.body) }
+    requires makes { MakesPage (visit reader.now) (status_in pieces.now) (pieces_of (parts_in pieces.now)) (libraries_in pieces.now) (last_in pieces.now) }
+    ensures page { IfOk result (λ p. IsPage reader.now.state.rows reader.now.ask reader.now.moment p.status p.parts) }
+    ensures length { IfOk result (λ p. p.length ≡ length p.parts) }
     ensures status { IfOk result (λ p. IsTrue (is_page_status p.status)) }
-    ensures lasts { IfOk result (λ p. Lasts reader.now.state reader.now.ask reader.now.moment p.last p.status p.body) }
+    ensures lasts { IfOk result (λ p. Lasts reader.now.state reader.now.ask reader.now.moment p.last p.status p.parts) }
     ensures built { IfOk result (λ p. p.built ≡ built) }
 {
-    let meta = meta_text(alloc, pieces.libraries())?;
+    let parts = pieces.text(alloc)?;
+    let length = parts.len();
     let last = pieces.last();
     match pieces.status() {
         Some(status) => Ok(Page {
             status,
-            body: body_of(pieces, meta),
+            parts,
+            length,
             built,
             last,
         }),

@@ -1,7 +1,8 @@
 //! Whole pages: what is kept of them for whoever views them, with what is lazy filled in.
-ghost use Rattle.std.specs.Prelude.{◌≡◌, IfOk, None};
+ghost use Rattle.std.specs.Prelude.{◌≡◌, [], IfOk, None};
 ghost use Rattle.std.specs.Arc.{arc_value};
 ghost use Rattle.std.specs.Option.{option_copied};
+ghost use Rattle.content_state.specs.Met.{met_nothing};
 ghost use Rattle.cache_entries.specs.declared.key.Subject.TheVariants as subject_is;
 ghost use Rattle.cache_entries.specs.declared.kept.Bin.TheVariants as bin_is;
 ghost use Rattle.cache_entries.specs.Entries.{IsHere};
@@ -12,6 +13,7 @@ ghost use Rattle.element_entries.specs.Keys.{visit};
 ghost use Rattle.kept_pages.specs.Houses.{Steady, Reads};
 ghost use Rattle.kept_pages.specs.Joins.{IsWhole};
 ghost use Rattle.kept_pages.specs.Needed.{InHoles, OfWhole, OfTarget};
+ghost use Rattle.kept_pages.specs.Went.{TakesIn, GathersIn};
 ghost use Rattle.kept_pages.specs.Held.{IsLookedAt, Tells, BuiltUp};
 
 use crate::filling::add_parts;
@@ -22,7 +24,7 @@ use crate::looking::{Seen, look};
 use cache_entries::{Bin, Key, Subject};
 use cacheability::{Context, OrderedSet};
 use content_rows::Duplicate;
-use element_entries::{Reader, first_key};
+use element_entries::{Declared, Reader, first_key};
 use render_array::Element;
 use renderer::element_level;
 use site_house::House;
@@ -42,8 +44,15 @@ pub fn some_target<H: House>(
     ensures told { IfOk result (λ child. Tells reader.now (OfTarget (visit reader.now)) (H.sees house.old) (H.sees house.new) 0 child.built) }
 {
     let subject = Subject::Target(reader.ask().target.duplicate(alloc)?);
-    let mut key = first_key(alloc, reader, subject)?;
-    let Seen { entry, told } = look(alloc, house, reader, Bin::Anonymous, &mut key)?;
+    let mut key = first_key(alloc, reader, subject, Declared::Nothing)?;
+    let Seen { entry, told } = look(
+        alloc,
+        house,
+        reader,
+        Bin::Anonymous,
+        &mut key,
+        Declared::Nothing,
+    )?;
     match entry {
         Some(entry) => Ok(Child { entry, built: 0 }),
         None => built_target(alloc, house, reader, key, told.as_deref()),
@@ -64,7 +73,7 @@ fn built_target<H: House>(
     requires looked { IsLookedAt reader.now key (option_copied told) }
     ensures steady { Steady (H.sees house.old) (H.sees house.new) }
     ensures here { IfOk result (λ child. IsHere meaning (subject_is.Target reader.now.ask.target) (visit reader.now) (arc_value child.entry)) }
-    ensures told { IfOk result (λ child. BuiltUp reader.now (OfWhole reader.now.ask.path (visit reader.now)) bin_is.Anonymous (subject_is.Target reader.now.ask.target) (option_copied told.entry) (arc_value child.entry) (H.sees house.old) (H.sees house.new) child.built) }
+    ensures told { IfOk result (λ child. BuiltUp reader.now met_nothing (OfWhole reader.now.ask.path (visit reader.now)) bin_is.Anonymous (subject_is.Target reader.now.ask.target) (option_copied told.entry) (arc_value child.entry) (H.sees house.old) (H.sees house.new) child.built) }
 {
     let filled = whole_page(alloc, house, reader)?;
     keep_filled(alloc, house, reader, Bin::Anonymous, key, filled, told)
@@ -79,7 +88,7 @@ pub fn whole_page<H: House>(
     requires { Reads (H.sees house.old) reader.now }
     ensures steady { Steady (H.sees house.old) (H.sees house.new) }
     ensures whole { IfOk result (λ f. IsWhole (whole reader.now.ask.path element_is.Page) (visit reader.now) f.joined) }
-    ensures told { IfOk result (λ f. Tells reader.now (OfWhole reader.now.ask.path (visit reader.now)) (H.sees house.old) (H.sees house.new) 0 f.built) }
+    ensures told { IfOk result (λ f. Tells reader.now (GathersIn (OfWhole reader.now.ask.path (visit reader.now)) met_nothing f.joined.cacheability) (H.sees house.old) (H.sees house.new) 0 f.built) }
 {
     let frame = some_frame(alloc, house, reader)?;
     fill_frame(alloc, house, reader, &frame)
@@ -96,7 +105,7 @@ fn fill_frame<H: House>(
     requires here { IsHere meaning (subject_is.Page reader.now.ask.path) (visit reader.now) (arc_value frame.now.entry) }
     ensures steady { Steady (H.sees house.old) (H.sees house.new) }
     ensures whole { IfOk result (λ f. IsWhole (whole reader.now.ask.path element_is.Page) (visit reader.now) f.joined) }
-    ensures told { IfOk result (λ f. Tells reader.now (InHoles (visit reader.now) (arc_value frame.now.entry)) (H.sees house.old) (H.sees house.new) frame.now.built f.built) }
+    ensures told { IfOk result (λ f. Tells reader.now (TakesIn (InHoles (visit reader.now) (arc_value frame.now.entry)) [] (arc_value frame.now.entry).cacheability f.joined.cacheability) (H.sees house.old) (H.sees house.new) frame.now.built f.built) }
 {
     let mut filled = reopen(alloc, frame)?;
     let below = element_level(Element::Page);

@@ -2,3 +2,4 @@ pub mod Joining
 pub mod Standing
 pub mod Texts
 pub mod OfPage
+mod Pieces

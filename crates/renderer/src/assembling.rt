@@ -34,7 +34,7 @@ fn with_meta(alloc: Global, parts: &[Segment<Hole>], meta: &[u8]) -> Result<Vec<
 }
 
 /// How many bytes the text of parts has, with these at the place of the libraries.
-pub fn text_len(parts: &[Segment<Hole>], meta: &[u8]) -> u128
+fn text_len(parts: &[Segment<Hole>], meta: &[u8]) -> u128
     ensures { result ≡ length (text_of meta.now (parts_of parts.now)) }
 {
     let mut total = 0;
@@ -57,7 +57,7 @@ fn part_len(part: &Segment<Hole>, meta: &[u8]) -> usize
 
 /// Adds the text of parts, with these bytes at the place of the libraries. Where no other place is open it is what the parts
 /// show. `Err` only where memory is wanting.
-pub fn add_text(out: &mut Vec<u8>, parts: &[Segment<Hole>], meta: &[u8]) -> Result<(), AllocError>
+fn add_text(out: &mut Vec<u8>, parts: &[Segment<Hole>], meta: &[u8]) -> Result<(), AllocError>
     ensures { OnOk result (out.new.items ≡ out.old.items ++ text_of meta.now (parts_of parts.now)) }
 {
     for part in parts {

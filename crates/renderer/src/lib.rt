@@ -6,8 +6,10 @@ mod assembling;
 mod filled;
 mod levels;
 mod page;
+mod parts;
 
-pub use assembling::{add_text, assembled, meta_text, text_len};
+pub use assembling::{assembled, meta_text};
 pub use filled::{Filled, add_bytes, add_child, add_parts, fill, leave_open};
 pub use levels::element_level;
 pub use page::{Page, page_on};
+pub use parts::{Parts, shared_text};

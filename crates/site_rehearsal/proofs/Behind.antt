@@ -2,11 +2,10 @@
 use Rattle.std.proofs.Common.{◌≡◌, ◌∙◌, List, Option, Some, None, ap, sym, subst}
 use Rattle.cacheability.specs.declared.context.Context.{Context}
 use Rattle.fragment_cache.specs.Bins.{Thing, Whole, Towards}
-use Rattle.element_entries.specs.Keys.{required}
 use Rattle.element_entries.specs.Keeping.{second_contexts}
 use Rattle.site_hall.specs.Stock.{bins_in}
 use Rattle.site_hall.specs.Hall.{HallView, with_stock}
-use Rattle.site_rehearsal.specs.Seats.{Draft}
+use Rattle.site_rehearsal.specs.Seats.{Draft, first_of}
 use Rattle.site_rehearsal.specs.Acts.{KeepsBehind, KeepsDraft}
 use Rattle.site_rehearsal.specs.Keeping.{IsToldAt, KeepsThing}
 
@@ -14,22 +13,22 @@ use Rattle.site_rehearsal.specs.Keeping.{IsToldAt, KeepsThing}
 pub beside_on : (a b c : HallView) → b ≡ with_stock a b.stock → c ≡ with_stock b c.stock → c ≡ with_stock a c.stock
 beside_on a b c first second = second ∙ ap (λ (h : HallView). with_stock h c.stock) first
 
-pub kept_alone : (draft : Draft) (told second : Option (List Context)) (old mid new : HallView) → IsToldAt draft told old mid → second ≡ second_contexts told draft.entry.cacheability.contexts → second ≡ None
-    → KeepsThing draft required (Whole draft.entry) mid new → KeepsDraft draft (bins_in old.stock) (bins_in new.stock)
+pub kept_alone : (draft : Draft) (told second : Option (List Context)) (old mid new : HallView) → IsToldAt draft told old mid → second ≡ second_contexts (first_of draft) told draft.entry.cacheability.contexts → second ≡ None
+    → KeepsThing draft (first_of draft) (Whole draft.entry) mid new → KeepsDraft draft (bins_in old.stock) (bins_in new.stock)
 kept_alone draft told second old mid new at is none keeps = record {
   looked = bins_in mid.stock;
   found = at.found;
   looks = at.looks;
-  keeps = subst (λ (o : Option (List Context)). KeepsBehind o draft (bins_in mid.stock) (bins_in new.stock)) (sym none ∙ is ∙ ap (λ t. second_contexts t draft.entry.cacheability.contexts) at.told_is) keeps.keeps;
+  keeps = subst (λ (o : Option (List Context)). KeepsBehind o draft (bins_in mid.stock) (bins_in new.stock)) (sym none ∙ is ∙ ap (λ t. second_contexts (first_of draft) t draft.entry.cacheability.contexts) at.told_is) keeps.keeps;
 }
 
-pub kept_behind : (draft : Draft) (told second : Option (List Context)) (contexts : List Context) (old mid between new : HallView) → IsToldAt draft told old mid → second ≡ second_contexts told draft.entry.cacheability.contexts → second ≡ Some contexts
-    → KeepsThing draft required (Towards contexts) mid between → KeepsThing draft contexts (Whole draft.entry) between new → KeepsDraft draft (bins_in old.stock) (bins_in new.stock)
+pub kept_behind : (draft : Draft) (told second : Option (List Context)) (contexts : List Context) (old mid between new : HallView) → IsToldAt draft told old mid → second ≡ second_contexts (first_of draft) told draft.entry.cacheability.contexts → second ≡ Some contexts
+    → KeepsThing draft (first_of draft) (Towards contexts) mid between → KeepsThing draft contexts (Whole draft.entry) between new → KeepsDraft draft (bins_in old.stock) (bins_in new.stock)
 kept_behind draft told second contexts old mid between new at is some redirects keeps = record {
   looked = bins_in mid.stock;
   found = at.found;
   looks = at.looks;
-  keeps = subst (λ (o : Option (List Context)). KeepsBehind o draft (bins_in mid.stock) (bins_in new.stock)) (sym some ∙ is ∙ ap (λ t. second_contexts t draft.entry.cacheability.contexts) at.told_is)
+  keeps = subst (λ (o : Option (List Context)). KeepsBehind o draft (bins_in mid.stock) (bins_in new.stock)) (sym some ∙ is ∙ ap (λ t. second_contexts (first_of draft) t draft.entry.cacheability.contexts) at.told_is)
       (bins_in between.stock, redirects.keeps, keeps.keeps);
 }
 

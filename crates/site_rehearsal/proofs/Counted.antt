@@ -7,7 +7,8 @@ use Rattle.site_commands.specs.declared.answer.Answer.TheVariants as answer
 use Rattle.site_commands.specs.declared.command.Command.{Command}
 use Rattle.site_keeper.specs.Memory.{made_of}
 use Rattle.site_keeper.specs.declared.stored.Stored.{Stored}
-use Rattle.site_hall.specs.Opened.{opened_with}
+use Rattle.site_hall.specs.Opened.{stock_in, opened_in}
+use Rattle.site_hall.specs.declared.stock.Rooms.{Rooms}
 use Rattle.site_hall.specs.Hall.{HallView, with_stock, number_of, Settles, settled_by, Answers}
 use Rattle.site_rehearsal.specs.Seats.{Draft, Seat}
 use Rattle.site_rehearsal.specs.Acts.{Acts, IsAnswer, KeepsBuilt}
@@ -113,9 +114,9 @@ all_counted (turn ∷ turns) (r ∷ replies) old new none (mid, takes, rest) =
 pub counted_of : (head : ℕ) (hall : HallView) (turns : List Turn) (replies : List Reply) → hall.pending ≡ None → number_of hall ≡ head → RehearsedOn hall turns replies → AreCounted head replies
 counted_of head hall turns replies none number (end, rehearsed) = subst (λ n. AreCounted n replies) number (all_counted turns replies (begun_on hall) end none rehearsed)
 
-pub counted_from : (base : Stored) (hall : HallView) (turns : List Turn) (replies : List Reply) → hall ≡ opened_with base (Some (made_of base)) 0 true → RehearsedOn hall turns replies → AreCounted base.head replies
-counted_from base hall turns replies opened rehearsed =
+pub counted_from : (rooms : Rooms) (base : Stored) (hall : HallView) (turns : List Turn) (replies : List Reply) → hall ≡ opened_in (stock_in rooms) base (Some (made_of base)) 0 true → RehearsedOn hall turns replies → AreCounted base.head replies
+counted_from rooms base hall turns replies opened rehearsed =
     counted_of base.head hall turns replies (ap (λ (h : HallView). h.pending) opened) (ap number_of opened ∙ first) rehearsed
   where
-    first : number_of (opened_with base (Some (made_of base)) 0 true) ≡ base.head
+    first : number_of (opened_in (stock_in rooms) base (Some (made_of base)) 0 true) ≡ base.head
     first = omega arith

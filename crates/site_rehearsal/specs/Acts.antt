@@ -18,7 +18,6 @@ use Rattle.cache_entries.specs.declared.kept.Found.{Found}
 use Rattle.cache_entries.specs.declared.kept.Found.TheVariants as found
 use Rattle.cache_entries.specs.Entries.{IsFresh}
 use Rattle.fragment_cache.specs.Bins.{Bins, Thing, Whole, Towards, LooksIn, KeepsIn}
-use Rattle.element_entries.specs.Keys.{required}
 use Rattle.element_entries.specs.Keeping.{second_contexts}
 use Rattle.render_array.specs.declared.element.Element.{Element}
 use Rattle.render_array.specs.declared.element.Element.TheVariants as element
@@ -28,7 +27,7 @@ use Rattle.site_hall.specs.Stock.{bins_in}
 use Rattle.site_hall.specs.Hall.{HallView, with_stock, number_of, Answers}
 use Rattle.site_hall.specs.Looked.{IsSoundIn, LooksUp}
 use Rattle.site_hall.specs.Ready.{newest_of_hall}
-use Rattle.site_rehearsal.specs.Seats.{Draft, Seat, IsMade, key_by}
+use Rattle.site_rehearsal.specs.Seats.{Draft, Seat, IsMade, key_by, first_of}
 use Rattle.site_rehearsal.specs.declared.turn.Act.{Act}
 use Rattle.site_rehearsal.specs.declared.turn.Act.TheVariants as act
 use Rattle.site_rehearsal.specs.declared.turn.Reply.{Reply}
@@ -80,8 +79,8 @@ told_by (Some (Towards contexts)) = Some contexts
 
 -- Where there is no second key the entry stands at the first one; else a redirect stands there, and then the entry at the second key.
 abbrev pub KeepsBehind : Option (List Context) → Draft → Bins → Bins → Type 0
-KeepsBehind None draft old new = KeepsIn old draft.bin (key_by draft required) (Whole draft.entry) new
-KeepsBehind (Some contexts) draft old new = (mid : Bins) × KeepsIn old draft.bin (key_by draft required) (Towards contexts) mid
+KeepsBehind None draft old new = KeepsIn old draft.bin (key_by draft (first_of draft)) (Whole draft.entry) new
+KeepsBehind (Some contexts) draft old new = (mid : Bins) × KeepsIn old draft.bin (key_by draft (first_of draft)) (Towards contexts) mid
     × KeepsIn mid draft.bin (key_by draft contexts) (Whole draft.entry) new
 
 -- What was built is kept: what stands at the first key is looked up, and where that is a redirect, its contexts are those of the
@@ -89,8 +88,8 @@ KeepsBehind (Some contexts) draft old new = (mid : Bins) × KeepsIn old draft.bi
 pub record KeepsDraft (draft : Draft) (old new : Bins) : Type 0 where
   pub looked : Bins
   pub found : Option Thing
-  pub looks : LooksIn old draft.bin (key_by draft required) found looked
-  pub keeps : KeepsBehind (second_contexts (told_by found) draft.entry.cacheability.contexts) draft looked new
+  pub looks : LooksIn old draft.bin (key_by draft (first_of draft)) found looked
+  pub keeps : KeepsBehind (second_contexts (first_of draft) (told_by found) draft.entry.cacheability.contexts) draft looked new
 
 -- ---- acts
 

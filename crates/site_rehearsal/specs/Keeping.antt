@@ -5,11 +5,10 @@ use Rattle.cacheability.specs.declared.context.Context.{Context}
 use Rattle.content_state.specs.Replay.{Begins}
 use Rattle.cache_entries.specs.declared.kept.Kept.{Kept}
 use Rattle.cache_entries.specs.declared.kept.Kept.TheVariants as kept
-use Rattle.element_entries.specs.Keys.{required}
 use Rattle.fragment_cache.specs.Bins.{Thing, LooksIn, KeepsIn}
 use Rattle.site_hall.specs.Stock.{bins_in}
 use Rattle.site_hall.specs.Hall.{HallView, with_stock}
-use Rattle.site_rehearsal.specs.Seats.{Draft, key_by}
+use Rattle.site_rehearsal.specs.Seats.{Draft, key_by, first_of}
 use Rattle.site_rehearsal.specs.Acts.{told_by}
 
 -- a redirect, or what was built
@@ -32,7 +31,7 @@ pub record Goes (old new : HallView) : Type 0 where
 -- what a redirect at the first key tells; the look changes nothing but what is kept of pages
 pub record IsToldAt (draft : Draft) (told : Option (List Context)) (old new : HallView) : Type 0 where
   pub found : Option Thing
-  pub looks : LooksIn (bins_in old.stock) draft.bin (key_by draft required) found (bins_in new.stock)
+  pub looks : LooksIn (bins_in old.stock) draft.bin (key_by draft (first_of draft)) found (bins_in new.stock)
   pub told_is : told ≡ told_by found
   pub beside : new ≡ with_stock old new.stock
 

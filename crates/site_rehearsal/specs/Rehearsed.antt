@@ -8,7 +8,8 @@ use Rattle.site_commands.specs.Right.{IsRight}
 use Rattle.site_keeper.specs.Memory.{made_of}
 use Rattle.site_keeper.specs.declared.stored.Stored.{Stored}
 use Rattle.site_hall.specs.Hall.{HallView}
-use Rattle.site_hall.specs.Opened.{opened_with}
+use Rattle.site_hall.specs.Opened.{stock_in, opened_in, opened_with}
+use Rattle.site_hall.specs.declared.stock.Rooms.{Rooms}
 use Rattle.site_rehearsal.specs.Seats.{Seat, seat_or, IsSeat}
 use Rattle.site_rehearsal.specs.Keeping.{IsSure}
 use Rattle.site_rehearsal.specs.Acts.{Acts}
@@ -70,6 +71,10 @@ begun_on hall = record { hall = hall; seats = λ n. None }
 abbrev pub RehearsedOn : HallView → List Turn → List Reply → Type 0
 RehearsedOn hall turns replies = (end : Stage) × Rehearsed turns replies (begun_on hall) end
 
--- turns over the hall of a site as it is opened, whose keeper holds what it was made of
+-- turns over the hall of a site as it is opened, with room for so many things in the bins, whose keeper holds what it was made of
+abbrev pub RehearsesIn : Rooms → Stored → List Turn → List Reply → Type 0
+RehearsesIn rooms base turns replies = RehearsedOn (opened_in (stock_in rooms) base (Some (made_of base)) 0 true) turns replies
+
+-- with the bins of the program
 abbrev pub Rehearses : Stored → List Turn → List Reply → Type 0
 Rehearses base turns replies = RehearsedOn (opened_with base (Some (made_of base)) 0 true) turns replies

@@ -13,6 +13,7 @@ use Rattle.cache_entries.specs.declared.key.Key.{Key}
 use Rattle.cache_entries.specs.declared.key.Subject.{Subject}
 use Rattle.cache_entries.specs.declared.kept.Bin.{Bin}
 use Rattle.cache_entries.specs.Sound.{IsOf, IsAskedFor, IsMadeOn}
+use Rattle.element_entries.specs.Keys.{first_contexts}
 use Rattle.page_meaning.specs.Meaning.{meaning}
 
 -- what a requester built last: on which state, for whom, who asked for what, and what is kept of it in which bin
@@ -30,6 +31,10 @@ key_by draft contexts = record {
   subject = draft.subject;
   values = map (valued (visit_on draft.state draft.viewer draft.ask draft.entry.made_moment)) contexts;
 }
+
+-- the contexts of its first key
+abbrev pub first_of : Draft → List Context
+first_of draft = first_contexts draft.state.rows draft.subject
 
 -- it was made for what is kept of it
 pub record IsMade (draft : Draft) : Type 0 where

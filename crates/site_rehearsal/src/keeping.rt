@@ -3,19 +3,18 @@ ghost use Rattle.std.specs.Prelude.{◌≡◌, OnOk, IfOk};
 ghost use Rattle.std.specs.Arc.{arc_value};
 ghost use Rattle.std.specs.Option.{option_map};
 ghost use Rattle.fragment_cache.specs.Bins.{Whole, Towards, thing_of, thing_found};
-ghost use Rattle.element_entries.specs.Keys.{required};
 ghost use Rattle.element_entries.specs.Keeping.{second_contexts};
 ghost use Rattle.site_hall.specs.Stock.{bins_in};
 ghost use Rattle.site_hall.specs.Hall.{IsHall};
 ghost use Rattle.site_hall.specs.Looked.{StaysBeside};
-ghost use Rattle.site_rehearsal.specs.Seats.{IsDraft};
+ghost use Rattle.site_rehearsal.specs.Seats.{first_of, IsDraft};
 ghost use Rattle.site_rehearsal.specs.Acts.{told_by, KeepsDraft};
 ghost use Rattle.site_rehearsal.specs.Keeping.{IsToldAt, IsOfDraft, KeepsThing};
 
 use crate::seats::Draft;
 use cache_entries::{Found, Kept};
 use cacheability::{Context, OrderedSet};
-use element_entries::{redirect_to, required_contexts};
+use element_entries::redirect_to;
 use site_hall::Hall;
 use site_keeper::Keeper;
 use std::alloc::{AllocError, Global};
@@ -40,8 +39,9 @@ fn told_at<K: Keeper>(
     ensures told { IfOk result (λ told. IsToldAt draft.now (option_map arc_value told) hall.old hall.new) }
     ensures is_hall { OnOk result (IsHall hall.new) }
 {
-    let first = draft.key(alloc, &required_contexts())?;
-    let found = hall.look(alloc, draft.bin, &first)?;
+    let first = draft.first();
+    let key = draft.key(alloc, first.as_slice())?;
+    let found = hall.look(alloc, draft.bin, &key)?;
     Ok(told_in(found))
 }
 
@@ -71,12 +71,12 @@ fn second_for(
     draft: &Draft,
     told: &Option<Arc<OrderedSet<Context>>>,
 ) -> Result<Option<Arc<OrderedSet<Context>>>, AllocError>
-    ensures { IfOk result (λ second. option_map arc_value second ≡ second_contexts (option_map arc_value told.now) draft.now.entry.cacheability.contexts) }
+    ensures { IfOk result (λ second. option_map arc_value second ≡ second_contexts (first_of draft.now) (option_map arc_value told.now) draft.now.entry.cacheability.contexts) }
 {
     let contexts = &draft.entry.cacheability.contexts;
     match told {
-        None => redirect_to(alloc, None, contexts),
-        Some(told) => redirect_to(alloc, Some(&**told), contexts),
+        None => redirect_to(alloc, draft.declared(), None, contexts),
+        Some(told) => redirect_to(alloc, draft.declared(), Some(&**told), contexts),
     }
 }
 
@@ -103,11 +103,12 @@ fn keep_redirect<K: Keeper>(
     contexts: &Arc<OrderedSet<Context>>,
 ) -> Result<(), AllocError>
     requires draft { IsDraft hall.old.base hall.old.log draft.now }
-    ensures keeps { OnOk result (KeepsThing draft.now required (Towards (arc_value contexts.now)) hall.old hall.new) }
+    ensures keeps { OnOk result (KeepsThing draft.now (first_of draft.now) (Towards (arc_value contexts.now)) hall.old hall.new) }
     ensures is_hall { OnOk result (IsHall hall.new) }
 {
     let redirect = Kept::Redirect(Arc::try_clone(contexts)?);
-    keep_at(alloc, hall, draft, &required_contexts(), redirect)
+    let first = draft.first();
+    keep_at(alloc, hall, draft, first.as_slice(), redirect)
 }
 
 /// Keeps what was built under its first key, or, where there is a second one, a redirect and then what was built.
@@ -122,8 +123,9 @@ pub(crate) fn keep_draft<K: Keeper>(
     ensures is_hall { OnOk result (IsHall hall.new) }
 {
     let told = told_at(alloc, hall, draft)?;
+    let first = draft.first();
     match second_for(alloc, draft, &told)? {
-        None => keep_entry(alloc, hall, draft, &required_contexts()),
+        None => keep_entry(alloc, hall, draft, first.as_slice()),
         Some(contexts) => {
             keep_redirect(alloc, hall, draft, &contexts)?;
             keep_entry(alloc, hall, draft, contexts.as_slice())

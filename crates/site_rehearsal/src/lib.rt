@@ -10,5 +10,5 @@ mod seats;
 mod turn;
 mod visitor;
 
-pub use rehearsing::rehearse;
+pub use rehearsing::{rehearse, rehearse_in};
 pub use turn::{Act, Reply, Turn};

@@ -5,16 +5,16 @@ ghost use Rattle.std.specs.Ordering.{nat_cmp};
 ghost use Rattle.std.specs.BTreeMap.{get};
 ghost use Rattle.content_state.specs.SiteRules.{AreValidRows, IsRefusal};
 ghost use Rattle.site_keeper.specs.Memory.{made_of};
-ghost use Rattle.site_hall.specs.Opened.{opened_with};
+ghost use Rattle.site_hall.specs.Opened.{stock_in, opened_in};
 ghost use Rattle.site_rehearsal.specs.Seats.{seat_or};
-ghost use Rattle.site_rehearsal.specs.Rehearsed.{MayTake, IsStage, stage_of, Takes, RehearsedOn, IsOpened, Rehearses};
+ghost use Rattle.site_rehearsal.specs.Rehearsed.{MayTake, IsStage, stage_of, Takes, RehearsedOn, IsOpened, RehearsesIn, Rehearses};
 ghost use Rattle.site_rehearsal.specs.Counted.{AreCounted};
 
 use crate::acting::act;
 use crate::seats::Seat;
 use crate::turn::{Reply, Turn};
 use content_state::{Refusal, State};
-use site_hall::{Hall, NoHall};
+use site_hall::{Hall, NoHall, Rooms};
 use site_keeper::{Keeper, MemoryKeeper, Stored};
 use std::alloc::{AllocError, Global};
 use std::collections::BTreeMap;
@@ -103,25 +103,46 @@ fn why_of<K: Drop>(none: NoHall<K>) -> Refusal
     why
 }
 
-/// The hall of a site, with a keeper in memory that never fails.
-fn opened(alloc: Global, base: Stored) -> Result<Hall<MemoryKeeper>, Refusal>
+/// The hall of a site, with a keeper in memory that never fails, and room for so many things in the bins.
+fn opened(alloc: Global, base: Stored, rooms: Rooms) -> Result<Hall<MemoryKeeper>, Refusal>
     requires { AreValidRows base.rows }
-    ensures opened { IfOk result (λ hall. hall ≡ opened_with base (Some (made_of base)) 0 true) }
+    ensures opened { IfOk result (λ hall. hall ≡ opened_in (stock_in rooms) base (Some (made_of base)) 0 true) }
     ensures refused { IfErr result (λ why. IsRefusal base.rows base.head why) }
 {
     let Ok(copy) = base.duplicate(alloc) else {
         return Err(Refusal::OutOfMemory);
     };
     let keeper = MemoryKeeper::new(alloc, copy, Vec::new(alloc));
-    match Hall::new(alloc, keeper, base) {
+    match Hall::with_rooms(alloc, keeper, base, rooms) {
         Ok(hall) => Ok(hall),
         Err(none) => Err(why_of(none)),
     }
 }
 
 /// The replies to turns of requesters over a site, one after the other: the hall of what is given is theirs alone, with a
-/// keeper in memory that never fails, and each requester is on a state of its own, the one of its last snapshot or accepted edit.
-/// What is given is refused where it is no site; and where memory is wanting, in any turn, all is.
+/// keeper in memory that never fails, and bins with room for so many things; and each requester is on a state of its own, the one
+/// of its last snapshot or accepted edit. What is given is refused where it is no site; and where memory is wanting, in any turn,
+/// all is.
+pub fn rehearse_in(
+    alloc: Global,
+    base: Stored,
+    rooms: Rooms,
+    turns: &[Turn],
+) -> Result<Vec<Reply>, Refusal>
+    requires rows { AreValidRows base.rows }
+    requires may { All MayTake turns.now }
+    ensures rehearsed { IfOk result (λ replies. RehearsesIn rooms base turns.now replies.items) }
+    ensures counted { IfOk result (λ replies. AreCounted base.head replies.items) }
+    ensures refused { IfErr result (λ why. IsRefusal base.rows base.head why) }
+{
+    let mut hall = opened(alloc, base, rooms)?;
+    match take_turns(alloc, &mut hall, turns) {
+        Ok(replies) => Ok(replies),
+        Err(_) => Err(Refusal::OutOfMemory),
+    }
+}
+
+/// The replies to turns of requesters over a site, as `rehearse_in` gives them, with the bins of the program.
 pub fn rehearse(alloc: Global, base: Stored, turns: &[Turn]) -> Result<Vec<Reply>, Refusal>
     requires rows { AreValidRows base.rows }
     requires may { All MayTake turns.now }
@@ -129,9 +150,5 @@ pub fn rehearse(alloc: Global, base: Stored, turns: &[Turn]) -> Result<Vec<Reply
     ensures counted { IfOk result (λ replies. AreCounted base.head replies.items) }
     ensures refused { IfErr result (λ why. IsRefusal base.rows base.head why) }
 {
-    let mut hall = opened(alloc, base)?;
-    match take_turns(alloc, &mut hall, turns) {
-        Ok(replies) => Ok(replies),
-        Err(_) => Err(Refusal::OutOfMemory),
-    }
+    rehearse_in(alloc, base, Rooms::of_program(), turns)
 }

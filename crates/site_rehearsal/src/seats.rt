@@ -1,11 +1,12 @@
 //! Who takes part in a rehearsal.
 ghost use Rattle.std.specs.Prelude.{◌≡◌, IfOk};
-ghost use Rattle.site_rehearsal.specs.Seats.{key_by};
+ghost use Rattle.element_entries.specs.Keys.{contexts_in, declared_by};
+ghost use Rattle.site_rehearsal.specs.Seats.{first_of, key_by};
 
 use cache_entries::{Bin, Entry, Key, Subject};
 use cacheability::Context;
 use content_state::{Ask, State, Viewer};
-use element_entries::{Reader, key_of};
+use element_entries::{Declared, FirstContexts, Reader, declared_by, first_contexts, key_of};
 use site_access::Account;
 use std::alloc::{AllocError, Global};
 use std::marker::Model;
@@ -32,6 +33,20 @@ impl Model for Draft {
 }
 
 impl Draft {
+    /// What is declared by what is kept, on the state that it was built on.
+    pub(crate) fn declared(&self) -> Declared
+        ensures { result ≡ declared_by self.now.state.rows self.now.subject }
+    {
+        declared_by(&self.state, &self.subject)
+    }
+
+    /// The contexts of its first key.
+    pub(crate) fn first(&self) -> FirstContexts
+        ensures { contexts_in result ≡ first_of self.now }
+    {
+        first_contexts(self.declared())
+    }
+
     /// The key of what is kept, with the values that these contexts had when it was built. `Err` only where memory is wanting.
     pub(crate) fn key(&self, alloc: Global, contexts: &[Context]) -> Result<Key, AllocError>
         ensures { IfOk result (λ key. key ≡ key_by self.now contexts.now) }

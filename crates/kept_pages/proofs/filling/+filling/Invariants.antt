@@ -1,4 +1,4 @@
-use Rattle.std.proofs.Common.{◌+◌, ◌*◌, take}
+use Rattle.std.proofs.Common.{[], ◌+◌, ◌*◌, take}
 use Rattle.html_out.specs.Segment.{parts_of}
 use Rattle.content_state.specs.Places.{open_places}
 use Rattle.render_canvas.specs.Board.{pieces_of}
@@ -7,6 +7,7 @@ use Rattle.element_entries.specs.Keys.{visit}
 use Rattle.kept_pages.specs.Houses.{Steady}
 use Rattle.kept_pages.specs.Joins.{Joins}
 use Rattle.kept_pages.specs.Needed.{Visits, NeededBelow}
+use Rattle.kept_pages.specs.Went.{TakesIn}
 use Rattle.kept_pages.specs.Held.{Tells}
 use Rattle.kept_pages.proofs.filling.+filling.Given as goal
 
@@ -29,5 +30,5 @@ abbrev pub invariant-add_parts-loop-part : goal.invariant-add_parts-loop-part
 invariant-add_parts-loop-part g l = record {
   steady : Steady (g.H.House.sees l.fn.house) (g.H.House.sees l.house);
   joins : Joins (shown_below l.fn.below) (visit l.fn.reader) (pieces_of (parts_of (take l.part-index l.fn.parts))) l.fn.filled.joined l.filled.joined;
-  told : Tells l.fn.reader (Visits (NeededBelow l.fn.below (visit l.fn.reader)) (open_places (pieces_of (parts_of (take l.part-index l.fn.parts))))) (g.H.House.sees l.fn.house) (g.H.House.sees l.house) l.fn.filled.built l.filled.built;
+  told : Tells l.fn.reader (TakesIn (Visits (NeededBelow l.fn.below (visit l.fn.reader)) (open_places (pieces_of (parts_of (take l.part-index l.fn.parts))))) [] l.fn.filled.joined.cacheability l.filled.joined.cacheability) (g.H.House.sees l.fn.house) (g.H.House.sees l.house) l.fn.filled.built l.filled.built;
 }

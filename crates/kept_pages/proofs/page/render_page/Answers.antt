@@ -1,19 +1,9 @@
 use Rattle.std.proofs.lemmas.Result.{IfOk-weaker}
-use Rattle.cache_contexts.specs.Values.{visit_on}
-use Rattle.kept_pages.specs.Needed.{OfRequest}
 use Rattle.kept_pages.proofs.Most.{page_at_most}
-use Rattle.kept_pages.proofs.Using.{used_of}
 use Rattle.kept_pages.proofs.page.render_page.Goals as goal
 
 pub returns-clause-at_most : goal.returns-clause-at_most
 returns-clause-at_most g c =
     IfOk-weaker c.request_page.result _ _
     (λ p told. page_at_most _ _ _ c.args.state.now.rows c.args.viewer.now c.args.ask.now c.args.now p.built c.requires.viewer (rw (c.new-reader.ensures, c.in_ok-account.ensures.viewer_is) at told))
-    c.request_page.ensures.told
-
-pub returns-clause-used : goal.returns-clause-used
-returns-clause-used g c =
-    IfOk-weaker c.request_page.result _ _
-    (λ p told.
-    used_of (record { state = c.args.state.now; viewer = c.args.viewer.now; ask = c.args.ask.now; moment = c.args.now }) (OfRequest (visit_on c.args.state.now c.args.viewer.now c.args.ask.now c.args.now)) _ _ p.built (rw (c.new-reader.ensures, c.in_ok-account.ensures.viewer_is) at told))
     c.request_page.ensures.told

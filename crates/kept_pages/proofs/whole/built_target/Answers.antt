@@ -1,6 +1,7 @@
 use Rattle.std.proofs.Common.{refl, sym, subst}
 use Rattle.std.specs.Arc.{arc_value}
 use Rattle.std.specs.Option.{option_copied}
+use Rattle.content_state.specs.Met.{met_nothing}
 use Rattle.cache_entries.specs.declared.key.Subject.{Subject}
 use Rattle.cache_entries.specs.declared.key.Subject.TheVariants as subject
 use Rattle.cache_entries.specs.declared.kept.Bin.TheVariants as bin
@@ -11,7 +12,7 @@ use Rattle.kept_pages.specs.Needed.{OfWhole}
 use Rattle.kept_pages.specs.Held.{Closes}
 use Rattle.kept_pages.proofs.Counting.{built_up, counts_target}
 use Rattle.kept_pages.proofs.Entries.{page_has_no_parts}
-use Rattle.kept_pages.proofs.Parts.{if_ok_both}
+use Rattle.kept_pages.proofs.Parts.{if_ok_three}
 use Rattle.kept_pages.proofs.whole.built_target.Goals as goal
 
 pub keep_filled-requires-clause-closed : goal.keep_filled-requires-clause-closed
@@ -20,9 +21,10 @@ keep_filled-requires-clause-closed g c =
 
 pub returns-clause-told : goal.returns-clause-told
 returns-clause-told g c =
-    if_ok_both c.keep_filled.result
-    (λ child same closes.
-    built_up c.args.reader.now (OfWhole c.args.reader.now.ask.path (visit c.args.reader.now)) bin.Anonymous (subject.Target c.args.reader.now.ask.target) (option_copied c.args.told) (arc_value child.entry) _ _ _ 0 c.in_ok-filled.filled.built child.built refl
-    (counts_target (subject.Target c.args.reader.now.ask.target) (arc_value child.entry)) same c.in_ok-filled.ensures.told
+    let f = c.in_ok-filled.filled in
+    if_ok_three c.keep_filled.result
+    (λ child says same closes.
+    built_up c.args.reader.now met_nothing (OfWhole c.args.reader.now.ask.path (visit c.args.reader.now)) bin.Anonymous (subject.Target c.args.reader.now.ask.target) (option_copied c.args.told) f.joined.cacheability (arc_value child.entry) _ _ _ 0 f.built child.built refl
+    (counts_target (subject.Target c.args.reader.now.ask.target) (arc_value child.entry)) same says c.in_ok-filled.ensures.told
     (λ shelves told. subst (λ (s : Subject). Closes c.args.reader.now shelves bin.Anonymous s (option_copied c.args.told) (arc_value child.entry) (g.H.House.sees c.keep_filled.new.house)) c.requires.asked (closes shelves told)))
-    c.keep_filled.ensures.built c.keep_filled.ensures.told
+    c.keep_filled.ensures.says c.keep_filled.ensures.built c.keep_filled.ensures.told

@@ -8,5 +8,5 @@ pub returns-clause-told : goal.returns-clause-told
 returns-clause-told g c =
     IfOk-weaker c.fill_frame.result _ _
     (λ f holes.
-    tells_whole c.args.reader.now c.args.reader.now.ask.path (visit c.args.reader.now) (arc_value c.in_ok-frame.frame.entry) _ _ _ c.in_ok-frame.frame.built f.built c.in_ok-frame.ensures.here c.in_ok-frame.ensures.told holes)
+    tells_whole c.args.reader.now c.args.reader.now.ask.path (visit c.args.reader.now) (arc_value c.in_ok-frame.frame.entry) f.joined.cacheability _ _ _ c.in_ok-frame.frame.built f.built c.in_ok-frame.ensures.here c.in_ok-frame.ensures.told holes)
     c.fill_frame.ensures.told

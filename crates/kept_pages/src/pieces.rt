@@ -1,16 +1,16 @@
 //! The text of a page, in the pieces that it is kept in.
-ghost use Rattle.std.specs.Prelude.{◌≡◌, ◌++◌, OnOk, length};
+ghost use Rattle.std.specs.Prelude.{◌≡◌, IfOk};
 ghost use Rattle.html_out.specs.Segment.{parts_of};
+ghost use Rattle.render_array.specs.Shown.{meta_text};
 ghost use Rattle.renderer.specs.Filled.{text_of};
-ghost use Rattle.kept_pages.specs.Bodies.{parts_in, libraries_in, status_in, last_in};
+ghost use Rattle.kept_pages.specs.Wholes.{parts_in, libraries_in, status_in, last_in};
 
 use cache_entries::Entry;
 use content_state::{Hole, Library};
 use element_entries::Joined;
-use html_out::Segment;
-use renderer::{add_text, text_len};
-use std::alloc::AllocError;
-use std::marker::Model;
+use html_out::{Bytes, Segment};
+use renderer::{Parts, meta_text, shared_text};
+use std::alloc::{AllocError, Global};
 use std::sync::Arc;
 
 /// A whole page: one that was found or kept, or one that was put together for a session, of which nothing is kept.
@@ -60,45 +60,14 @@ impl Pieces {
             Pieces::Own(joined) => joined.last,
         }
     }
-}
 
-/// The text of a page, still in the pieces that it is kept in, so that it is copied once: behind the head of its reply.
-/// Contracts see it as the list of its bytes.
-#[derive(Drop)]
-pub struct Body {
-    pieces: Pieces,
-    meta: Vec<u8>,
-}
-
-impl Model for Body {
-    ghost use Rattle.std.specs.Prelude.{ℕ, List};
-    ghost use Rattle.renderer.specs.Filled.{text_of};
-    ghost use Rattle.kept_pages.specs.Bodies.{parts_in};
-
-    ghost Value = { List ℕ };
-
-    ghost view = { λ b. text_of b.meta.items (parts_in b.pieces) };
-}
-
-impl Body {
-    /// How many bytes it has.
-    pub fn len(&self) -> u128
-        ensures { result ≡ length self.now }
+    /// Its text, in the pieces that it is kept in, with the lines of its libraries at their place. `Err` only where memory is
+    /// wanting.
+    pub fn text(&self, alloc: Global) -> Result<Parts, AllocError>
+        ensures { IfOk result (λ text. text ≡ text_of (meta_text (libraries_in self.now)) (parts_in self.now)) }
     {
-        text_len(self.pieces.parts(), self.meta.as_slice())
+        let lines = meta_text(alloc, self.libraries())?;
+        let meta = Arc::new(alloc, Bytes::new(lines))?;
+        shared_text(alloc, self.parts(), &meta)
     }
-
-    /// Appends it. `Err` only where memory is wanting.
-    pub fn append_to(&self, out: &mut Vec<u8>) -> Result<(), AllocError>
-        ensures { OnOk result (out.new.items ≡ out.old.items ++ self.now) }
-    {
-        add_text(out, self.pieces.parts(), self.meta.as_slice())
-    }
-}
-
-/// The text of a whole page, with these lines of its libraries at their place.
-pub fn body_of(pieces: Pieces, meta: Vec<u8>) -> Body
-    ensures { result ≡ text_of meta.items (parts_in pieces) }
-{
-    Body { pieces, meta }
 }

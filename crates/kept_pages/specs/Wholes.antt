@@ -4,8 +4,8 @@ use Rattle.std.specs.Arc.{arc_value}
 use Rattle.html_out.specs.Part.{Part}
 use Rattle.content_state.specs.declared.element.Hole.{Hole}
 use Rattle.content_state.specs.declared.element.Library.{Library}
-use Rattle.kept_pages.specs.declared.body.Pieces.{Pieces}
-use Rattle.kept_pages.specs.declared.body.Pieces.TheVariants.{Kept, Own}
+use Rattle.kept_pages.specs.declared.pieces.Pieces.{Pieces}
+use Rattle.kept_pages.specs.declared.pieces.Pieces.TheVariants.{Kept, Own}
 
 abbrev pub parts_in : Pieces → List (Part Hole)
 parts_in (Kept entry) = (arc_value entry).segments
