@@ -1,7 +1,8 @@
 //! The job of serving.
-ghost use Rattle.std.specs.Prelude.{◌≡◌, ◌≤◌, [], length, true, false, IfOk, None};
+ghost use Rattle.std.specs.Prelude.{◌≡◌, ◌≤◌, [], length, true, false, IfOk, OnOk, OnErr, None};
 ghost use Rattle.std.specs.Vec.{vec_capacity};
 ghost use Rattle.site_hall.specs.Hall.{IsHall};
+ghost use Rattle.site_io.specs.Told.{after, AddsFront, Rose};
 ghost use Rattle.site_jobs.specs.Ground.{IsNoSiteOf};
 ghost use Rattle.site_jobs.specs.Jobs.{CountsKeeper, IsNoBase};
 ghost use Rattle.serve_store.specs.Job.{to_serve, FindsNoSite, KeeperRises, OutputRises, PlaceRises, PrintsCount, ServesHall, ServesOpen, ServesStore};
@@ -14,7 +15,7 @@ use crate::opening::{Unopened, hall_of};
 use crate::serving::Serving;
 use crate::texts::{listening_text, served_text};
 use site_hall::Hall;
-use site_io::{Door, write_whole};
+use site_io::{Door, Failed, Sink, write_whole};
 use site_jobs::NoJob;
 use site_places::{NoDevice, Place};
 use site_serve::{Served, Station, Unserved, serve_all};
@@ -76,6 +77,18 @@ fn close<P: Place>(
     }
 }
 
+/// Prints a text, and hands it on at once.
+#[tactic(auto, using(crate::proofs::Writes::all_is_front))]
+fn announce<O: Sink>(output: &mut O, text: &[u8]) -> Result<(), Failed>
+    ensures whole { OnOk result (O.written output.new ≡ after (O.written output.old) text.now) }
+    ensures front { OnErr result (AddsFront (O.written output.old) (O.written output.new) text.now) }
+    ensures cause { OnErr result (Rose (O.faults output.old) (O.faults output.new)) }
+    ensures steady { OnOk result (O.faults output.new ≡ O.faults output.old) }
+{
+    write_whole(output, text)?;
+    output.flush()
+}
+
 /// Serves the site of a hall at these stations, and gives all back.
 fn serve_stations<P: Place, R: Threads + Wait + Sync>(
     rt: &R,
@@ -107,7 +120,7 @@ where
         served: closing,
         stations,
     } = ready;
-    if write_whole(output, &listening).is_err() {
+    if announce(output, &listening).is_err() {
         all_back(place, stations, hall.into_keeper());
         return ServeEnd::OutputFailed;
     }

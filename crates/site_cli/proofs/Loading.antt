@@ -1,23 +1,27 @@
 -- From loading the rows of a file to what a replay of it does.
-use Rattle.std.proofs.Common.{◌≡◌, ◌⊎◌, inl, inr, refl, ℕ, List, Option, Some, None, subst, arith}
+use Rattle.std.proofs.Common.{◌≡◌, ◌∙◌, ◌⊎◌, ◌+◌, ◌-◌, inl, inr, refl, ℕ, List, Option, Some, None, sym, ap, subst, arith}
 use Rattle.std.specs.Prelude.{◌<◌, ◌≤◌}
 use Rattle.content_state.specs.State.{State}
 use Rattle.site_io.specs.Told.{Rose}
 use Rattle.site_files.specs.Rows.{IsToldBy, IsSiteFault}
 use Rattle.site_files.specs.declared.fault.ReadFault.{ReadFault}
 use Rattle.site_files.specs.declared.fault.ReadFault.TheVariants as why
-use Rattle.site_places.specs.Place.{PlaceView, HasTold, OpeningFails, RowsFail}
-use Rattle.site_cli.specs.Run.{IsSiteOf, ReplaysOrStarves, ReplaysFileOrStarves, Runs}
+use Rattle.site_places.specs.Place.{Known, untold, absent, there, held, rows_given, rows_returned, PlaceView, HasTold, OpeningFails, RowsFail}
+use Rattle.site_cli.specs.Load.{ReadingFails}
+use Rattle.serve_store.specs.Job.{ToServe}
+use Rattle.site_cli.specs.Serving.{HasServingCause, Serves}
+use Rattle.site_cli.specs.Run.{IsSiteOf, ReplaysOrStarves, ReplaysFileOrStarves, Runs, RunsJob, RunsWithCause}
 use Rattle.site_cli.specs.Outside.{Outside, Starves}
 use Rattle.site_cli.specs.Words.{Asked, replay, serves, imports, exports, checks, drills}
 
 -- rows that a device told are those that the place told of it beforehand
-pub told_before : (bytes left : Option (List ℕ)) (P : List ℕ → Type 0) → HasTold bytes left → IsToldBy left P → IsToldBy bytes P
-told_before None left P has told = tt
-told_before (Some bytes) left P has told = subst (λ (o : Option (List ℕ)). IsToldBy o P) has told
+pub told_before : (bytes : Known (List ℕ)) (left : Option (List ℕ)) (P : List ℕ → Type 0) → HasTold bytes left → IsToldBy left P → IsToldBy (held bytes) P
+told_before untold left P has told = tt
+told_before absent left P has told = absurd has
+told_before (there bytes) left P has told = subst (λ (o : Option (List ℕ)). IsToldBy o P) has told
 
 -- and so are their faults
-pub fault_before : (bytes left : Option (List ℕ)) (fault : ReadFault) → HasTold bytes left → IsSiteFault left fault → IsSiteFault bytes fault
+pub fault_before : (bytes : Known (List ℕ)) (left : Option (List ℕ)) (fault : ReadFault) → HasTold bytes left → IsSiteFault left fault → IsSiteFault (held bytes) fault
 fault_before bytes left (why.Line n f) has is = told_before bytes left _ has is
 fault_before bytes left (why.Cell f) has is = told_before bytes left _ has is
 fault_before bytes left why.Source has is = tt
@@ -27,14 +31,36 @@ fault_before bytes left why.OutOfMemory has is = tt
 pub some_rose : (old new : ℕ) → old ≡ 0 → Rose old new → 0 < new
 some_rose old new none rose = let from_zero : 1 ≤ new = subst (λ (n : ℕ). Rose n new) none rose in omega arith
 
+-- a device of rows that was given is out
+pub some_out : (old middle : PlaceView) → middle ≡ rows_given old → 0 < middle.rows_out
+some_out old middle given =
+    let out : middle.rows_out ≡ old.rows_out + 1 = ap (λ (v : PlaceView). v.rows_out) given in omega (arith, out)
+
+-- once it is back, all is as it was
+pub back_again : (old middle new : PlaceView) → middle ≡ rows_given old → new ≡ rows_returned middle → new ≡ old
+back_again old middle new given back =
+    let out : old.rows_out + 1 - 1 ≡ old.rows_out = omega arith in
+    back ∙ ap rows_returned given ∙ ap (λ n. record old { rows_out = n }) out
+
+-- or but for the count of such faults
+pub reading_fails : (old middle new : PlaceView) → middle ≡ rows_given old → RowsFail middle new → ReadingFails old new
+reading_fails old middle new given fails =
+    let out : old.rows_out + 1 - 1 ≡ old.rows_out = omega arith in
+    let faults : middle.rows_faults ≡ old.rows_faults = ap (λ (v : PlaceView). v.rows_faults) given in
+    record {
+      same = fails.same ∙ ap (λ (v : PlaceView). record (rows_returned v) { rows_faults = new.rows_faults }) given ∙ ap (λ n. record old { rows_out = n; rows_faults = new.rows_faults }) out;
+      rose = subst (λ n. Rose n new.rows_faults) faults fails.rose;
+      never_falls = subst (λ n. n ≤ new.rows_faults) faults fails.never_falls;
+    }
+
 -- either count of the place rose
-pub one_rose : (old new : PlaceView) → OpeningFails old new ⊎ RowsFail old new → Rose old.faults new.faults ⊎ Rose old.rows_faults new.rows_faults
+pub one_rose : (old new : PlaceView) → OpeningFails old new ⊎ ReadingFails old new → Rose old.faults new.faults ⊎ Rose old.rows_faults new.rows_faults
 one_rose old new (inl opening) = inl opening.rose
 one_rose old new (inr rows) = inr rows.rose
 
 -- a connection over the site of a file, once the place has its rows back
 pub over_file : (path : List ℕ) (base : State) (left written : Option (List ℕ)) (reading writing : ℕ) (before mid : PlaceView) (new : Outside) (status : ℕ)
-    → mid ≡ before → IsSiteOf (before.file path) base
+    → mid ≡ before → IsSiteOf (held (before.file path)) base
     → ReplaysOrStarves base (record { left = left; written = written; reading = reading; writing = writing; place = mid }) new status
     → ReplaysFileOrStarves path (record { left = left; written = written; reading = reading; writing = writing; place = before }) new status
 over_file path base left written reading writing before mid new status same site does =
@@ -51,12 +77,33 @@ starves : (here : Outside) → Starves here here 9
 starves here = record { source = refl; sink = refl; place = refl; status_is = refl }
 
 -- whatever the words ask for, memory may be wanting for it
-pub starved : (job : Option Asked) (here : Outside) → Runs job here here 9
+pub starved : (job : Option Asked) (here : Outside) → RunsJob job here here 9
 starved None here = inr (starves here)
 starved (Some (replay None)) here = inr (starves here)
 starved (Some (replay (Some path))) here = inr (inr (starves here))
-starved (Some (serves what)) here = inr (starves here)
+starved (Some (serves what)) here = starves here
 starved (Some (imports path)) here = inr (inr (starves here))
 starved (Some (exports path)) here = inr (inr (starves here))
 starved (Some (checks path)) here = inr (inr (starves here))
 starved (Some (drills number)) here = inr (starves here)
+
+-- what is done where nothing is served is what the program does
+pub runs_job : (job : Option Asked) (old new : Outside) (status : ℕ) → RunsJob job old new status → Runs job old new status
+runs_job None old new status does = does
+runs_job (Some (replay None)) old new status does = does
+runs_job (Some (replay (Some path))) old new status does = does
+runs_job (Some (serves what)) old new status does = inr does
+runs_job (Some (imports path)) old new status does = does
+runs_job (Some (exports path)) old new status does = does
+runs_job (Some (checks path)) old new status does = does
+runs_job (Some (drills number)) old new status does = does
+
+-- what was served where nothing was done before is what the program does
+pub serving_runs : (job : Option Asked) (what : ToServe) (old middle new : Outside) (status : ℕ) → job ≡ Some (serves what) → middle ≡ old → Serves what middle new status → Runs job old new status
+serving_runs job what old middle new status is same does =
+    subst (λ (j : Option Asked). Runs j old new status) (sym is) (inl (subst (λ (o : Outside). Serves what o new status) same does))
+
+-- and its causes are those of the program
+pub serving_causes : (job : Option Asked) (what : ToServe) (old middle new : Outside) (status : ℕ) → job ≡ Some (serves what) → middle ≡ old → HasServingCause middle new status → RunsWithCause job old new status
+serving_causes job what old middle new status is same cause =
+    subst (λ (j : Option Asked). RunsWithCause j old new status) (sym is) (subst (λ (o : Outside). HasServingCause o new status) same cause)

@@ -6,7 +6,7 @@ use Rattle.site_jobs.specs.Jobs.{Around, Imports, TellsBy}
 use Rattle.site_jobs.specs.declared.job.JobEnd.{JobEnd}
 use Rattle.site_jobs.specs.declared.job.JobEnd.TheVariants as end
 use Rattle.site_cli.specs.Outside.{Outside, Starves}
-use Rattle.site_places.specs.Place.{PlaceView, keeper_given, HoldsTold, KeeperFails, OpeningFails}
+use Rattle.site_places.specs.Place.{PlaceView, keeper_given, HoldsMade, HoldsTold, KeeperFails, OpeningFails}
 
 -- the status of a job's end
 abbrev pub status_of_job : JobEnd → ℕ
@@ -26,12 +26,13 @@ abbrev pub GivesBack : JobEnd → Option Kept → PlaceView → PlaceView → Ty
 GivesBack end.KeeperFailed kept old new = KeeperFails kept old new
 GivesBack _ kept old new = new ≡ keeper_given kept old
 
--- the rows of the input were imported into the store of a path, or not, by how that ended; its keeper was given back
+-- The rows of the input were imported into the store of a path, which was made where nothing was there, or not, by how that
+-- ended; its keeper was given back.
 pub record ImportsInto (path : List ℕ) (old new : Outside) (status : ℕ) : Type 0 where
   pub ended : JobEnd
   pub kept : Option Kept
   pub kept-after : Option Kept
-  pub told : HoldsTold (old.place.store path) kept
+  pub told : HoldsMade (old.place.store path) kept
   pub does : Imports old.left ended (around_job kept old) (around_job kept-after new)
   pub back : GivesBack ended kept-after old.place new.place
   pub status_is : status ≡ status_of_job ended
@@ -47,7 +48,7 @@ pub record TellsOf (text : State → List ℕ) (path : List ℕ) (old new : Outs
   pub source : new.left ≡ old.left
   pub status_is : status ≡ status_of_job ended
 
--- the store wasn't opened, as the place counted: nothing was taken or printed
+-- the store wasn't there or wasn't opened, as the place counted: nothing was taken or printed
 pub record FailsStore (old new : Outside) (status : ℕ) : Type 0 where
   pub source : new.left ≡ old.left
   pub sink : new.written ≡ old.written

@@ -1,9 +1,10 @@
 -- Loading the site of a file of rows.
-use Rattle.std.specs.Prelude.{ℕ, List, ◌≡◌, ◌≢◌, ◌⊎◌, Option, Some}
+use Rattle.std.specs.Prelude.{ℕ, List, ◌≡◌, ◌≢◌, ◌≤◌, ◌⊎◌, Option, Some}
 use Rattle.site_files.specs.Rows.{IsSiteFault}
 use Rattle.site_files.specs.declared.fault.ReadFault.{ReadFault}
 use Rattle.site_files.specs.declared.fault.ReadFault.TheVariants as why
-use Rattle.site_places.specs.Place.{PlaceView, OpeningFails, RowsFail}
+use Rattle.site_io.specs.Told.{Rose}
+use Rattle.site_places.specs.Place.{PlaceView, OpeningFails}
 use Rattle.site_places.specs.declared.place.NoDevice.{NoDevice}
 use Rattle.site_places.specs.declared.place.NoDevice.TheVariants as device
 use Rattle.site_jobs.specs.Texts.{fault_text}
@@ -16,9 +17,15 @@ pub record IsFaultText (bytes : Option (List ℕ)) (text : List ℕ) : Type 0 wh
   pub is_fault : IsSiteFault bytes fault
   pub says : fault_text fault ≡ Some text
 
+-- reading a device of rows failed, as the place counted when it was given back, and nothing else changed
+pub record ReadingFails (old new : PlaceView) : Type 0 where
+  pub same : new ≡ record old { rows_faults = new.rows_faults }
+  pub rose : Rose old.rows_faults new.rows_faults
+  pub never_falls : old.rows_faults ≤ new.rows_faults
+
 -- why no site was loaded of a file of these bytes
 abbrev pub IsNoSiteOf : Option (List ℕ) → PlaceView → PlaceView → NoSite → Type 0
-IsNoSiteOf bytes old new none.Failed = OpeningFails old new ⊎ RowsFail old new
+IsNoSiteOf bytes old new none.Failed = OpeningFails old new ⊎ ReadingFails old new
 IsNoSiteOf bytes old new (none.Refused text) = (new ≡ old) × IsFaultText bytes text
 IsNoSiteOf bytes old new none.OutOfMemory = new ≡ old
 

@@ -8,12 +8,16 @@ use Rattle.content_state.specs.State.{State}
 use Rattle.site_io.specs.Series.{AreFirstOf, last_moment, last_word}
 use Rattle.site_io.specs.declared.device.Point.{Point}
 use Rattle.site_house.specs.History.{newest_of}
+use Rattle.kept_pages.specs.Held.{Shelves}
+use Rattle.site_alone.specs.House.{opened_on}
 use Rattle.site_http.specs.Connection.{Around, Connection}
+use Rattle.site_http.specs.Kept.{shelves_of}
 use Rattle.content_state.specs.declared.commit.Commit.{Commit}
 use Rattle.content_state.specs.SiteRules.{IsValidState}
 use Rattle.site_files.specs.Rows.{rows_of as rows_of_file, IsToldBy, IsSiteFault}
 use Rattle.site_files.specs.declared.fault.ReadFault.{ReadFault}
-use Rattle.site_places.specs.Place.{next_list, clock_given, entropy_given, none_given, IsNoneReached, OpeningFails, RowsFail}
+use Rattle.site_places.specs.Place.{held, next_list, clock_given, entropy_given, none_given, IsNoneReached, OpeningFails}
+use Rattle.site_cli.specs.Load.{ReadingFails}
 use Rattle.site_cli.specs.Outside.{Outside, Starves, HasCause}
 use Rattle.site_cli.specs.Drilling.{DrillsOrStarves}
 use Rattle.site_cli.specs.Jobs.{ImportsOrNot, TellsOrNot}
@@ -33,12 +37,12 @@ status_of ended.ReadFault = 5
 status_of ended.WriteFault = 6
 status_of ended.OutOfMemory = 9
 
--- what stands around a connection whose keeper never failed: what is left, given, drawn, told and written, and the edits that
--- were handed in
-abbrev pub around : Option (List ℕ) → Option (List ℕ) → Option (List ℕ) → Option (List Point) → Option (List ℕ) → List Commit → Around
-around left given words points written handed = record {
+-- what stands around a connection whose keeper never failed: what is left, given, drawn, told and written, the edits that were
+-- handed in, and what is kept of pages
+abbrev pub around : Option (List ℕ) → Option (List ℕ) → Option (List ℕ) → Option (List Point) → Option (List ℕ) → List Commit → Option Shelves → Around
+around left given words points written handed kept = record {
   left = left;
-  out = record { given = given; words = words; points = points; written = written; handed = handed; keepers = 0 };
+  out = record { given = given; words = words; points = points; written = written; handed = handed; keepers = 0; kept = kept };
 }
 
 -- the site of a file of these bytes: the rows that they give, no tag of which was ever invalidated, and the number 0
@@ -50,7 +54,8 @@ pub record IsSiteOf (bytes : Option (List ℕ)) (base : State) : Type 0 where
 
 -- One connection over a site was answered, from the input to the output: at the moments of the place's next list, in
 -- turn, with the words of its next list, in turn. Its log is the edits that it handed in, in order, all of which were
--- accepted; no reply says that the keeper failed. Of the place, one clock and one entropy were taken.
+-- accepted; no reply says that the keeper failed. Nothing was kept of its pages before. Of the place, one clock and one entropy were
+-- taken.
 pub record Replays (base : State) (old new : Outside) (status : ℕ) : Type 0 where
   pub end : Ended
   pub given : Option (List ℕ)
@@ -58,13 +63,14 @@ pub record Replays (base : State) (old new : Outside) (status : ℕ) : Type 0 wh
   pub points : Option (List Point)
   pub points-after : Option (List Point)
   pub log : List Commit
+  pub kept : Option Shelves
   pub in_turn : AreFirstOf last_moment (next_list old.place.moments) given
   pub words_in_turn : AreFirstOf last_word (next_list old.place.words) drawn
   pub begins : IsNoneReached points
   pub connection :
       Connection end
-      (around old.left (none_given (next_list old.place.moments)) (none_given (next_list old.place.words)) points old.written [])
-      (around new.left given drawn points-after new.written log)
+      (around old.left (none_given (next_list old.place.moments)) (none_given (next_list old.place.words)) points old.written [] (shelves_of (opened_on base)))
+      (around new.left given drawn points-after new.written log kept)
       (record { base = base; log = log; pass = 0 }) 1000 (newest_of base [])
   pub place : new.place ≡ entropy_given (clock_given old.place)
   pub status_is : status ≡ status_of end
@@ -95,7 +101,7 @@ pub record RefusesRows (bytes : Option (List ℕ)) (old new : Outside) (status :
 pub record FailsPlace (old new : Outside) (status : ℕ) : Type 0 where
   pub source : new.left ≡ old.left
   pub sink : new.written ≡ old.written
-  pub place : OpeningFails old.place new.place ⊎ RowsFail old.place new.place
+  pub place : OpeningFails old.place new.place ⊎ ReadingFails old.place new.place
   pub status_is : status ≡ 7
 
 -- one connection over the site of a file was answered
@@ -112,10 +118,22 @@ ReplaysOrStarves base old new status = Replays base old new status ⊎ Starves o
 -- give them, or memory was wanting before.
 abbrev pub ReplaysFileOrStarves : List ℕ → Outside → Outside → ℕ → Type 0
 ReplaysFileOrStarves path old new status =
-    (ReplaysFile (old.place.file path) old new status ⊎ RefusesRows (old.place.file path) old new status)
+    (ReplaysFile (held (old.place.file path)) old new status ⊎ RefusesRows (held (old.place.file path)) old new status)
     ⊎ (FailsPlace old new status ⊎ Starves old new status)
 
--- what the program does, by the job that its words name, if they name one
+-- What the program does where nothing is to be served: by the job that its words name, if they name one. Where they ask to
+-- serve, memory was wanting before.
+abbrev pub RunsJob : Option Asked → Outside → Outside → ℕ → Type 0
+RunsJob None old new status = Refuses old new status ⊎ Starves old new status
+RunsJob (Some (replay None)) old new status = ReplaysOrStarves starter_site old new status
+RunsJob (Some (replay (Some path))) old new status = ReplaysFileOrStarves path old new status
+RunsJob (Some (serves what)) old new status = Starves old new status
+RunsJob (Some (imports path)) old new status = ImportsOrNot path old new status
+RunsJob (Some (exports path)) old new status = TellsOrNot exported path old new status
+RunsJob (Some (checks path)) old new status = TellsOrNot checked path old new status
+RunsJob (Some (drills number)) old new status = DrillsOrStarves number old new status
+
+-- what the program does, by the same job
 abbrev pub Runs : Option Asked → Outside → Outside → ℕ → Type 0
 Runs None old new status = Refuses old new status ⊎ Starves old new status
 Runs (Some (replay None)) old new status = ReplaysOrStarves starter_site old new status

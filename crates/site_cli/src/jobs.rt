@@ -22,7 +22,7 @@ fn status_of_job(end: JobEnd) -> u8
     }
 }
 
-/// Imports the rows of the input into the store of that path.
+/// Imports the rows of the input into the store of that path, which is made where nothing is there.
 pub(crate) fn import_job<P: Place>(
     alloc: Global,
     path: &str,
@@ -39,7 +39,7 @@ pub(crate) fn import_job<P: Place>(
         (record { left = P.In.left input.new; written = P.Out.written output.new; reading = P.In.faults input.new; writing = P.Out.faults output.new; place = P.sees place.new })
         result }
 {
-    let mut filled = match place.keeper(path) {
+    let mut filled = match place.keeper_or_new(path) {
         Ok(keeper) => keeper,
         Err(NoDevice::Failed) => return 7,
         Err(NoDevice::OutOfMemory) => return 9,

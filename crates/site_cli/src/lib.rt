@@ -9,7 +9,7 @@ mod serving;
 mod system;
 mod words;
 
-pub use run::{refuse_words, run_site};
+pub use run::{refuse_words, run_job, run_site};
 pub use serve_store::Serving;
 pub use site_alone::{alone_with, rows_of, starter_is_valid};
 pub use site_places::{

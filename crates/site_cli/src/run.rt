@@ -1,12 +1,13 @@
 //! What the program does.
-ghost use Rattle.std.specs.Prelude.{◌≡◌, ◌≤◌, ◌⊎◌, map};
+ghost use Rattle.std.specs.Prelude.{◌≡◌, ◌≤◌, ◌⊎◌, IfErr, IfOk, OnErr, Some, map};
 ghost use Rattle.std.specs.String.{string_bytes};
 ghost use Rattle.site_io.specs.Told.{after, AddsFront, Rose};
 ghost use Rattle.content_state.specs.SiteRules.{IsValidState};
-ghost use Rattle.site_cli.specs.Words.{asked, usage};
+ghost use Rattle.serve_store.specs.Job.{to_serve};
+ghost use Rattle.site_cli.specs.Words.{asked, serves, usage};
 ghost use Rattle.site_cli.specs.Outside.{HasCause};
 ghost use Rattle.site_alone.specs.Sites.{starter_site};
-ghost use Rattle.site_cli.specs.Run.{status_of, ReplaysFileOrStarves, ReplaysOrStarves, Runs, RunsWithCause};
+ghost use Rattle.site_cli.specs.Run.{status_of, ReplaysFileOrStarves, ReplaysOrStarves, Runs, RunsJob, RunsWithCause};
 
 use crate::drilling::drill_job;
 use crate::jobs::{check_job, export_job, import_job};
@@ -14,6 +15,7 @@ use crate::load::{NoSite, load};
 use crate::serving::serve_job;
 use crate::words::{Job, WordFault, read_words};
 use content_state::State;
+use serve_store::Serving;
 use site_alone::{alone_with, starter_state};
 use site_http::serve_connection;
 use site_io::{Door, Ended, Sink, Source, write_whole};
@@ -149,6 +151,49 @@ fn replay_file<P: Place, R>(
     }
 }
 
+/// Does what the words ask for, unless they ask to serve, and answers the status of the program as `run_site` says it.
+/// `Err` only where they ask to serve: what is to be served then, and nothing is done.
+///
+/// It returns for every job, since nothing here may wait but a read, a write and a store's file.
+pub fn run_job<P: Place, R>(
+    rt: &R,
+    alloc: Global,
+    words: &[String],
+    place: &mut P,
+    input: &mut P::In,
+    output: &mut P::Out,
+) -> Result<u8, Serving>
+    ensures runs { IfOk result (RunsJob (asked (map string_bytes words.now))
+        (record { left = P.In.left input.old; written = P.Out.written output.old; reading = P.In.faults input.old; writing = P.Out.faults output.old; place = P.sees place.old })
+        (record { left = P.In.left input.new; written = P.Out.written output.new; reading = P.In.faults input.new; writing = P.Out.faults output.new; place = P.sees place.new })) }
+    ensures cause { IfOk result (RunsWithCause (asked (map string_bytes words.now))
+        (record { left = P.In.left input.old; written = P.Out.written output.old; reading = P.In.faults input.old; writing = P.Out.faults output.old; place = P.sees place.old })
+        (record { left = P.In.left input.new; written = P.Out.written output.new; reading = P.In.faults input.new; writing = P.Out.faults output.new; place = P.sees place.new })) }
+    ensures serves { IfErr result (λ serving. asked (map string_bytes words.now) ≡ Some (serves (to_serve serving))) }
+    ensures input { OnErr result (input.new ≡ input.old) }
+    ensures output { OnErr result (output.new ≡ output.old) }
+    ensures place { OnErr result (place.new ≡ place.old) }
+{
+    match read_words(alloc, words) {
+        Ok(Job::Replay(None)) => Ok(replay(rt, alloc, place, input, output)),
+        Ok(Job::Replay(Some(path))) => Ok(replay_file(
+            rt,
+            alloc,
+            path.as_str(),
+            place,
+            input,
+            output,
+        )),
+        Ok(Job::Serve(serving)) => Err(serving),
+        Ok(Job::Import(path)) => Ok(import_job(alloc, path.as_str(), place, input, output)),
+        Ok(Job::Export(path)) => Ok(export_job(alloc, path.as_str(), place, input, output)),
+        Ok(Job::Check(path)) => Ok(check_job(alloc, path.as_str(), place, input, output)),
+        Ok(Job::Drill(number)) => Ok(drill_job(alloc, number, place, input, output)),
+        Err(WordFault::BadWords) => Ok(refuse_words(output)),
+        Err(WordFault::OutOfMemory) => Ok(9),
+    }
+}
+
 /// Does what the words ask for, and answers the status of the program.
 ///
 /// 0: the connection was answered to its end, the job over the store or the drill was done, or as many connections were served
@@ -158,6 +203,7 @@ fn replay_file<P: Place, R>(
 /// faults rose. 7: the file of rows, the store or a door wasn't opened, reading the file failed, or a worker stopped for its
 /// door, and one of the place's counts rose. 8: the connection was refused, or its input ended within a request. 9: memory
 /// was wanting, or a reply of the drill says so. What the place gave to read the rows, the keeper of the store and the doors are given back.
+#[tactic(auto, using(crate::proofs::Loading::runs_job, crate::proofs::Loading::serving_runs, crate::proofs::Loading::serving_causes))]
 pub fn run_site<P: Place, R: Threads + Wait + Sync>(
     rt: &R,
     alloc: Global,
@@ -178,17 +224,8 @@ where
         (record { left = P.In.left input.new; written = P.Out.written output.new; reading = P.In.faults input.new; writing = P.Out.faults output.new; place = P.sees place.new })
         result }
 {
-    match read_words(alloc, words) {
-        Ok(Job::Replay(None)) => replay(rt, alloc, place, input, output),
-        Ok(Job::Replay(Some(path))) => {
-            replay_file(rt, alloc, path.as_str(), place, input, output)
-        }
-        Ok(Job::Serve(serving)) => serve_job(rt, alloc, &serving, place, input, output),
-        Ok(Job::Import(path)) => import_job(alloc, path.as_str(), place, input, output),
-        Ok(Job::Export(path)) => export_job(alloc, path.as_str(), place, input, output),
-        Ok(Job::Check(path)) => check_job(alloc, path.as_str(), place, input, output),
-        Ok(Job::Drill(number)) => drill_job(alloc, number, place, input, output),
-        Err(WordFault::BadWords) => refuse_words(output),
-        Err(WordFault::OutOfMemory) => 9,
+    match run_job(rt, alloc, words, place, input, output) {
+        Ok(status) => status,
+        Err(serving) => serve_job(rt, alloc, &serving, place, input, output),
     }
 }

@@ -9,7 +9,7 @@ use crate::run::run_site;
 use site_io::{Reading, Writing};
 use site_places::SystemPlace;
 use std::alloc::Global;
-use std::io::{Stdin, Stdout};
+use std::io::{BufWriter, Stdin, Stdout};
 use std::sync::Wait;
 use std::thread::Threads;
 
@@ -21,7 +21,7 @@ pub fn run_system<R: Threads + Wait + Sync>(
     words: &[String],
     place: &mut SystemPlace,
     input: &mut Reading<Stdin>,
-    output: &mut Writing<Stdout>,
+    output: &mut Writing<BufWriter<Stdout>>,
 ) -> u8
     ensures runs { Runs (asked (map string_bytes words.now))
         (record { left = input.old.left; written = output.old.written; reading = input.old.faults; writing = output.old.faults; place = system_view place.old })

@@ -11,7 +11,9 @@ use Rattle.site_io.specs.Memory.{up}
 use Rattle.site_io.specs.Series.{AreFirstOf, GivesInTurn, last_moment}
 use Rattle.site_house.specs.History.{History, newest, newest_of}
 use Rattle.site_house.specs.House.{HouseView, Moves, CountRose, history_of}
+use Rattle.kept_pages.specs.Held.{Shelves}
 use Rattle.site_http.specs.Connection.{Around, Went, raised}
+use Rattle.site_http.specs.Kept.{KeepsFor, shelves_of}
 use Rattle.site_alone.specs.House.{opened_on}
 use Rattle.site_drill.specs.Drill.{IsAnswered, moments_to}
 use Rattle.site_drill.specs.Replies.{AllAnswered, AreReplies, requests_of, whole}
@@ -37,10 +39,10 @@ none_raised (suc more) is =
     let above : 1 ≤ raised (up 0) more = raised_above (up 0) more (omega arith) in
     absurd (omega arith)
 
-abbrev around : Option (List ℕ) → Option (List ℕ) → Option (List ℕ) → Option (List Point) → Option (List ℕ) → List Commit → ℕ → Around
-around left given words points written handed keepers = record {
+abbrev around : Option (List ℕ) → Option (List ℕ) → Option (List ℕ) → Option (List Point) → Option (List ℕ) → List Commit → ℕ → Option Shelves → Around
+around left given words points written handed keepers kept = record {
   left = left;
-  out = record { given = given; words = words; points = points; written = written; handed = handed; keepers = keepers };
+  out = record { given = given; words = words; points = points; written = written; handed = handed; keepers = keepers; kept = kept };
 }
 
 -- what the requests were answered over, and with
@@ -52,8 +54,8 @@ pub record Served (site : State) (requests left given : List ℕ) (words : Optio
   pub turn : GivesInTurn last_moment (Some moments) (Some moments-after) (Some []) (Some given)
   pub answered :
       AllAnswered 900 pages
-      (around (Some requests) (Some []) (Some []) (Some []) (Some []) house.handed house.keepers)
-      (around (Some left) (Some given) words (Some points) (Some written) house-after.handed house-after.keepers)
+      (around (Some requests) (Some []) (Some []) (Some []) (Some []) house.handed house.keepers (shelves_of house))
+      (around (Some left) (Some given) words (Some points) (Some written) house-after.handed house-after.keepers (shelves_of house-after))
       (history_of house-after) (newest (history_of house))
 
 abbrev history : State → List Commit → ℕ → History
@@ -79,7 +81,7 @@ drilled site requests left given words points written moments moments-after hous
     let handed : house-after.handed ≡ house-after.seen = s.own (same ∙ begun) ∙ ap (λ (n : ℕ). drop n house-after.seen) opened in
     let keepers : house-after.keepers ≡ 0 = no_keepers begun same none_before m.cause in
     let at_low : newest (history_of house) ≡ low = ap (λ (h : HouseView). newest (history_of h)) s.house_is in
-    let went : Went (around (Some requests) (Some []) (Some []) (Some []) (Some []) house.handed house.keepers) (around (Some left) (Some given) words (Some points) (Some written) house-after.handed house-after.keepers) a.taken story = subst (λ (n : ℕ). Went (around (Some requests) (Some []) (Some []) (Some []) (Some []) house.handed house.keepers) (around (Some left) (Some given) words (Some points) (Some written) house-after.handed house-after.keepers) a.taken (whole n exchanges)) at_low a.went in
+    let went : Went (around (Some requests) (Some []) (Some []) (Some []) (Some []) house.handed house.keepers (shelves_of house)) (around (Some left) (Some given) words (Some points) (Some written) house-after.handed house-after.keepers (shelves_of house-after)) a.taken story = subst (λ (n : ℕ). Went (around (Some requests) (Some []) (Some []) (Some []) (Some []) house.handed house.keepers (shelves_of house)) (around (Some left) (Some given) words (Some points) (Some written) house-after.handed house-after.keepers (shelves_of house-after)) a.taken (whole n exchanges)) at_low a.went in
     let gave = went.gave in
     let source : requests ≡ a.taken ++ left = inner went.source in
     let taken : requests ≡ a.taken = source ∙ ap (λ (l : List ℕ). a.taken ++ l) a.nothing_left ∙ append-nil a.taken in
@@ -101,6 +103,8 @@ drilled site requests left given words points written moments moments-after hous
       replies = subst (λ (n : ℕ). AreReplies (history site house-after.seen n) 0 low exchanges) pass replies_base;
       in_turn = subst (λ (l : List ℕ). AreFirstOf last_moment (Some (moments_to 900)) (Some l)) given_is second;
       handed = sym handed_is ∙ handed;
+      shelves = shelves_of house-after;
+      kept = subst (λ (o : Option Shelves). KeepsFor story.needs o (shelves_of house-after)) (ap shelves_of s.house_is) gave.kept;
       none_failed = none_raised story.keepers keepers_is;
       none_wanting = a.none_wanting;
       pages = pages_is ∙ a.pages_is;
@@ -124,20 +128,20 @@ pub record ServedFresh (site : State) (requests left-before left given-before gi
   pub turn : GivesInTurn last_moment (Some moments) (Some moments-after) (Some given-before) (Some given)
   pub answered :
       AllAnswered 900 pages
-      (around (Some left-before) (Some given-before) (Some words-before) (Some points-before) (Some written-before) house.handed house.keepers)
-      (around (Some left) (Some given) words (Some points) (Some written) house-after.handed house-after.keepers)
+      (around (Some left-before) (Some given-before) (Some words-before) (Some points-before) (Some written-before) house.handed house.keepers (shelves_of house))
+      (around (Some left) (Some given) words (Some points) (Some written) house-after.handed house-after.keepers (shelves_of house-after))
       (history_of house-after) (newest (history_of house))
 
 pub served_fresh : {site : State} {requests left-before left given-before given words-before : List ℕ} {words : Option (List ℕ)} {points-before points : List Point} {written-before written moments moments-after : List ℕ} {house house-after : HouseView} {pages : ℕ}
     → ServedFresh site requests left-before left given-before given words-before words points-before points written-before written moments moments-after house house-after pages
     → Served site requests left given words points written moments moments-after house house-after pages
 served_fresh {site} {requests} {left-before} {left} {given-before} {given} {words-before} {words} {points-before} {points} {written-before} {written} {moments} {moments-after} {house} {house-after} {pages} s =
-    let after_all : Around = around (Some left) (Some given) words (Some points) (Some written) house-after.handed house-after.keepers in
-    let first = subst (λ (l : List ℕ). AllAnswered 900 pages (around (Some l) (Some given-before) (Some words-before) (Some points-before) (Some written-before) house.handed house.keepers) after_all (history_of house-after) (newest (history_of house))) s.left_is s.answered in
-    let second = subst (λ (l : List ℕ). AllAnswered 900 pages (around (Some requests) (Some l) (Some words-before) (Some points-before) (Some written-before) house.handed house.keepers) after_all (history_of house-after) (newest (history_of house))) s.given_is first in
-    let third = subst (λ (l : List ℕ). AllAnswered 900 pages (around (Some requests) (Some []) (Some l) (Some points-before) (Some written-before) house.handed house.keepers) after_all (history_of house-after) (newest (history_of house))) s.words_is second in
-    let fourth = subst (λ (l : List Point). AllAnswered 900 pages (around (Some requests) (Some []) (Some []) (Some l) (Some written-before) house.handed house.keepers) after_all (history_of house-after) (newest (history_of house))) s.points_is third in
-    let fifth = subst (λ (l : List ℕ). AllAnswered 900 pages (around (Some requests) (Some []) (Some []) (Some []) (Some l) house.handed house.keepers) after_all (history_of house-after) (newest (history_of house))) s.written_is fourth in
+    let after_all : Around = around (Some left) (Some given) words (Some points) (Some written) house-after.handed house-after.keepers (shelves_of house-after) in
+    let first = subst (λ (l : List ℕ). AllAnswered 900 pages (around (Some l) (Some given-before) (Some words-before) (Some points-before) (Some written-before) house.handed house.keepers (shelves_of house)) after_all (history_of house-after) (newest (history_of house))) s.left_is s.answered in
+    let second = subst (λ (l : List ℕ). AllAnswered 900 pages (around (Some requests) (Some l) (Some words-before) (Some points-before) (Some written-before) house.handed house.keepers (shelves_of house)) after_all (history_of house-after) (newest (history_of house))) s.given_is first in
+    let third = subst (λ (l : List ℕ). AllAnswered 900 pages (around (Some requests) (Some []) (Some l) (Some points-before) (Some written-before) house.handed house.keepers (shelves_of house)) after_all (history_of house-after) (newest (history_of house))) s.words_is second in
+    let fourth = subst (λ (l : List Point). AllAnswered 900 pages (around (Some requests) (Some []) (Some []) (Some l) (Some written-before) house.handed house.keepers (shelves_of house)) after_all (history_of house-after) (newest (history_of house))) s.points_is third in
+    let fifth = subst (λ (l : List ℕ). AllAnswered 900 pages (around (Some requests) (Some []) (Some []) (Some []) (Some l) house.handed house.keepers (shelves_of house)) after_all (history_of house-after) (newest (history_of house))) s.written_is fourth in
     record {
       house_is = s.house_is;
       moves = s.moves;

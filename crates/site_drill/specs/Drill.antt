@@ -9,7 +9,10 @@ use Rattle.content_state.specs.declared.commit.Commit.{Commit}
 use Rattle.http_heads.specs.Requests.{Empty, Reads}
 use Rattle.site_io.specs.Series.{AreFirstOf, last_moment}
 use Rattle.site_io.specs.Told.{after, AddsFront, Rose}
+use Rattle.kept_pages.specs.Held.{Shelves}
+use Rattle.site_alone.specs.House.{opened_on}
 use Rattle.site_alone.specs.Sites.{state_over}
+use Rattle.site_http.specs.Kept.{KeepsFor, shelves_of}
 use Rattle.drill_input.specs.SiteDrawn.{site_drawn}
 use Rattle.drill_input.specs.Asked.{asked}
 use Rattle.site_drill.specs.Lines.{drill_text}
@@ -39,7 +42,8 @@ moments_to (suc count) = moments_to count ++ (1000 + count) ∷ []
 -- The requests that these bytes are were answered on one connection over a site, one reply each, at the moments 1,000, 1,001 and so
 -- on, by a caller that is alone with it: its log is the edits that it handed in, in order. None of the replies says that memory was
 -- wanting, nor that the keeper failed. Of these replies the figures are: how many show a page, how many edits were accepted, how many
--- elements were built for them, up to the greatest u64, and the length and the SHA-256, in hex digits, of their bytes.
+-- elements were built for them, up to the greatest u64, and the length and the SHA-256, in hex digits, of their bytes. Nothing was
+-- kept of its pages before, and this became of what is kept as they were needed.
 pub record IsAnswered (site : State) (requests : List ℕ) (figures : Figures) : Type 0 where
   pub exchanges : List Exchange
   pub log : List Commit
@@ -48,6 +52,8 @@ pub record IsAnswered (site : State) (requests : List ℕ) (figures : Figures) :
   pub replies : AreReplies (record { base = site; log = log; pass = 0 }) 0 (newest_of site []) exchanges
   pub in_turn : AreFirstOf last_moment (Some (moments_to 900)) (Some (whole (newest_of site []) exchanges).moments)
   pub handed : (whole (newest_of site []) exchanges).handed ≡ log
+  pub shelves : Option Shelves
+  pub kept : KeepsFor (whole (newest_of site []) exchanges).needs (shelves_of (opened_on site)) shelves
   pub none_failed : (whole (newest_of site []) exchanges).keepers ≡ 0
   pub none_wanting : NoneWanting exchanges
   pub pages : figures.pages ≡ count_by is_page exchanges

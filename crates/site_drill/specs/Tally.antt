@@ -2,12 +2,13 @@
 use Rattle.std.specs.Prelude.{ℕ, List, min}
 use Rattle.std.specs.List.{sum_by}
 use Rattle.site_io.specs.declared.device.Point.{Point}
-use Rattle.site_io.specs.declared.device.Point.TheVariants.{AfterSnapshot, BeforeReply}
+use Rattle.site_io.specs.declared.device.Point.TheVariants.{AfterSnapshot, BeforeReply, BeforePart}
 
 -- how many a point tells of
 abbrev pub built_at : Point → ℕ
 built_at AfterSnapshot = 0
 built_at (BeforeReply built) = built
+built_at BeforePart = 0
 
 -- how many these points tell of, up to the greatest u64
 abbrev pub built_in : List Point → ℕ

@@ -3,6 +3,7 @@ ghost use Rattle.std.specs.Prelude.{◌≡◌, ◌<◌, ◌+◌, ◌-◌, ◌≤
 ghost use Rattle.site_house.specs.House.{Moves, history_of};
 ghost use Rattle.site_house.specs.History.{newest};
 ghost use Rattle.site_io.specs.Series.{GivesInTurn, last_moment, last_word};
+ghost use Rattle.site_http.specs.Kept.{shelves_of};
 ghost use Rattle.site_http.specs.Recent.{AreRecent};
 ghost use Rattle.site_drill.specs.Replies.{AllAnswered};
 ghost use Rattle.site_drill.specs.Steps.{TookReply, pages_with};
@@ -70,8 +71,8 @@ fn answer_next<H: House, C: Clock, E: Entropy, G: Gate>(
     ensures moves { Moves (H.sees house.old) (H.sees house.new) }
     ensures recent { AreRecent (H.sees house.new) recent.new }
     ensures took { IfOk result (λ page. TookReply page
-        (record { left = Some source.old; out = record { given = C.given clock.old; words = E.given entropy.old; points = G.reached gate.old; written = Some sink.old.written; handed = (H.sees house.old).handed; keepers = (H.sees house.old).keepers } })
-        (record { left = Some source.new; out = record { given = C.given clock.new; words = E.given entropy.new; points = G.reached gate.new; written = Some sink.new.written; handed = (H.sees house.new).handed; keepers = (H.sees house.new).keepers } })
+        (record { left = Some source.old; out = record { given = C.given clock.old; words = E.given entropy.old; points = G.reached gate.old; written = Some sink.old.written; handed = (H.sees house.old).handed; keepers = (H.sees house.old).keepers; kept = shelves_of (H.sees house.old) } })
+        (record { left = Some source.new; out = record { given = C.given clock.new; words = E.given entropy.new; points = G.reached gate.new; written = Some sink.new.written; handed = (H.sees house.new).handed; keepers = (H.sees house.new).keepers; kept = shelves_of (H.sees house.new) } })
         (history_of (H.sees house.new)) index (newest (history_of (H.sees house.old))) inbox.old inbox.new) }
     ensures stopped { IfErr result (λ stop. StopsAt stop (1000 - index) (900 - index) (inbox.old ++ source.old)) }
     ensures moments { GivesInTurn last_moment (C.moments clock.old) (C.moments clock.new) (C.given clock.old) (C.given clock.new) }
@@ -115,8 +116,8 @@ pub(crate) fn answer_all<H: House, C: Clock, E: Entropy, G: Gate>(
     requires recent { AreRecent (H.sees house.old) recent.old }
     ensures moves { Moves (H.sees house.old) (H.sees house.new) }
     ensures answered { IfOk result (λ pages. AllAnswered 900 pages
-        (record { left = Some source.old; out = record { given = C.given clock.old; words = E.given entropy.old; points = G.reached gate.old; written = Some sink.old.written; handed = (H.sees house.old).handed; keepers = (H.sees house.old).keepers } })
-        (record { left = Some source.new; out = record { given = C.given clock.new; words = E.given entropy.new; points = G.reached gate.new; written = Some sink.new.written; handed = (H.sees house.new).handed; keepers = (H.sees house.new).keepers } })
+        (record { left = Some source.old; out = record { given = C.given clock.old; words = E.given entropy.old; points = G.reached gate.old; written = Some sink.old.written; handed = (H.sees house.old).handed; keepers = (H.sees house.old).keepers; kept = shelves_of (H.sees house.old) } })
+        (record { left = Some source.new; out = record { given = C.given clock.new; words = E.given entropy.new; points = G.reached gate.new; written = Some sink.new.written; handed = (H.sees house.new).handed; keepers = (H.sees house.new).keepers; kept = shelves_of (H.sees house.new) } })
         (history_of (H.sees house.new)) (newest (history_of (H.sees house.old)))) }
     ensures stopped { IfErr result (λ stop. NotAnswered stop source.old) }
     ensures moments { GivesInTurn last_moment (C.moments clock.old) (C.moments clock.new) (C.given clock.old) (C.given clock.new) }

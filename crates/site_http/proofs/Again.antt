@@ -1,5 +1,5 @@
 -- Replies that may be given again stay so, and say what is said.
-use Rattle.std.proofs.Common.{ℕ, List, ◌≡◌, ◌∙◌, refl, sym, ap, subst, arith, inl, Bool, false, Option, Some, None, IfSome, length}
+use Rattle.std.proofs.Common.{ℕ, List, [], ◌≡◌, ◌∙◌, refl, sym, ap, subst, arith, inr, Bool, false, Option, Some, None, IfSome, length}
 use Rattle.std.specs.Arc.{arc_value}
 use Rattle.std.specs.declared.sync.Arc.{Arc}
 use Rattle.std.specs.declared.alloc.Global.{Global}
@@ -7,20 +7,14 @@ use Rattle.std.proofs.lemmas.List.Elements.{All-weaker}
 use Rattle.content_state.specs.State.{State}
 use Rattle.content_state.specs.declared.ask.Ask.{Ask}
 use Rattle.content_state.specs.Ask.{IsAsk, path_of, query_of}
-use Rattle.content_state.specs.Viewer.{viewer_of, nobody}
-use Rattle.cache_contexts.specs.Values.{visit_on}
-use Rattle.cache_entries.specs.declared.key.Subject.TheVariants as subject
-use Rattle.cache_entries.specs.declared.kept.Bin.TheVariants as bin
 use Rattle.http_heads.specs.Reply.{reply_text}
 use Rattle.kept_pages.specs.Lasting.{Lasts}
-use Rattle.kept_pages.specs.Needed.{OfTarget, OfRequest}
-use Rattle.kept_pages.specs.Went.{Went, Done, Found}
 use Rattle.kept_pages.proofs.Entries.{seen_on, one_of_number}
 use Rattle.site_house.specs.House.{HouseView, Moves}
 use Rattle.site_house.specs.Bins.{IsSeenIn}
 use Rattle.site_http.specs.declared.recent.RecentReply.{RecentReply}
-use Rattle.site_http.specs.Recent.{IsReplyUntil, Fits, IsRecent, AreRecent}
-use Rattle.site_http.specs.Reply.{IsBuiltFor, IsPageReply, page_head}
+use Rattle.site_http.specs.Recent.{page_bytes, IsReplyUntil, Fits, IsRecent, AreRecent}
+use Rattle.site_http.specs.Reply.{IsPageReply, page_head}
 
 -- ---- of a house that goes on
 
@@ -44,40 +38,27 @@ recent_stay {old} {new} places moves are =
 -- ---- what is said again
 
 -- the state of the number is the one that the reply was given on
-pub said_again : (house : HouseView) (reply : RecentReply) (state : State) (ask : Ask) (moment : ℕ) → IsRecent house reply → IsSeenIn house state → IsAsk ask → Fits reply state.number ask moment → IsPageReply state ask moment false reply.text.items 0
+pub said_again : (house : HouseView) (reply : RecentReply) (state : State) (ask : Ask) (moment : ℕ) → IsRecent house reply → IsSeenIn house state → IsAsk ask → Fits reply state.number ask moment → IsPageReply state ask moment false (page_bytes reply.page) 0 []
 said_again house reply state ask moment is seen right fits =
     let same : is.state ≡ state = one_of_number house.base house.seen is.state state is.seen seen (is.number_is ∙ fits.number_is) in
-    subst (λ (s : State). IsPageReply s ask moment false reply.text.items 0) same
+    subst (λ (s : State). IsPageReply s ask moment false (page_bytes reply.page) 0 []) same
     (is.again ask moment right (subst (λ (n : ℕ). Fits reply n ask moment) (ap (λ (s : State). s.number) (sym same)) fits))
 
-pub again_of : (found : Option (Arc RecentReply Global)) (places : List (Option (Arc RecentReply Global))) (state : State) (ask : Ask) (moment : ℕ) → IsAsk ask → IfSome found (λ reply. Fits (arc_value reply) state.number ask moment) → IfSome found (λ reply. (house : HouseView) → AreRecent house places → IsRecent house (arc_value reply)) → IfSome found (λ reply. (house : HouseView) → AreRecent house places → IsSeenIn house state → IsPageReply state ask moment false (arc_value reply).text.items 0)
+pub again_of : (found : Option (Arc RecentReply Global)) (places : List (Option (Arc RecentReply Global))) (state : State) (ask : Ask) (moment : ℕ) → IsAsk ask → IfSome found (λ reply. Fits (arc_value reply) state.number ask moment) → IfSome found (λ reply. (house : HouseView) → AreRecent house places → IsRecent house (arc_value reply)) → IfSome found (λ reply. (house : HouseView) → AreRecent house places → IsSeenIn house state → IsPageReply state ask moment false (page_bytes (arc_value reply).page) 0 [])
 again_of None places state ask moment right fits is = tt
 again_of (Some reply) places state ask moment right fits is = λ house are seen. said_again house (arc_value reply) state ask moment (is house are) seen right fits
 
 -- ---- what may be said again
 
--- where no cookie was sent, the page is found at a later moment
-found_later : (state : State) (ask : Ask) (moment later built : ℕ) → ask.cookie ≡ None → IsBuiltFor state ask moment built → IsBuiltFor state ask later 0
-found_later state ask moment later built cookie is =
-    let was : OfTarget (visit_on state nobody ask moment) is.went =
-    subst (λ (c : Option (List ℕ)). OfRequest (visit_on state (viewer_of state.rows c moment) ask moment) is.went) cookie is.needed in
-    let went : Went = Found bin.Anonymous (subject.Target ask.target) was.entry Done in
-    let now : OfTarget (visit_on state nobody ask later) went = record { entry = was.entry; element = inl refl } in
-    record {
-      went = went;
-      needed = subst (λ (c : Option (List ℕ)). OfRequest (visit_on state (viewer_of state.rows c later) ask later) went) (sym cookie) now;
-      counted = refl;
-    }
-
-pub page_again : (state : State) (ask : Ask) (moment last status built : ℕ) (body text : List ℕ) → ask.cookie ≡ None → Lasts state ask moment last status body → IsBuiltFor state ask moment built
+pub page_again : (state : State) (ask : Ask) (moment last status : ℕ) (body text : List ℕ) → ask.cookie ≡ None → Lasts state ask moment last status body
     → text ≡ reply_text (page_head status (length body) state.number false) body → IsReplyUntil state ask moment last text
-page_again state ask moment last status built body text cookie lasts is same = record {
+page_again state ask moment last status body text cookie lasts same = record {
   cookie = cookie;
   again = λ later from until. record {
     status = status;
     body = body;
     page = lasts cookie later from until;
-    built_for = found_later state ask moment later built cookie is;
+    built_for = inr (record { cookie = cookie; counted = refl; told = refl });
     built_at_most = omega arith;
     text_is = same;
   };
@@ -95,20 +76,20 @@ same_ask one other right right' target cookie cookie' i = record {
 }
 
 -- a reply that was made now may be given again
-pub made_recent : (house : HouseView) (state : State) (reply : RecentReply) (ask : Ask) → IsSeenIn house state → state.number ≡ reply.number → IsAsk ask → reply.target ≡ ask.target → IsReplyUntil state ask reply.from reply.until reply.text.items → IsRecent house reply
+pub made_recent : (house : HouseView) (state : State) (reply : RecentReply) (ask : Ask) → IsSeenIn house state → state.number ≡ reply.number → IsAsk ask → reply.target ≡ ask.target → IsReplyUntil state ask reply.from reply.until (page_bytes reply.page) → IsRecent house reply
 made_recent house state reply ask seen number right target is = record {
   state = state;
   seen = seen;
   number_is = number;
   again = λ other moment right' fits.
-      subst (λ (a : Ask). IsPageReply state a moment false reply.text.items 0) (same_ask ask other right right' (sym target ∙ fits.target) is.cookie fits.cookie)
+      subst (λ (a : Ask). IsPageReply state a moment false (page_bytes reply.page) 0 []) (same_ask ask other right right' (sym target ∙ fits.target) is.cookie fits.cookie)
       (is.again moment fits.from fits.until);
 }
 
 -- the reply of a page, until the moment that is told, if one is
-pub again_until : (o : Option ℕ) (state : State) (ask : Ask) (moment last status built : ℕ) (closing : Bool) (body text : List ℕ) → IfSome o (λ l. (l ≡ last) × (closing ≡ false) × (ask.cookie ≡ None)) → Lasts state ask moment last status body → IsBuiltFor state ask moment built
+pub again_until : (o : Option ℕ) (state : State) (ask : Ask) (moment last status : ℕ) (closing : Bool) (body text : List ℕ) → IfSome o (λ l. (l ≡ last) × (closing ≡ false) × (ask.cookie ≡ None)) → Lasts state ask moment last status body
     → text ≡ reply_text (page_head status (length body) state.number closing) body → IfSome o (λ l. IsReplyUntil state ask moment l text)
-again_until None state ask moment last status built closing body text is lasts for same = tt
-again_until (Some l) state ask moment last status built closing body text is lasts for same =
+again_until None state ask moment last status closing body text is lasts same = tt
+again_until (Some l) state ask moment last status closing body text is lasts same =
     subst (λ (n : ℕ). IsReplyUntil state ask moment n text) (sym is.0)
-    (page_again state ask moment last status built body text is.2 lasts for (same ∙ ap (λ (c : Bool). reply_text (page_head status (length body) state.number c) body) is.1))
+    (page_again state ask moment last status body text is.2 lasts (same ∙ ap (λ (c : Bool). reply_text (page_head status (length body) state.number c) body) is.1))

@@ -30,6 +30,8 @@ wanting_on {history} {history'} base longer lower w =
       to = omega arith;
       before_or_after = w.before_or_after;
       words = w.words;
+      needs = w.needs;
+      may_need = w.may_need;
       story_is = w.story_is;
     }
 
@@ -91,9 +93,10 @@ answer_grows history more low (ToRead reading) ask closing story a = elim a [
     number = r.number;
     text = r.text;
     built = r.built;
+    needs = r.needs;
     within = r.within;
     on = on_grows history more low r.number r.on;
-    holds = subst (λ (s : State). Says reading s ask r.moment closing r.text r.built) (sym (state_grows history more r.number r.on.to)) r.holds;
+    holds = subst (λ (s : State). Says reading s ask r.moment closing r.text r.built r.needs) (sym (state_grows history more r.number r.on.to)) r.holds;
     story_is = r.story_is;
   })
   | inr w ↦ inr (wanting_on refl (newest_grows history more (newest history) (omega arith)) (omega arith) w)
@@ -163,6 +166,7 @@ answer_lower history low lower (ToRead reading) ask closing story less a = elim 
     number = r.number;
     text = r.text;
     built = r.built;
+    needs = r.needs;
     within = r.within;
     on = on_lower history low lower r.number less r.on;
     holds = r.holds;

@@ -2,6 +2,8 @@ pub mod Asks
 pub mod Fixed
 pub mod Told
 pub mod Stories
+mod Joining
+mod Kept
 mod Made
 mod Again
 pub mod Grow

@@ -13,7 +13,7 @@ use Rattle.site_commands.specs.declared.command.Command.{Command}
 use Rattle.edit_bodies.specs.Commands.{command_in}
 use Rattle.edit_bodies.specs.declared.words.Words.{Words}
 use Rattle.edit_replies.specs.Texts.{refused_text, done_text, keeper_text}
-use Rattle.site_house.specs.House.{HouseView, AreValid, Moves, Stays, Accepts, Refuses, Fails, HandedAtMost, history_of}
+use Rattle.site_house.specs.House.{HouseView, AreValid, Moves, Stays, KeepsAll, Accepts, Refuses, Fails, HandedAtMost, history_of}
 use Rattle.site_house.specs.History.{History, OnLog, newest, state_of}
 use Rattle.site_house.specs.Bins.{IsSeenIn}
 use Rattle.content_state.specs.SiteRules.{IsValidState}
@@ -27,9 +27,12 @@ use Rattle.site_io.specs.declared.device.Point.TheVariants.{AfterSnapshot, Befor
 use Rattle.site_http.specs.declared.answer.Made.{Made}
 use Rattle.site_http.specs.declared.call.Reading.{Reading}
 use Rattle.site_http.specs.Called.{Called, ToRead, ToEdit, Wish, called, ask_of}
-use Rattle.site_http.specs.Reply.{Says, IsDrawn, HandedOnce, MayTell, MayDraw, told, answered, listed, memory_text}
+use Rattle.site_http.specs.Reply.{Says, IsDrawn, HandedOnce, MayTell, MayDraw, MayNeed, told, answered, listed, memory_text}
+use Rattle.kept_pages.specs.Held.{Shelves}
+use Rattle.site_http.specs.Kept.{Need, Needing, KeepsFor, shelves_of}
 use Rattle.site_http.specs.Connection.{and_points}
 use Rattle.site_http.specs.Turn.{Makes, Committed, OnSeen, ToldOnTheWay, Replied, HalfReplied, bytes_of}
+use Rattle.site_http.proofs.Kept.{keeps_nothing, keeps_unknown, same_shelves}
 use Rattle.site_http.proofs.Told.{after_nothing, points_points, points_nothing, point_of}
 
 -- the newest state is one that was seen
@@ -44,18 +47,22 @@ newest_seen house state is valid = record {
 }
 
 -- what is said on the state that was seen
-pub said_on : (old mid new : HouseView) (state : State) (reading : Reading) (ask : Ask) (moment : ℕ) (closing : Bool) (bytes : List ℕ) (built : ℕ) → Moves old mid → AreValid mid.base mid.seen → state ≡ replay mid.base mid.seen → Moves mid new
-    → Says reading state ask moment closing bytes built → OnSeen old new (λ (s : State). Says reading s ask moment closing bytes built)
-said_on old mid new state reading ask moment closing bytes built before valid is after says =
+pub said_on : (old mid new : HouseView) (state : State) (reading : Reading) (ask : Ask) (moment : ℕ) (closing : Bool) (bytes : List ℕ) (built : ℕ) (needs : List (Option Need)) → Moves old mid → AreValid mid.base mid.seen → state ≡ replay mid.base mid.seen → Moves mid new
+    → Says reading state ask moment closing bytes built needs → OnSeen old new (λ (s : State). Says reading s ask moment closing bytes built needs)
+said_on old mid new state reading ask moment closing bytes built needs before valid is after says =
     let number = newest (history_of mid) in
     let longer_is = history_moves after in
     record {
       number = number;
       on = subst (λ (h : History). OnLog h (newest (history_of old)) number) (sym longer_is)
           (on_grows (history_of mid) after.grows.0 (newest (history_of old)) number (on_newest (history_of mid) (newest (history_of old)) valid (moves_longer before)));
-      holds = subst (λ (s : State). Says reading s ask moment closing bytes built)
+      holds = subst (λ (s : State). Says reading s ask moment closing bytes built needs)
           (is ∙ sym (newest_state (history_of mid)) ∙ sym (state_grows (history_of mid) after.grows.0 number (omega arith)) ∙ ap (λ (h : History). state_of h number) (sym longer_is)) says;
     }
+
+-- nothing was kept or looked for before a reply was made on the state that was seen
+pub needed_on : (old mid new : HouseView) (needs : List (Option Need)) → KeepsAll old mid → KeepsFor needs (shelves_of mid) (shelves_of new) → KeepsFor needs (shelves_of old) (shelves_of new)
+needed_on old mid new needs keeps kept = subst (λ (o : Option Shelves). KeepsFor needs o (shelves_of new)) (same_shelves old mid keeps) kept
 
 -- some points, and then that of the reply
 told_on : (before between after : Option (List Point)) (points : List Point) (built : ℕ) → between ≡ and_points before points → after ≡ and_point between (BeforeReply built) → after ≡ and_points before (points ++ BeforeReply built ∷ [])
@@ -65,31 +72,35 @@ told_on before between after points built first second =
 -- ---- what is read
 
 -- what was said on a state that was seen
-pub read_made : {old new : HouseView} (words : Option (List ℕ)) (before between points : Option (List Point)) (reading : Reading) (ask : Ask) (moment : ℕ) (closing : Bool) (text : Made) (built : ℕ) → moment ≤ last_moment → Moves old new → Stays old new → OnSeen old new (λ (s : State). Says reading s ask moment closing (bytes_of text) built) → between ≡ and_point before AfterSnapshot → points ≡ and_point between (BeforeReply built) → Makes (record { house = old; words = words; points = before }) (record { house = new; words = words; points = points }) (ToRead reading) ask moment closing text
-read_made {old} {new} words before between points reading ask moment closing text built within moves stays says first second = record {
-  story = told moment (AfterSnapshot ∷ []) built (bytes_of text) says.number;
-  is = inl (record {
-    moment = moment;
-    number = says.number;
-    text = bytes_of text;
-    built = built;
-    within = within;
-    on = says.on;
-    holds = says.holds;
-    story_is = refl;
-  });
-  moments = refl;
-  chance = after_nothing words;
-  gate = told_on before between points (AfterSnapshot ∷ []) built (first ∙ point_of before AfterSnapshot) second;
-  text_is = refl;
-  house = stays.handed ∙ sym (append-nil old.handed);
-  failures = stays.keepers;
-  not_above = says.on.to;
-}
+pub read_made : {old new : HouseView} (words : Option (List ℕ)) (before between points : Option (List Point)) (reading : Reading) (ask : Ask) (moment : ℕ) (closing : Bool) (text : Made) (built : ℕ) → moment ≤ last_moment → Moves old new → Stays old new → Needing old new (λ (needs : List (Option Need)). OnSeen old new (λ (s : State). Says reading s ask moment closing (bytes_of text) built needs)) → between ≡ and_point before AfterSnapshot → points ≡ and_point between (BeforeReply built) → Makes (record { house = old; words = words; points = before }) (record { house = new; words = words; points = points }) (ToRead reading) ask moment closing text
+read_made {old} {new} words before between points reading ask moment closing text built within moves stays needing first second =
+    let says = needing.holds in
+    record {
+      story = record (told moment (AfterSnapshot ∷ []) built (bytes_of text) says.number) { needs = needing.needs };
+      is = inl (record {
+        moment = moment;
+        number = says.number;
+        text = bytes_of text;
+        built = built;
+        needs = needing.needs;
+        within = within;
+        on = says.on;
+        holds = says.holds;
+        story_is = refl;
+      });
+      moments = refl;
+      chance = after_nothing words;
+      gate = told_on before between points (AfterSnapshot ∷ []) built (first ∙ point_of before AfterSnapshot) second;
+      text_is = refl;
+      house = stays.handed ∙ sym (append-nil old.handed);
+      failures = stays.keepers;
+      kept = needing.kept;
+      not_above = says.on.to;
+    }
 
-wanting_at : {old new : HouseView} (words : Option (List ℕ)) (before between points : Option (List Point)) (until : List Point) (c : Called) (ask : Ask) (moment : ℕ) (closing : Bool) (text : Made) → MayTell c until → MayDraw c None → moment ≤ last_moment → Moves old new → Stays old new → between ≡ and_points before until → points ≡ and_point between (BeforeReply 0) → memory_text closing ≡ bytes_of text → Makes (record { house = old; words = words; points = before }) (record { house = new; words = words; points = points }) c ask moment closing text
-wanting_at {old} {new} words before between points until c ask moment closing text tell draw within moves stays first second is = record {
-  story = told moment until 0 (memory_text closing) (newest (history_of new));
+wanting_at : {old new : HouseView} (words : Option (List ℕ)) (before between points : Option (List Point)) (until : List Point) (needs : List (Option Need)) (c : Called) (ask : Ask) (moment : ℕ) (closing : Bool) (text : Made) → MayTell c until → MayDraw c None → MayNeed c needs → moment ≤ last_moment → Moves old new → Stays old new → KeepsFor needs (shelves_of old) (shelves_of new) → between ≡ and_points before until → points ≡ and_point between (BeforeReply 0) → memory_text closing ≡ bytes_of text → Makes (record { house = old; words = words; points = before }) (record { house = new; words = words; points = points }) c ask moment closing text
+wanting_at {old} {new} words before between points until needs c ask moment closing text tell draw need within moves stays kept first second is = record {
+  story = record (told moment until 0 (memory_text closing) (newest (history_of new))) { needs = needs };
   is = inr (record {
     moment = moment;
     number = newest (history_of new);
@@ -101,6 +112,8 @@ wanting_at {old} {new} words before between points until c ask moment closing te
     to = omega arith;
     before_or_after = tell;
     words = draw;
+    needs = needs;
+    may_need = need;
     story_is = refl;
   });
   moments = refl;
@@ -109,14 +122,15 @@ wanting_at {old} {new} words before between points until c ask moment closing te
   text_is = is;
   house = stays.handed ∙ sym (append-nil old.handed);
   failures = stays.keepers;
+  kept = kept;
   not_above = omega arith;
 }
 
 -- memory was wanting to read the newest state
 pub unread_made : {old new : HouseView} (words : Option (List ℕ)) (before between points : Option (List Point)) (reading : Reading) (ask : Ask) (moment : ℕ) (closing : Bool) (text : Made) → moment ≤ last_moment → Moves old new → Stays old new → ToldOnTheWay before between → points ≡ and_point between (BeforeReply 0) → memory_text closing ≡ bytes_of text → Makes (record { house = old; words = words; points = before }) (record { house = new; words = words; points = points }) (ToRead reading) ask moment closing text
 unread_made words before between points reading ask moment closing text within moves stays first second is = elim first [
-  | inl none ↦ wanting_at words before between points [] (ToRead reading) ask moment closing text (inl refl) refl within moves stays none second is
-  | inr one ↦ wanting_at words before between points (AfterSnapshot ∷ []) (ToRead reading) ask moment closing text (inr refl) refl within moves stays one second is
+  | inl none ↦ wanting_at words before between points [] (None ∷ []) (ToRead reading) ask moment closing text (inl refl) refl (inr refl) within moves stays (keeps_unknown moves) none second is
+  | inr one ↦ wanting_at words before between points (AfterSnapshot ∷ []) (None ∷ []) (ToRead reading) ask moment closing text (inr refl) refl (inr refl) within moves stays (keeps_unknown moves) one second is
 ]
 
 may_tell_nothing : (c : Called) → MayTell c []
@@ -127,13 +141,20 @@ may_draw_nothing : (c : Called) → MayDraw c None
 may_draw_nothing (ToRead reading) = refl
 may_draw_nothing (ToEdit wish) = inl refl
 
+may_need_nothing : (c : Called) → MayNeed c []
+may_need_nothing (ToRead reading) = inl refl
+may_need_nothing (ToEdit wish) = refl
+
 pub stays_same : (house : HouseView) → Stays house house
 stays_same house = record { handed = refl; keepers = refl }
+
+keeps_same : (house : HouseView) → KeepsAll house house
+keeps_same house = record { bins = refl; unkept = refl }
 
 -- memory was wanting to tell what is asked for
 pub unasked_made : {house : HouseView} (words : Option (List ℕ)) (before points : Option (List Point)) (c : Called) (ask : Ask) (moment : ℕ) (closing : Bool) (text : Made) → moment ≤ last_moment → Moves house house → points ≡ and_point before (BeforeReply 0) → memory_text closing ≡ bytes_of text → Makes (record { house = house; words = words; points = before }) (record { house = house; words = words; points = points }) c ask moment closing text
 unasked_made {house} words before points c ask moment closing text within moves reached is =
-    wanting_at words before before points [] c ask moment closing text (may_tell_nothing c) (may_draw_nothing c) within moves (stays_same house) (points_nothing before) reached is
+    wanting_at words before before points [] [] c ask moment closing text (may_tell_nothing c) (may_draw_nothing c) (may_need_nothing c) within moves (stays_same house) (keeps_nothing (shelves_of house) (shelves_of house) refl) (points_nothing before) reached is
 
 -- ---- edits
 
@@ -142,8 +163,8 @@ by_command : (base : State) (log : List Commit) (ask : Ask) (wish : Wish) (drawn
 by_command base log ask wish drawn command moment pass is = ap (λ (k : Command). judged base log ask wish.csrf k moment pass) (sym is)
 
 -- an edit that was accepted
-pub accepted_made : {old new : HouseView} (wish : Wish) (ask : Ask) (drawn : Option Words) (sent : Option (List ℕ)) (command : Command) (moment : ℕ) (closing : Bool) (text : Made) (done : Done) (number : ℕ) → moment ≤ last_moment → IsDrawn wish drawn → sent ≡ wish.csrf → command ≡ command_in wish.edit wish.sent drawn → Moves old new → AreValid new.base new.seen → Accepts old new ask sent command moment done number → done_text done number closing ≡ bytes_of text → Committed old new wish ask drawn moment closing text
-accepted_made {old} {new} wish ask drawn sent command moment closing text done number within draws same is moves valid accepts has =
+pub accepted_made : {old new : HouseView} (wish : Wish) (ask : Ask) (drawn : Option Words) (sent : Option (List ℕ)) (command : Command) (moment : ℕ) (closing : Bool) (text : Made) (done : Done) (number : ℕ) → moment ≤ last_moment → IsDrawn wish drawn → sent ≡ wish.csrf → command ≡ command_in wish.edit wish.sent drawn → Moves old new → KeepsAll old new → AreValid new.base new.seen → Accepts old new ask sent command moment done number → done_text done number closing ≡ bytes_of text → Committed old new wish ask drawn moment closing text
+accepted_made {old} {new} wish ask drawn sent command moment closing text done number within draws same is moves keeps valid accepts has =
     let a = subst (λ (value : Option (List ℕ)). Accepts old new ask value command moment done number) same accepts in
     let newer : newest (history_of new) ≡ number = sym a.number_is in
     let longer : length new.seen ≡ length a.before + 1 = ap length a.stands ∙ length-append a.before (a.commit ∷ []) in
@@ -172,12 +193,14 @@ accepted_made {old} {new} wish ask drawn sent command moment closing text done n
       text_is = ap (λ (n : ℕ). done_text done n closing) newer ∙ has;
       house = a.handed;
       failures = a.keepers;
+      needs = refl;
+      kept = same_shelves old new keeps;
       not_above = omega arith;
     }
 
 -- an edit that was refused
-pub refused_made : {old new : HouseView} (wish : Wish) (ask : Ask) (drawn : Option Words) (sent : Option (List ℕ)) (command : Command) (moment : ℕ) (closing : Bool) (text : Made) (refusal : Refusal) (number : ℕ) → moment ≤ last_moment → IsDrawn wish drawn → sent ≡ wish.csrf → command ≡ command_in wish.edit wish.sent drawn → Moves old new → AreValid new.base new.seen → Refuses old new ask sent command moment refusal number → refused_text refusal number closing ≡ bytes_of text → Committed old new wish ask drawn moment closing text
-refused_made {old} {new} wish ask drawn sent command moment closing text refusal number within draws same is moves valid refuses has =
+pub refused_made : {old new : HouseView} (wish : Wish) (ask : Ask) (drawn : Option Words) (sent : Option (List ℕ)) (command : Command) (moment : ℕ) (closing : Bool) (text : Made) (refusal : Refusal) (number : ℕ) → moment ≤ last_moment → IsDrawn wish drawn → sent ≡ wish.csrf → command ≡ command_in wish.edit wish.sent drawn → Moves old new → KeepsAll old new → AreValid new.base new.seen → Refuses old new ask sent command moment refusal number → refused_text refusal number closing ≡ bytes_of text → Committed old new wish ask drawn moment closing text
+refused_made {old} {new} wish ask drawn sent command moment closing text refusal number within draws same is moves keeps valid refuses has =
     let r = subst (λ (value : Option (List ℕ)). Refuses old new ask value command moment refusal number) same refuses in
     let newer : newest (history_of new) ≡ number = sym r.number_is in
     record {
@@ -201,6 +224,8 @@ refused_made {old} {new} wish ask drawn sent command moment closing text refusal
       text_is = ap (λ (n : ℕ). refused_text refusal n closing) newer ∙ has;
       house = r.stays.handed ∙ sym (append-nil old.handed);
       failures = r.stays.keepers;
+      needs = refl;
+      kept = same_shelves old new keeps;
       not_above = omega arith;
     }
 
@@ -215,8 +240,8 @@ handed_once house wish ask drawn command moment is (commit ∷ []) at_most = (
 handed_once house wish ask drawn command moment is (commit ∷ other ∷ others) at_most = at_most
 
 -- an edit whose keeper failed
-pub failed_made : {old new : HouseView} (wish : Wish) (ask : Ask) (drawn : Option Words) (sent : Option (List ℕ)) (command : Command) (moment : ℕ) (closing : Bool) (text : Made) → moment ≤ last_moment → IsDrawn wish drawn → sent ≡ wish.csrf → command ≡ command_in wish.edit wish.sent drawn → Moves old new → AreValid new.base new.seen → Fails old new ask sent command moment → keeper_text closing ≡ bytes_of text → Committed old new wish ask drawn moment closing text
-failed_made {old} {new} wish ask drawn sent command moment closing text within draws same is moves valid fails has =
+pub failed_made : {old new : HouseView} (wish : Wish) (ask : Ask) (drawn : Option Words) (sent : Option (List ℕ)) (command : Command) (moment : ℕ) (closing : Bool) (text : Made) → moment ≤ last_moment → IsDrawn wish drawn → sent ≡ wish.csrf → command ≡ command_in wish.edit wish.sent drawn → Moves old new → KeepsAll old new → AreValid new.base new.seen → Fails old new ask sent command moment → keeper_text closing ≡ bytes_of text → Committed old new wish ask drawn moment closing text
+failed_made {old} {new} wish ask drawn sent command moment closing text within draws same is moves keeps valid fails has =
     let f = subst (λ (value : Option (List ℕ)). Fails old new ask value command moment) same fails in record {
       story = answered moment drawn (keeper_text closing) f.more 1 (newest (history_of new));
       is = inl (inr (inr (record {
@@ -236,12 +261,14 @@ failed_made {old} {new} wish ask drawn sent command moment closing text within d
       text_is = has;
       house = f.handed;
       failures = f.keepers;
+      needs = refl;
+      kept = same_shelves old new keeps;
       not_above = omega arith;
     }
 
 -- memory was wanting for an edit, or for its reply where it was refused
-pub starved_made : {old new : HouseView} (wish : Wish) (ask : Ask) (drawn : Option Words) (moment : ℕ) (closing : Bool) (text : Made) → moment ≤ last_moment → IsDrawn wish drawn → Moves old new → Stays old new → memory_text closing ≡ bytes_of text → Committed old new wish ask drawn moment closing text
-starved_made {old} {new} wish ask drawn moment closing text within draws moves stays has = record {
+pub starved_made : {old new : HouseView} (wish : Wish) (ask : Ask) (drawn : Option Words) (moment : ℕ) (closing : Bool) (text : Made) → moment ≤ last_moment → IsDrawn wish drawn → Moves old new → KeepsAll old new → Stays old new → memory_text closing ≡ bytes_of text → Committed old new wish ask drawn moment closing text
+starved_made {old} {new} wish ask drawn moment closing text within draws moves keeps stays has = record {
   story = record (told moment [] 0 (memory_text closing) (newest (history_of new))) { words = listed drawn };
   is = inr (record {
     moment = moment;
@@ -254,6 +281,8 @@ starved_made {old} {new} wish ask drawn moment closing text within draws moves s
     to = omega arith;
     before_or_after = refl;
     words = inr draws;
+    needs = [];
+    may_need = refl;
     story_is = refl;
   });
   moments = refl;
@@ -262,17 +291,19 @@ starved_made {old} {new} wish ask drawn moment closing text within draws moves s
   text_is = has;
   house = stays.handed ∙ sym (append-nil old.handed);
   failures = stays.keepers;
+  needs = refl;
+  kept = same_shelves old new keeps;
   not_above = omega arith;
 }
 
 -- the same before a house was asked
 pub unmade : {house : HouseView} (wish : Wish) (ask : Ask) (drawn : Option Words) (moment : ℕ) (closing : Bool) (text : Made) → moment ≤ last_moment → IsDrawn wish drawn → Moves house house → memory_text closing ≡ bytes_of text → Committed house house wish ask drawn moment closing text
 unmade {house} wish ask drawn moment closing text within draws moves has =
-    starved_made wish ask drawn moment closing text within draws moves (stays_same house) has
+    starved_made wish ask drawn moment closing text within draws moves (keeps_same house) (stays_same house) has
 
 -- an edit, with the words that were drawn before it, and told to the gate
 pub edit_made : {old new : HouseView} (words words' : Option (List ℕ)) (before points : Option (List Point)) (wish : Wish) (ask : Ask) (drawn : Option Words) (moment : ℕ) (closing : Bool) (text : Made) → words' ≡ after words (listed drawn) → points ≡ and_point before (BeforeReply 0) → Committed old new wish ask drawn moment closing text → Makes (record { house = old; words = words; points = before }) (record { house = new; words = words'; points = points }) (ToEdit wish) ask moment closing text
-edit_made words words' before points wish ask drawn moment closing text chance reached c = record {
+edit_made {old} {new} words words' before points wish ask drawn moment closing text chance reached c = record {
   story = c.story;
   is = c.is;
   moments = c.moments;
@@ -281,13 +312,14 @@ edit_made words words' before points wish ask drawn moment closing text chance r
   text_is = c.text_is;
   house = c.house;
   failures = c.failures;
+  kept = subst (λ (needs : List (Option Need)). KeepsFor needs (shelves_of old) (shelves_of new)) (sym c.needs) (keeps_nothing (shelves_of old) (shelves_of new) c.kept);
   not_above = c.not_above;
 }
 
 -- ---- what is written
 
 -- the reply that was made was written
-pub replied : {old new : HouseView} (given given' words words' written written' : Option (List ℕ)) (points points' : Option (List Point)) (request : Request) (moment : ℕ) (closing : Bool) (text : Made) → given' ≡ after given (moment ∷ []) → Makes (record { house = old; words = words; points = points }) (record { house = new; words = words'; points = points' }) (called request) (ask_of request) moment closing text → written' ≡ after written (bytes_of text) → Replied (record { given = given; words = words; points = points; written = written; handed = old.handed; keepers = old.keepers }) (record { given = given'; words = words'; points = points'; written = written'; handed = new.handed; keepers = new.keepers }) (history_of new) (newest (history_of old)) request closing
+pub replied : {old new : HouseView} (given given' words words' written written' : Option (List ℕ)) (points points' : Option (List Point)) (request : Request) (moment : ℕ) (closing : Bool) (text : Made) → given' ≡ after given (moment ∷ []) → Makes (record { house = old; words = words; points = points }) (record { house = new; words = words'; points = points' }) (called request) (ask_of request) moment closing text → written' ≡ after written (bytes_of text) → Replied (record { given = given; words = words; points = points; written = written; handed = old.handed; keepers = old.keepers; kept = shelves_of old }) (record { given = given'; words = words'; points = points'; written = written'; handed = new.handed; keepers = new.keepers; kept = shelves_of new }) (history_of new) (newest (history_of old)) request closing
 replied given given' words words' written written' points points' request moment closing text clock m sink = record {
   story = m.story;
   text = m.is;
@@ -298,12 +330,13 @@ replied given given' words words' written written' points points' request moment
     sink = sink ∙ ap (after written) (sym m.text_is);
     house = m.house;
     failures = m.failures;
+    kept = m.kept;
   };
   not_above = m.not_above;
 }
 
 -- a front of it was
-pub half_replied : {old new : HouseView} (given given' words words' written written' : Option (List ℕ)) (points points' : Option (List Point)) (request : Request) (moment : ℕ) (closing : Bool) (text : Made) → given' ≡ after given (moment ∷ []) → Makes (record { house = old; words = words; points = points }) (record { house = new; words = words'; points = points' }) (called request) (ask_of request) moment closing text → AddsFront written written' (bytes_of text) → HalfReplied (record { given = given; words = words; points = points; written = written; handed = old.handed; keepers = old.keepers }) (record { given = given'; words = words'; points = points'; written = written'; handed = new.handed; keepers = new.keepers }) (history_of new) (newest (history_of old)) request closing
+pub half_replied : {old new : HouseView} (given given' words words' written written' : Option (List ℕ)) (points points' : Option (List Point)) (request : Request) (moment : ℕ) (closing : Bool) (text : Made) → given' ≡ after given (moment ∷ []) → Makes (record { house = old; words = words; points = points }) (record { house = new; words = words'; points = points' }) (called request) (ask_of request) moment closing text → AddsFront written written' (bytes_of text) → HalfReplied (record { given = given; words = words; points = points; written = written; handed = old.handed; keepers = old.keepers; kept = shelves_of old }) (record { given = given'; words = words'; points = points'; written = written'; handed = new.handed; keepers = new.keepers; kept = shelves_of new }) (history_of new) (newest (history_of old)) request closing
 half_replied given given' words words' written written' points points' request moment closing text clock m front = record {
   story = m.story;
   count = front.count;
@@ -315,6 +348,7 @@ half_replied given given' words words' written written' points points' request m
     sink = front.told ∙ ap (λ (l : List ℕ). after written (take front.count l)) (sym m.text_is);
     house = m.house;
     failures = m.failures;
+    kept = m.kept;
   };
   not_above = m.not_above;
 }

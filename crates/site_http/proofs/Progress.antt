@@ -143,7 +143,7 @@ refused_reads k bytes code parses =
 
 -- bytes that are no reply to a request change no number
 say_from : {o o' : Out} (text : List ℕ) (low high : ℕ) → Gave o o' (saying text low) → Gave o o' (saying text high)
-say_from text low high g = record { clock = g.clock; chance = g.chance; gate = g.gate; sink = g.sink; house = g.house; failures = g.failures }
+say_from text low high g = record { clock = g.clock; chance = g.chance; gate = g.gate; sink = g.sink; house = g.house; failures = g.failures; kept = g.kept }
 
 pub refused_at : {old now new : Around} {history : History} {limit low count seen : ℕ} {buffer : List ℕ} (code : ℕ) → count < limit → Progress old now history limit low count seen buffer → RefusesWith now new buffer code seen → Answered old new history limit low (Code code) (refusal_text code)
 refused_at {old} {now} {new} {history} {limit} {low} {count} {seen} {buffer} code few p r =

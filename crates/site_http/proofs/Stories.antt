@@ -5,12 +5,14 @@ use Rattle.content_state.specs.declared.commit.Commit.{Commit}
 use Rattle.site_io.specs.declared.device.Point.{Point}
 use Rattle.site_io.specs.Memory.{up}
 use Rattle.site_io.specs.Told.{before, after}
+use Rattle.site_http.specs.Kept.{Need}
 use Rattle.site_http.specs.Reply.{Story}
 use Rattle.site_http.specs.Connection.{Out, Around, Gave, Went, and_points, joined, nothing, raised}
+use Rattle.site_http.proofs.Kept.{keeps_nothing, keeps_more}
 use Rattle.site_http.proofs.Told.{before_before, after_after, after_nothing, points_points, points_nothing}
 
-abbrev story_of : List ℕ → List ℕ → List Point → List ℕ → List Commit → ℕ → ℕ → Story
-story_of moments words points text handed keepers high = record {
+abbrev story_of : List ℕ → List ℕ → List Point → List ℕ → List Commit → ℕ → List (Option Need) → ℕ → Story
+story_of moments words points text handed keepers needs high = record {
   moments = moments;
   words = words;
   points = points;
@@ -18,31 +20,33 @@ story_of moments words points text handed keepers high = record {
   handed = handed;
   keepers = keepers;
   high = high;
+  needs = needs;
 }
 
-same_story : {moments moment' words words' text text' : List ℕ} {points points' : List Point} {handed handed' : List Commit} {keepers keepers' : ℕ} (high : ℕ) → moments ≡ moment' → words ≡ words' → points ≡ points' → text ≡ text' → handed ≡ handed' → keepers ≡ keepers' → story_of moments words points text handed keepers high ≡ story_of moment' words' points' text' handed' keepers' high
-same_story {moments} {moment'} {words} {words'} {text} {text'} {points} {points'} {handed} {handed'} {keepers} {keepers'} high a b c d e f =
-    ap (λ (x : List ℕ). story_of x words points text handed keepers high) a
-    ∙ ap (λ (x : List ℕ). story_of moment' x points text handed keepers high) b
-    ∙ ap (λ (x : List Point). story_of moment' words' x text handed keepers high) c
-    ∙ ap (λ (x : List ℕ). story_of moment' words' points' x handed keepers high) d
-    ∙ ap (λ (x : List Commit). story_of moment' words' points' text' x keepers high) e
-    ∙ ap (λ (x : ℕ). story_of moment' words' points' text' handed' x high) f
+same_story : {moments moment' words words' text text' : List ℕ} {points points' : List Point} {handed handed' : List Commit} {keepers keepers' : ℕ} {needs needs' : List (Option Need)} (high : ℕ) → moments ≡ moment' → words ≡ words' → points ≡ points' → text ≡ text' → handed ≡ handed' → keepers ≡ keepers' → needs ≡ needs' → story_of moments words points text handed keepers needs high ≡ story_of moment' words' points' text' handed' keepers' needs' high
+same_story {moments} {moment'} {words} {words'} {text} {text'} {points} {points'} {handed} {handed'} {keepers} {keepers'} {needs} {needs'} high a b c d e f n =
+    ap (λ (x : List ℕ). story_of x words points text handed keepers needs high) a
+    ∙ ap (λ (x : List ℕ). story_of moment' x points text handed keepers needs high) b
+    ∙ ap (λ (x : List Point). story_of moment' words' x text handed keepers needs high) c
+    ∙ ap (λ (x : List ℕ). story_of moment' words' points' x handed keepers needs high) d
+    ∙ ap (λ (x : List Commit). story_of moment' words' points' text' x keepers needs high) e
+    ∙ ap (λ (x : ℕ). story_of moment' words' points' text' handed' x needs high) f
+    ∙ ap (λ (x : List (Option Need)). story_of moment' words' points' text' handed' keepers' x high) n
 
 pub joined_assoc : (a b c : Story) → joined (joined a b) c ≡ joined a (joined b c)
 joined_assoc a b c =
     let sum : a.keepers + b.keepers + c.keepers ≡ a.keepers + (b.keepers + c.keepers) = omega arith in
-    same_story c.high (append_assoc a.moments b.moments c.moments) (append_assoc a.words b.words c.words) (append_assoc a.points b.points c.points) (append_assoc a.text b.text c.text) (append_assoc a.handed b.handed c.handed) sum
+    same_story c.high (append_assoc a.moments b.moments c.moments) (append_assoc a.words b.words c.words) (append_assoc a.points b.points c.points) (append_assoc a.text b.text c.text) (append_assoc a.handed b.handed c.handed) sum (append_assoc a.needs b.needs c.needs)
 
 pub joined_nothing : (a : Story) → joined a (nothing a.high) ≡ a
 joined_nothing a =
     let sum : a.keepers + 0 ≡ a.keepers = omega arith in
-    same_story a.high (append-nil a.moments) (append-nil a.words) (append-nil a.points) (append-nil a.text) (append-nil a.handed) sum
+    same_story a.high (append-nil a.moments) (append-nil a.words) (append-nil a.points) (append-nil a.text) (append-nil a.handed) sum (append-nil a.needs)
 
 pub nothing_joined : (low : ℕ) (a : Story) → joined (nothing low) a ≡ a
 nothing_joined low a =
     let sum : 0 + a.keepers ≡ a.keepers = omega arith in
-    same_story a.high refl refl refl refl refl sum
+    same_story a.high refl refl refl refl refl sum refl
 
 raised_more : (count first second : ℕ) → raised (raised count first) second ≡ raised count (first + second)
 raised_more count zero second =
@@ -60,6 +64,7 @@ gave_nothing o low = record {
   sink = after_nothing o.written;
   house = sym (append-nil o.handed);
   failures = refl;
+  kept = keeps_nothing o.kept o.kept refl;
 }
 
 pub gave_more : {first second third : Out} (a b : Story) → Gave first second a → Gave second third b → Gave first third (joined a b)
@@ -70,6 +75,7 @@ gave_more {first} {second} {third} a b g h = record {
   sink = h.sink ∙ ap (λ (o : Option (List ℕ)). after o b.text) g.sink ∙ after_after first.written a.text b.text;
   house = h.house ∙ ap (λ (l : List Commit). l ++ b.handed) g.house ∙ append_assoc first.handed a.handed b.handed;
   failures = h.failures ∙ ap (λ (n : ℕ). raised n b.keepers) g.failures ∙ raised_more first.keepers a.keepers b.keepers;
+  kept = keeps_more a.needs b.needs first.kept second.kept third.kept g.kept h.kept;
 }
 
 pub went_on : {first second third : Around} {taken : List ℕ} {a : Story} (more : List ℕ) (b : Story) → Went first second taken a → second.left ≡ before more third.left → Gave second.out third.out b → Went first third (taken ++ more) (joined a b)

@@ -12,7 +12,9 @@ use Rattle.http_heads.specs.Parses.{Parses}
 use Rattle.content_state.specs.Ask.{IsAsk}
 use Rattle.http_heads.specs.Requests.{End, Empty, Asks, Limit, Code, Cut, Reads}
 use Rattle.site_house.specs.History.{History, newest}
+use Rattle.kept_pages.specs.Held.{Shelves}
 use Rattle.site_http.specs.Called.{ask_of}
+use Rattle.site_http.specs.Kept.{KeepsFor}
 use Rattle.site_http.specs.Reply.{Story, IsText, refusal_text}
 
 -- whether the connection closes after the reply of this index
@@ -21,7 +23,7 @@ closes_after limit index request = request.closes || (index + 1) == limit
 
 -- no reply yet
 abbrev pub nothing : ℕ → Story
-nothing low = record { moments = []; words = []; points = []; text = []; handed = []; keepers = 0; high = low }
+nothing low = record { moments = []; words = []; points = []; text = []; handed = []; keepers = 0; high = low; needs = [] }
 
 -- bytes that are no reply to a request
 abbrev pub saying : List ℕ → ℕ → Story
@@ -37,6 +39,7 @@ joined first second = record {
   handed = first.handed ++ second.handed;
   keepers = first.keepers + second.keepers;
   high = second.high;
+  needs = first.needs ++ second.needs;
 }
 
 -- a story of whose bytes so many were written
@@ -60,7 +63,7 @@ Texts history limit index low (request ∷ requests) story =
     (λ number rest. Texts history limit (index + 1) number requests rest)
 
 -- what a connection adds to: the moments and words that were given, the points that were told, the bytes that were
--- written, the edits that were handed in, and how often an edit was answered that the keeper failed
+-- written, the edits that were handed in, how often an edit was answered that the keeper failed, and what the house keeps
 pub record Out : Type 0 where
   pub given : Option (List ℕ)
   pub words : Option (List ℕ)
@@ -68,6 +71,7 @@ pub record Out : Type 0 where
   pub written : Option (List ℕ)
   pub handed : List Commit
   pub keepers : ℕ
+  pub kept : Option Shelves
 
 -- that, and the bytes that are left to take
 pub record Around : Type 0 where
@@ -92,6 +96,7 @@ pub record Gave (old new : Out) (story : Story) : Type 0 where
   pub sink : new.written ≡ after old.written story.text
   pub house : new.handed ≡ old.handed ++ story.handed
   pub failures : new.keepers ≡ raised old.keepers story.keepers
+  pub kept : KeepsFor story.needs old.kept new.kept
 
 -- these bytes were taken, and a story was told
 pub record Went (old new : Around) (taken : List ℕ) (story : Story) : Type 0 where

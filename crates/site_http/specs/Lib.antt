@@ -1,4 +1,5 @@
 pub mod Called
+pub mod Kept
 pub mod Reply
 pub mod Fixed
 pub mod Connection

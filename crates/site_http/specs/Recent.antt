@@ -1,6 +1,6 @@
 -- Replies that may be given again.
 -- https://www.rfc-editor.org/rfc/rfc9111#section-4.2
-use Rattle.std.specs.Prelude.{ℕ, List, ◌≡◌, ◌≤◌, false, Option, None, IfSome, All}
+use Rattle.std.specs.Prelude.{ℕ, List, [], ◌++◌, ◌≡◌, ◌≤◌, false, Option, None, IfSome, All}
 use Rattle.std.specs.Arc.{arc_value}
 use Rattle.std.specs.declared.sync.Arc.{Arc}
 use Rattle.std.specs.declared.alloc.Global.{Global}
@@ -10,6 +10,7 @@ use Rattle.content_state.specs.Ask.{IsAsk}
 use Rattle.site_house.specs.House.{HouseView}
 use Rattle.site_house.specs.Bins.{IsSeenIn}
 use Rattle.site_http.specs.declared.recent.RecentReply.{RecentReply}
+use Rattle.site_http.specs.declared.recent.PageReply.{PageReply}
 use Rattle.site_http.specs.declared.recent.Given.{Given}
 use Rattle.site_http.specs.declared.recent.Given.TheVariants as given
 use Rattle.site_http.specs.Reply.{IsPageReply}
@@ -18,7 +19,11 @@ use Rattle.site_http.specs.Reply.{IsPageReply}
 -- built for it.
 pub record IsReplyUntil (state : State) (ask : Ask) (moment last : ℕ) (text : List ℕ) : Type 0 where
   pub cookie : ask.cookie ≡ None
-  pub again : (later : ℕ) → moment ≤ later → later ≤ last → IsPageReply state ask later false text 0
+  pub again : (later : ℕ) → moment ≤ later → later ≤ last → IsPageReply state ask later false text 0 []
+
+-- the bytes of the reply of a page: its head, and the pieces of its body
+abbrev pub page_bytes : PageReply → List ℕ
+page_bytes page = page.head.items ++ page.body
 
 -- a request without a cookie asks for a reply's target, on the state of its number, at one of its moments
 pub record Fits (reply : RecentReply) (number : ℕ) (ask : Ask) (moment : ℕ) : Type 0 where
@@ -34,13 +39,14 @@ pub record IsRecent (house : HouseView) (reply : RecentReply) : Type 0 where
   pub state : State
   pub seen : IsSeenIn house state
   pub number_is : state.number ≡ reply.number
-  pub again : (ask : Ask) (moment : ℕ) → IsAsk ask → Fits reply state.number ask moment → IsPageReply state ask moment false reply.text.items 0
+  pub again : (ask : Ask) (moment : ℕ) → IsAsk ask → Fits reply state.number ask moment → IsPageReply state ask moment false (page_bytes reply.page) 0 []
 
 -- so may each that stands at a place
 abbrev pub AreRecent : HouseView → List (Option (Arc RecentReply Global)) → Type 0
 AreRecent house places = All (λ place. IfSome place (λ reply. IsRecent house (arc_value reply))) places
 
--- the bytes of a text that is given
+-- the bytes of a reply that is given
 abbrev pub given_bytes : Given → List ℕ
 given_bytes (given.Text text) = text.items
-given_bytes (given.Again reply) = (arc_value reply).text.items
+given_bytes (given.Page page) = page_bytes page
+given_bytes (given.Again reply) = page_bytes (arc_value reply).page

@@ -26,6 +26,7 @@ use Rattle.edit_bodies.specs.declared.words.Words.{Words}
 use Rattle.edit_replies.specs.Texts.{refused_text, done_text, media_text, bad_json_text, keeper_text}
 use Rattle.site_house.specs.History.{History, OnLog, newest, log_to, state_of}
 use Rattle.site_http.specs.Called.{Called, ToRead, ToEdit, Wish, called, ask_of}
+use Rattle.site_http.specs.Kept.{Need}
 use Rattle.site_http.specs.declared.call.Reading.{Reading}
 use Rattle.site_http.specs.declared.call.Reading.TheVariants as reading
 
@@ -96,7 +97,8 @@ refusal_text code =
 
 -- What replies took, told and handed in: the moments and the words of chance that they took, the points that were told
 -- as they were made, their bytes, the edits that they handed in, how many of them say that the keeper of the rows
--- failed, and the number that no later one is below.
+-- failed, the number that no later one is below, and what was needed for the pages that were put together, each where memory
+-- wasn't wanting for it.
 pub record Story : Type 0 where
   pub moments : List ℕ
   pub words : List ℕ
@@ -105,6 +107,7 @@ pub record Story : Type 0 where
   pub handed : List Commit
   pub keepers : ℕ
   pub high : ℕ
+  pub needs : List (Option Need)
 
 -- the story of one reply that hands nothing in and draws nothing: `built` pieces of a page were built for it
 abbrev pub told : ℕ → List Point → ℕ → List ℕ → ℕ → Story
@@ -116,43 +119,56 @@ told moment points built text number = record {
   handed = [];
   keepers = 0;
   high = number;
+  needs = [];
 }
 
--- So many elements were built for the page of what was asked: of all that is needed for it, in order, each was found, or
--- built of what stands in its places. The number is that of those that were built, up to the greatest u64.
-pub record IsBuiltFor (state : State) (ask : Ask) (moment built : ℕ) : Type 0 where
+-- The page of what was asked was put together: of all that is needed for it, in order, each was found, or built of what stands in
+-- its places. The number is that of those that were built, up to the greatest u64.
+pub record IsPutTogether (state : State) (ask : Ask) (moment built : ℕ) (needs : List (Option Need)) : Type 0 where
   pub went : Went
   pub needed : OfRequest (visit_on state (viewer_of state.rows ask.cookie moment) ask moment) went
   pub counted : built ≡ min (number_built went) 18446744073709551615
+  pub told : needs ≡ Some (record { reader = record { state = state; viewer = viewer_of state.rows ask.cookie moment; ask = ask; moment = moment }; went = went }) ∷ []
 
--- the page of what was asked on a state, at a moment, under its head, and how many elements were built for it: at most itself,
+-- It was given again, to whoever sent no cookie, and nothing was needed for it.
+pub record IsGivenAgain (ask : Ask) (built : ℕ) (needs : List (Option Need)) : Type 0 where
+  pub cookie : ask.cookie ≡ None
+  pub counted : built ≡ 0
+  pub told : needs ≡ []
+
+-- so many elements were built for the page of what was asked, of what was needed for it
+abbrev pub IsBuiltFor : State → Ask → ℕ → ℕ → List (Option Need) → Type 0
+IsBuiltFor state ask moment built needs = IsPutTogether state ask moment built needs ⊎ IsGivenAgain ask built needs
+
+-- the page of what was asked on a state, at a moment, under its head, how many elements were built for it, and what was needed: at most itself,
 -- and each that stands in one of its places, since what was kept is not built again
-pub record IsPageReply (state : State) (ask : Ask) (moment : ℕ) (closing : Bool) (text : List ℕ) (built : ℕ) : Type 0 where
+pub record IsPageReply (state : State) (ask : Ask) (moment : ℕ) (closing : Bool) (text : List ℕ) (built : ℕ) (needs : List (Option Need)) : Type 0 where
   pub status : ℕ
   pub body : List ℕ
   pub page : IsPage state.rows ask moment status body
-  pub built_for : IsBuiltFor state ask moment built
+  pub built_for : IsBuiltFor state ask moment built needs
   pub built_at_most : built ≤ min (page_count state.rows ask moment) 18446744073709551615
   pub text_is : text ≡ reply_text (page_head status (length body) state.number closing) body
 
--- what is answered on a state without changing it, and how many elements were built for it
-abbrev pub Says : Reading → State → Ask → ℕ → Bool → List ℕ → ℕ → Type 0
-Says reading.Page state ask moment closing text built = IsPageReply state ask moment closing text built
-Says reading.NoPairing state ask moment closing text built = (text ≡ method_text state.number closing) × (built ≡ 0)
-Says reading.NoMedia state ask moment closing text built = (text ≡ media_text state.number closing) × (built ≡ 0)
-Says reading.BadJson state ask moment closing text built = (text ≡ bad_json_text state.number closing) × (built ≡ 0)
+-- what is answered on a state without changing it, how many elements were built for it, and what was needed
+abbrev pub Says : Reading → State → Ask → ℕ → Bool → List ℕ → ℕ → List (Option Need) → Type 0
+Says reading.Page state ask moment closing text built needs = IsPageReply state ask moment closing text built needs
+Says reading.NoPairing state ask moment closing text built needs = (text ≡ method_text state.number closing) × (built ≡ 0) × (needs ≡ [])
+Says reading.NoMedia state ask moment closing text built needs = (text ≡ media_text state.number closing) × (built ≡ 0) × (needs ≡ [])
+Says reading.BadJson state ask moment closing text built needs = (text ≡ bad_json_text state.number closing) × (built ≡ 0) × (needs ≡ [])
 
 -- A reply on one state, whose number is of the history and isn't below the earlier ones: the gate was told of the
 -- snapshot, and then of the reply.
-pub record OnState (history : History) (low : ℕ) (story : Story) (Holds : State → ℕ → List ℕ → ℕ → Type 0) : Type 0 where
+pub record OnState (history : History) (low : ℕ) (story : Story) (Holds : State → ℕ → List ℕ → ℕ → List (Option Need) → Type 0) : Type 0 where
   pub moment : ℕ
   pub number : ℕ
   pub text : List ℕ
   pub built : ℕ
+  pub needs : List (Option Need)
   pub within : moment ≤ last_moment
   pub on : OnLog history low number
-  pub holds : Holds (state_of history number) moment text built
-  pub story_is : story ≡ told moment (AfterSnapshot ∷ []) built text number
+  pub holds : Holds (state_of history number) moment text built needs
+  pub story_is : story ≡ record (told moment (AfterSnapshot ∷ []) built text number) { needs = needs }
 
 -- ---- edits
 
@@ -175,6 +191,7 @@ answered moment drawn text handed keepers number = record {
   handed = handed;
   keepers = keepers;
   high = number;
+  needs = [];
 }
 
 -- what becomes of a wish on a log, with the words that were drawn for it
@@ -242,6 +259,11 @@ abbrev pub MayDraw : Called → Option Words → Type 0
 MayDraw (ToRead r) drawn = drawn ≡ None
 MayDraw (ToEdit wish) drawn = (drawn ≡ None) ⊎ IsDrawn wish drawn
 
+-- what was needed until then: nothing, or that of a page that wasn't put together
+abbrev pub MayNeed : Called → List (Option Need) → Type 0
+MayNeed (ToRead r) needs = (needs ≡ []) ⊎ (needs ≡ None ∷ [])
+MayNeed (ToEdit wish) needs = needs ≡ []
+
 -- Memory was wanting: nothing was handed in. The reply carries no number.
 pub record IsWanting (history : History) (low : ℕ) (asked : Called) (closing : Bool) (story : Story) : Type 0 where
   pub moment : ℕ
@@ -254,14 +276,16 @@ pub record IsWanting (history : History) (low : ℕ) (asked : Called) (closing :
   pub to : number ≤ newest history
   pub before_or_after : MayTell asked points
   pub words : MayDraw asked drawn
-  pub story_is : story ≡ record (told moment points 0 (memory_text closing) number) { words = listed drawn }
+  pub needs : List (Option Need)
+  pub may_need : MayNeed asked needs
+  pub story_is : story ≡ record (told moment points 0 (memory_text closing) number) { words = listed drawn; needs = needs }
 
 -- ---- replies
 
 -- the reply, by what is asked for
 abbrev pub IsReply : History → ℕ → Called → Ask → Bool → Story → Type 0
 IsReply history low (ToRead r) ask closing story =
-    OnState history low story (λ state moment text built. Says r state ask moment closing text built)
+    OnState history low story (λ state moment text built needs. Says r state ask moment closing text built needs)
 IsReply history low (ToEdit wish) ask closing story =
     IsRefused history low wish ask closing story
     ⊎ (IsAccepted history low wish ask closing story ⊎ IsKeeper history low wish ask closing story)

@@ -23,6 +23,7 @@ use Rattle.site_house.specs.History.{History, OnLog, newest, state_of}
 use Rattle.edit_bodies.specs.declared.words.Words.{Words}
 use Rattle.edit_replies.specs.Texts.{done_text}
 use Rattle.site_http.specs.Called.{Called, ToEdit, Wish}
+use Rattle.site_http.specs.Kept.{KeepsFor, shelves_of}
 use Rattle.site_http.specs.Recent.{given_bytes}
 use Rattle.site_http.specs.Reply.{Story, IsAnswer, IsText, listed, refusal_text}
 use Rattle.site_http.specs.Connection.{Out, Around, Gave, and_points, raised, saying, cut_at, closes_after, CountsReads, CountsWrites}
@@ -137,6 +138,7 @@ pub record MadeOf (old new : Making) (moment : ℕ) (text : Made) (Is : Story �
   pub text_is : story.text ≡ bytes_of text
   pub house : new.house.handed ≡ old.house.handed ++ story.handed
   pub failures : new.house.keepers ≡ raised old.house.keepers story.keepers
+  pub kept : KeepsFor story.needs (shelves_of old.house) (shelves_of new.house)
   pub not_above : story.high ≤ newest (history_of new.house)
 
 -- An edit was asked of a house, with the words that were drawn for it: what became of it, as a reply and its story.
@@ -149,6 +151,8 @@ pub record Committed (old new : HouseView) (wish : Wish) (ask : Ask) (drawn : Op
   pub text_is : story.text ≡ bytes_of text
   pub house : new.handed ≡ old.handed ++ story.handed
   pub failures : new.keepers ≡ raised old.keepers story.keepers
+  pub needs : story.needs ≡ []
+  pub kept : shelves_of new ≡ shelves_of old
   pub not_above : story.high ≤ newest (history_of new)
 
 abbrev pub Makes : Making → Making → Called → Ask → ℕ → Bool → Made → Type 0

@@ -12,12 +12,14 @@ ghost use Rattle.site_io.specs.declared.device.Point.TheVariants.{AfterSnapshot}
 ghost use Rattle.edit_bodies.specs.Bodies.{sent_of};
 ghost use Rattle.edit_bodies.specs.Commands.{draws};
 ghost use Rattle.site_house.specs.History.{newest};
+ghost use Rattle.site_http.specs.Kept.{shelves_of, Needing};
 ghost use Rattle.site_http.specs.Called.{ask_of, called, called_of, ToRead};
-ghost use Rattle.site_http.specs.Recent.{given_bytes, AreRecent};
+ghost use Rattle.site_http.specs.Recent.{given_bytes, page_bytes, AreRecent};
 ghost use Rattle.site_http.specs.Reply.{Says, listed};
 ghost use Rattle.site_http.specs.Turn.{bytes_of, Committed, CountsOutcome, Makes, OnSeen, Replies, ToldOnTheWay};
 
 use crate::call::{Asked, Call, Reading, asked_by};
+use crate::pieces::{WriteFault, write_page, write_text};
 use crate::recent::{Given, RecentReplies, RecentReply};
 use crate::refusal::memory_text;
 use crate::reply::reply_on;
@@ -28,7 +30,7 @@ use edit_replies::{done_text, keeper_text, refused_text};
 use http_heads::{Octets, Request};
 use site_commands::{Answer, Command, Done};
 use site_house::House;
-use site_io::{Clock, Entropy, Failed, Gate, Point, Sink, write_whole};
+use site_io::{Clock, Entropy, Gate, Point, Sink};
 use std::alloc::{AllocError, Global};
 use std::sync::Arc;
 
@@ -39,10 +41,11 @@ pub enum Outcome {
     WriteFault,
 }
 
-/// A reply that is to be written. One that tells of an edit that was made takes no memory: its text is made as it is written.
+/// A reply that is to be written. All memory that it needs is taken: the text of an edit that was made is made as it is written,
+/// and takes none.
 #[derive(Drop)]
 pub enum Made {
-    /// The text of a page, or of what became of an edit that was refused.
+    /// The reply of a page, or of what became of an edit that was refused.
     Given(Given),
     /// What an accepted edit did, the number of the state that it made, and whether the connection closes after the reply.
     Done(Done, u64, bool),
@@ -50,23 +53,54 @@ pub enum Made {
     Fixed(&'static [u8]),
 }
 
-/// Writes a reply, in as many pieces as the sink takes.
-fn write_made<O: Sink>(sink: &mut O, made: &Made) -> Result<(), Failed>
+/// Writes a reply that changes nothing, a page in its pieces.
+fn write_given<O: Sink>(sink: &mut O, given: &Given) -> Result<(), WriteFault>
+    ensures whole { OnOk result (O.written sink.new ≡ after (O.written sink.old) (given_bytes given.now)) }
+    ensures front { OnErr result (AddsFront (O.written sink.old) (O.written sink.new) (given_bytes given.now)) }
+    ensures cause { OnErr result (Rose (O.faults sink.old) (O.faults sink.new)) }
+    ensures steady { OnOk result (O.faults sink.new ≡ O.faults sink.old) }
+{
+    match given {
+        Given::Text(text) => write_text(sink, text.as_slice()),
+        Given::Page(page) => write_page(sink, page.head.as_slice(), page.body.as_slice()),
+        Given::Again(reply) => write_page(
+            sink,
+            reply.page.head.as_slice(),
+            reply.page.body.as_slice(),
+        ),
+    }
+}
+
+/// Writes a reply.
+fn write_made<O: Sink>(sink: &mut O, made: &Made) -> Result<(), WriteFault>
     ensures whole { OnOk result (O.written sink.new ≡ after (O.written sink.old) (bytes_of made.now)) }
     ensures front { OnErr result (AddsFront (O.written sink.old) (O.written sink.new) (bytes_of made.now)) }
     ensures cause { OnErr result (Rose (O.faults sink.old) (O.faults sink.new)) }
     ensures steady { OnOk result (O.faults sink.new ≡ O.faults sink.old) }
 {
     match made {
-        Made::Given(given) => write_whole(sink, given.bytes()),
+        Made::Given(given) => write_given(sink, given),
         Made::Done(done, number, closing) => {
-            write_whole(sink, done_text(done, *number, *closing).as_slice())
+            write_text(sink, done_text(done, *number, *closing).as_slice())
         }
-        Made::Fixed(text) => write_whole(sink, text),
+        Made::Fixed(text) => write_text(sink, text),
     }
 }
 
-/// The text of a reply that changes nothing, and how many elements were built for it, up to the greatest u64.
+/// Writes a reply, and hands on what the sink holds back of it, before anything more is read.
+#[tactic(auto, using(crate::proofs::Joining::all_is_front))]
+fn send<O: Sink>(sink: &mut O, made: &Made) -> Result<(), WriteFault>
+    ensures whole { OnOk result (O.written sink.new ≡ after (O.written sink.old) (bytes_of made.now)) }
+    ensures front { OnErr result (AddsFront (O.written sink.old) (O.written sink.new) (bytes_of made.now)) }
+    ensures cause { OnErr result (Rose (O.faults sink.old) (O.faults sink.new)) }
+    ensures steady { OnOk result (O.faults sink.new ≡ O.faults sink.old) }
+{
+    write_made(sink, made)?;
+    sink.flush()?;
+    Ok(())
+}
+
+/// A reply that changes nothing, and how many elements were built for it, up to the greatest u64.
 #[derive(Drop)]
 struct Said {
     given: Given,
@@ -83,7 +117,7 @@ fn again(
     closing: bool,
 ) -> Option<Arc<RecentReply>>
     requires { IsAsk ask.now }
-    ensures { IfSome result (λ reply. (house : HouseView) → AreRecent house recent.now → IsSeenIn house state.now → Says reading state.now ask.now now closing (arc_value reply).text.items 0) }
+    ensures { IfSome result (λ reply. (house : HouseView) → AreRecent house recent.now → IsSeenIn house state.now → Says reading state.now ask.now now closing (page_bytes (arc_value reply).page) 0 []) }
 {
     match reading {
         Reading::Page if !closing => recent.find(ask, state.number(), now),
@@ -107,7 +141,7 @@ fn read<H: House, G: Gate>(
     requires recent { AreRecent (H.sees house.old) recent.old }
     ensures moves { Moves (H.sees house.old) (H.sees house.new) }
     ensures stays { Stays (H.sees house.old) (H.sees house.new) }
-    ensures says { IfOk result (λ said. OnSeen (H.sees house.old) (H.sees house.new) (λ state. Says reading state ask.now now closing (given_bytes said.given) said.built)) }
+    ensures says { IfOk result (λ said. Needing (H.sees house.old) (H.sees house.new) (λ needs. OnSeen (H.sees house.old) (H.sees house.new) (λ state. Says reading state ask.now now closing (given_bytes said.given) said.built needs))) }
     ensures told { OnOk result (G.reached gate.new ≡ and_point (G.reached gate.old) AfterSnapshot) }
     ensures on_the_way { OnErr result (ToldOnTheWay (G.reached gate.old) (G.reached gate.new)) }
     ensures recent { AreRecent (H.sees house.new) recent.new }
@@ -122,7 +156,7 @@ fn read<H: House, G: Gate>(
         });
     }
     let reply = reply_on(alloc, house, state, reading, ask, now, closing)?;
-    let given = recent.given(alloc, ask, state.number(), now, reply.text, reply.last);
+    let given = recent.given(alloc, ask, state.number(), now, reply.given, reply.last);
     Ok(Said {
         given,
         built: reply.built,
@@ -314,8 +348,8 @@ pub fn answer<H: House, O: Sink, C: Clock, E: Entropy, G: Gate>(
     ensures moves { Moves (H.sees house.old) (H.sees house.new) }
     ensures recent { AreRecent (H.sees house.new) recent.new }
     ensures replies { Replies result
-        (record { given = C.given clock.old; words = E.given entropy.old; points = G.reached gate.old; written = O.written sink.old; handed = (H.sees house.old).handed; keepers = (H.sees house.old).keepers })
-        (record { given = C.given clock.new; words = E.given entropy.new; points = G.reached gate.new; written = O.written sink.new; handed = (H.sees house.new).handed; keepers = (H.sees house.new).keepers })
+        (record { given = C.given clock.old; words = E.given entropy.old; points = G.reached gate.old; written = O.written sink.old; handed = (H.sees house.old).handed; keepers = (H.sees house.old).keepers; kept = shelves_of (H.sees house.old) })
+        (record { given = C.given clock.new; words = E.given entropy.new; points = G.reached gate.new; written = O.written sink.new; handed = (H.sees house.new).handed; keepers = (H.sees house.new).keepers; kept = shelves_of (H.sees house.new) })
         (history_of (H.sees house.new)) (newest (history_of (H.sees house.old))) request closing }
     ensures moments { GivesInTurn last_moment (C.moments clock.old) (C.moments clock.new) (C.given clock.old) (C.given clock.new) }
     ensures words { GivesInTurn last_word (E.words entropy.old) (E.words entropy.new) (E.given entropy.old) (E.given entropy.new) }
@@ -325,8 +359,8 @@ pub fn answer<H: House, O: Sink, C: Clock, E: Entropy, G: Gate>(
     let made = reply_made(
         alloc, paths, house, entropy, gate, recent, request, now, closing,
     );
-    match write_made(sink, &made) {
+    match send(sink, &made) {
         Ok(()) => Outcome::Written,
-        Err(Failed) => Outcome::WriteFault,
+        Err(WriteFault) => Outcome::WriteFault,
     }
 }

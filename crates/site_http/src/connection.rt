@@ -5,6 +5,7 @@ ghost use Rattle.site_house.specs.House.{Moves, history_of};
 ghost use Rattle.site_io.specs.Series.{GivesInTurn, last_moment, last_word};
 ghost use Rattle.site_io.specs.declared.ended.Ended.{Ended as End};
 ghost use Rattle.site_house.specs.History.{History, longer, newest};
+ghost use Rattle.site_http.specs.Kept.{shelves_of};
 ghost use Rattle.site_http.specs.Recent.{AreRecent};
 ghost use Rattle.site_http.specs.Connection.{AreAsks, Around, Connection, CountsReads, CountsWrites};
 
@@ -36,8 +37,8 @@ pub fn serve_connection<R, H: House, S: Source, O: Sink, C: Clock, E: Entropy, G
 ) -> Ended
     ensures moves { Moves (H.sees house.old) (H.sees house.new) }
     ensures connection { Connection result
-        (record { left = S.left source.old; out = record { given = C.given clock.old; words = E.given entropy.old; points = G.reached gate.old; written = O.written sink.old; handed = (H.sees house.old).handed; keepers = (H.sees house.old).keepers } })
-        (record { left = S.left source.new; out = record { given = C.given clock.new; words = E.given entropy.new; points = G.reached gate.new; written = O.written sink.new; handed = (H.sees house.new).handed; keepers = (H.sees house.new).keepers } })
+        (record { left = S.left source.old; out = record { given = C.given clock.old; words = E.given entropy.old; points = G.reached gate.old; written = O.written sink.old; handed = (H.sees house.old).handed; keepers = (H.sees house.old).keepers; kept = shelves_of (H.sees house.old) } })
+        (record { left = S.left source.new; out = record { given = C.given clock.new; words = E.given entropy.new; points = G.reached gate.new; written = O.written sink.new; handed = (H.sees house.new).handed; keepers = (H.sees house.new).keepers; kept = shelves_of (H.sees house.new) } })
         (history_of (H.sees house.new)) 1000 (newest (history_of (H.sees house.old))) }
     ensures moments { GivesInTurn last_moment (C.moments clock.old) (C.moments clock.new) (C.given clock.old) (C.given clock.new) }
     ensures words { GivesInTurn last_word (E.words entropy.old) (E.words entropy.new) (E.given entropy.old) (E.given entropy.new) }
@@ -65,8 +66,8 @@ pub fn serve_next<H: House, S: Source, O: Sink, C: Clock, E: Entropy, G: Gate>(
     ensures moves { Moves (H.sees house.old) (H.sees house.new) }
     ensures recent { IfSome desk.new (λ d. AreRecent (H.sees house.new) d.recent) }
     ensures connection { Connection result
-        (record { left = S.left source.old; out = record { given = C.given clock.old; words = E.given entropy.old; points = G.reached gate.old; written = O.written sink.old; handed = (H.sees house.old).handed; keepers = (H.sees house.old).keepers } })
-        (record { left = S.left source.new; out = record { given = C.given clock.new; words = E.given entropy.new; points = G.reached gate.new; written = O.written sink.new; handed = (H.sees house.new).handed; keepers = (H.sees house.new).keepers } })
+        (record { left = S.left source.old; out = record { given = C.given clock.old; words = E.given entropy.old; points = G.reached gate.old; written = O.written sink.old; handed = (H.sees house.old).handed; keepers = (H.sees house.old).keepers; kept = shelves_of (H.sees house.old) } })
+        (record { left = S.left source.new; out = record { given = C.given clock.new; words = E.given entropy.new; points = G.reached gate.new; written = O.written sink.new; handed = (H.sees house.new).handed; keepers = (H.sees house.new).keepers; kept = shelves_of (H.sees house.new) } })
         (history_of (H.sees house.new)) 1000 (newest (history_of (H.sees house.old))) }
     ensures moments { GivesInTurn last_moment (C.moments clock.old) (C.moments clock.new) (C.given clock.old) (C.given clock.new) }
     ensures words { GivesInTurn last_word (E.words entropy.old) (E.words entropy.new) (E.given entropy.old) (E.given entropy.new) }
@@ -109,8 +110,8 @@ fn serve_at<H: House, S: Source, O: Sink, C: Clock, E: Entropy, G: Gate>(
     ensures moves { Moves (H.sees house.old) (H.sees house.new) }
     ensures recent { AreRecent (H.sees house.new) recent.new }
     ensures connection { Connection result
-        (record { left = S.left source.old; out = record { given = C.given clock.old; words = E.given entropy.old; points = G.reached gate.old; written = O.written sink.old; handed = (H.sees house.old).handed; keepers = (H.sees house.old).keepers } })
-        (record { left = S.left source.new; out = record { given = C.given clock.new; words = E.given entropy.new; points = G.reached gate.new; written = O.written sink.new; handed = (H.sees house.new).handed; keepers = (H.sees house.new).keepers } })
+        (record { left = S.left source.old; out = record { given = C.given clock.old; words = E.given entropy.old; points = G.reached gate.old; written = O.written sink.old; handed = (H.sees house.old).handed; keepers = (H.sees house.old).keepers; kept = shelves_of (H.sees house.old) } })
+        (record { left = S.left source.new; out = record { given = C.given clock.new; words = E.given entropy.new; points = G.reached gate.new; written = O.written sink.new; handed = (H.sees house.new).handed; keepers = (H.sees house.new).keepers; kept = shelves_of (H.sees house.new) } })
         (history_of (H.sees house.new)) 1000 (newest (history_of (H.sees house.old))) }
     ensures moments { GivesInTurn last_moment (C.moments clock.old) (C.moments clock.new) (C.given clock.old) (C.given clock.new) }
     ensures words { GivesInTurn last_word (E.words entropy.old) (E.words entropy.new) (E.given entropy.old) (E.given entropy.new) }

@@ -6,6 +6,7 @@ mod call;
 mod connection;
 mod desk;
 mod next;
+mod pieces;
 mod recent;
 mod refusal;
 mod reply;
@@ -20,6 +21,7 @@ pub use http_heads::{
     reply_head,
 };
 pub use next::Inbox;
+pub use pieces::{WriteFault, write_parts};
 pub use recent::RecentReplies;
 pub use turn::turn as serve_turn;
 pub use worker::{Worked, work};

@@ -5,10 +5,11 @@ ghost use Rattle.content_state.specs.Ask.{IsAsk};
 ghost use Rattle.content_state.specs.State.{State};
 ghost use Rattle.site_house.specs.House.{HouseView};
 ghost use Rattle.site_house.specs.Bins.{IsSeenIn};
-ghost use Rattle.site_http.specs.Recent.{given_bytes, Fits, IsRecent, AreRecent, IsReplyUntil};
+ghost use Rattle.site_http.specs.Recent.{given_bytes, page_bytes, Fits, IsRecent, AreRecent, IsReplyUntil};
 
 use content_rows::{Duplicate, Text};
 use content_state::Ask;
+use renderer::Parts;
 use std::alloc::{AllocError, Global};
 use std::marker::Model;
 use std::sync::Arc;
@@ -16,8 +17,17 @@ use std::sync::Arc;
 /// How many replies are remembered, at most.
 const PLACES: usize = 64;
 
-/// No longer reply is remembered, in bytes.
-const LONGEST: usize = 65_536;
+/// The reply of a page: its head, and its body in the pieces that it was put together from, which are shared.
+pub struct PageReply {
+    pub head: Vec<u8>,
+    pub body: Parts,
+}
+
+impl Drop for PageReply {
+    fn drop(self) {
+        let PageReply { head: _, body: _ } = self;
+    }
+}
 
 /// The reply of a page that may be given again as it is: to a request for the same target without a cookie, on the state of
 /// this number, at a moment between these, in seconds since 1970 (RFC 9111, section 4.2).
@@ -27,7 +37,7 @@ pub struct RecentReply {
     pub number: u64,
     pub from: u64,
     pub until: u64,
-    pub text: Vec<u8>,
+    pub page: PageReply,
 }
 
 impl RecentReply {
@@ -43,23 +53,12 @@ impl RecentReply {
     }
 }
 
-/// The text of a reply that changes nothing: its own, or one that may be given again, which is shared.
+/// A reply that changes nothing: a text that is one piece, the reply of a page, or one that may be given again, which is shared.
 #[derive(Drop)]
 pub enum Given {
     Text(Vec<u8>),
+    Page(PageReply),
     Again(Arc<RecentReply>),
-}
-
-impl Given {
-    /// Its bytes.
-    pub fn bytes(&self) -> &[u8]
-        ensures { result.now ≡ given_bytes self.now }
-    {
-        match self {
-            Given::Text(text) => text.as_slice(),
-            Given::Again(reply) => reply.text.as_slice(),
-        }
-    }
 }
 
 /// The place of a target among those of replies, by the hash of Fowler, Noll and Vo.
@@ -136,42 +135,59 @@ impl RecentReplies {
         }
     }
 
-    /// The text of a reply, on the state of a number, at a moment. Where it may be given again until a last moment it is
-    /// remembered, unless it is long or memory is wanting for that.
+    /// A reply, on the state of a number, at a moment. Where it is that of a page which may be given again until a last moment it
+    /// is remembered, unless memory is wanting for that.
     pub fn given(
         &mut self,
         alloc: Global,
         ask: &Ask,
         number: u64,
         now: u64,
-        text: Vec<u8>,
+        given: Given,
         last: Option<u64>,
     ) -> Given
-        ensures text { given_bytes result ≡ text.items }
-        ensures recent { (house : HouseView) → (state : State) → IsSeenIn house state → state.number ≡ number → IsAsk ask.now → IfSome last (λ l. IsReplyUntil state ask.now now l text.items) → AreRecent house self.old → AreRecent house self.new }
+        ensures text { given_bytes result ≡ given_bytes given }
+        ensures recent { (house : HouseView) → (state : State) → IsSeenIn house state → state.number ≡ number → IsAsk ask.now → IfSome last (λ l. IsReplyUntil state ask.now now l (given_bytes given)) → AreRecent house self.old → AreRecent house self.new }
     {
         let Some(until) = last else {
-            return Given::Text(text);
+            return given;
         };
-        if LONGEST < text.len() {
-            return Given::Text(text);
+        match given {
+            Given::Page(page) => self.shared(alloc, ask, number, now, until, page),
+            Given::Text(text) => Given::Text(text),
+            Given::Again(reply) => Given::Again(reply),
         }
+    }
+
+    /// The reply of a page that may be given again until a last moment: it is remembered, unless memory is wanting for that.
+    fn shared(
+        &mut self,
+        alloc: Global,
+        ask: &Ask,
+        number: u64,
+        now: u64,
+        until: u64,
+        page: PageReply,
+    ) -> Given
+        ensures text { given_bytes result ≡ page_bytes page }
+        ensures recent { (house : HouseView) → (state : State) → IsSeenIn house state → state.number ≡ number → IsAsk ask.now → IsReplyUntil state ask.now now until (page_bytes page) → AreRecent house self.old → AreRecent house self.new }
+    {
         let Ok(target) = ask.target.duplicate(alloc) else {
-            return Given::Text(text);
+            return Given::Page(page);
         };
         let reply = RecentReply {
             target,
             number,
             from: now,
             until,
-            text,
+            page,
         };
         match Arc::new(alloc, reply) {
             Ok(shared) => {
                 self.remember(&shared);
                 Given::Again(shared)
             }
-            Err(refused) => Given::Text(refused.value.text),
+            Err(refused) => Given::Page(refused.value.page),
         }
     }
 }

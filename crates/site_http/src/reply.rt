@@ -3,16 +3,17 @@ ghost use Rattle.std.specs.Prelude.{◌≡◌, IfOk, IfSome, IsTrue, None, false
 ghost use Rattle.content_state.specs.Ask.{IsAsk};
 ghost use Rattle.site_house.specs.House.{Moves, Stays};
 ghost use Rattle.site_house.specs.Bins.{IsSeenIn};
+ghost use Rattle.site_http.specs.Kept.{Needing};
 ghost use Rattle.site_http.specs.Reply.{page_head, method_body, method_text, IsPageReply, Says};
-ghost use Rattle.site_http.specs.Recent.{IsReplyUntil};
-ghost use Rattle.http_heads.specs.Reply.{reply_text, is_reply_status};
+ghost use Rattle.site_http.specs.Recent.{given_bytes, IsReplyUntil};
+ghost use Rattle.http_heads.specs.Reply.{head_text, reply_text, is_reply_status};
 
 use crate::call::Reading;
+use crate::recent::{Given, PageReply};
 use crate::shown::shown_page;
 use content_state::{Ask, State};
 use edit_replies::{bad_json_text, media_text};
 use http_heads::{CookieOut, Media, ReplyHead, reply_head};
-use kept_pages::Body;
 use site_house::House;
 use std::alloc::{AllocError, Global};
 
@@ -30,15 +31,16 @@ fn text_of(alloc: Global, head: &ReplyHead, body: &[u8]) -> Result<Vec<u8>, Allo
     Ok(text)
 }
 
-/// A head, and the body of a page, which is copied once, behind it.
-fn page_text(alloc: Global, head: &ReplyHead, body: &Body) -> Result<Vec<u8>, AllocError>
+/// No longer body is remembered with its reply, in bytes.
+const LONGEST: u128 = 65_536;
+
+/// The text of a head.
+fn head_of(alloc: Global, head: &ReplyHead) -> Result<Vec<u8>, AllocError>
     requires { IsTrue (is_reply_status head.now.status) }
-    ensures { IfOk result (λ v. v.items ≡ reply_text head.now body.now) }
+    ensures { IfOk result (λ v. v.items ≡ head_text head.now) }
 {
-    let room = usize::try_from(body.len()).unwrap_or(usize::MAX);
-    let mut text = Vec::with_capacity(alloc, room.saturating_add(HEAD_ROOM))?;
+    let mut text = Vec::with_capacity(alloc, HEAD_ROOM)?;
     reply_head(alloc, &mut text, head)?;
-    body.append_to(&mut text)?;
     Ok(text)
 }
 
@@ -46,17 +48,17 @@ fn page_text(alloc: Global, head: &ReplyHead, body: &Body) -> Result<Vec<u8>, Al
 /// given again, if it may.
 #[derive(Drop)]
 pub struct Reply {
-    pub text: Vec<u8>,
+    pub given: Given,
     pub built: u64,
     pub last: Option<u64>,
 }
 
-/// Until when the reply of a page may be given again that may be shown until a last moment: where no cookie was sent, and the
-/// connection goes on.
-fn until(ask: &Ask, closing: bool, last: u64) -> Option<u64>
+/// Until when the reply of a page of so many bytes may be given again that may be shown until a last moment: where no cookie was
+/// sent, the connection goes on, and the page isn't long.
+fn until(ask: &Ask, closing: bool, length: u128, last: u64) -> Option<u64>
     ensures { IfSome result (λ l. (l ≡ last) × (closing ≡ false) × (ask.now.cookie ≡ None)) }
 {
-    if closing || ask.cookie.is_some() {
+    if closing || ask.cookie.is_some() || length > LONGEST {
         None
     } else {
         Some(last)
@@ -76,32 +78,35 @@ fn page_reply<H: House>(
     requires right { IsAsk ask.now }
     ensures moves { Moves (H.sees house.old) (H.sees house.new) }
     ensures stays { Stays (H.sees house.old) (H.sees house.new) }
-    ensures says { IfOk result (λ r. IsPageReply state.now ask.now now closing r.text.items r.built) }
-    ensures again { IfOk result (λ r. IfSome r.last (λ last. IsReplyUntil state.now ask.now now last r.text.items)) }
+    ensures says { IfOk result (λ r. Needing (H.sees house.old) (H.sees house.new) (λ needs. IsPageReply state.now ask.now now closing (given_bytes r.given) r.built needs)) }
+    ensures again { IfOk result (λ r. IfSome r.last (λ last. IsReplyUntil state.now ask.now now last (given_bytes r.given))) }
 {
     let page = shown_page(alloc, house, state, ask, now)?;
     let head = ReplyHead {
         status: page.status,
         media: Media::Html,
-        length: Some(page.body.len()),
+        length: Some(page.length),
         location: None,
         cookie: CookieOut::Nothing,
         allow: false,
         state: Some(state.number()),
         close: closing,
     };
-    let text = page_text(alloc, &head, &page.body)?;
+    let head = head_of(alloc, &head)?;
     Ok(Reply {
-        text,
+        given: Given::Page(PageReply {
+            head,
+            body: page.parts,
+        }),
         built: page.built,
-        last: until(ask, closing, page.last),
+        last: until(ask, closing, page.length, page.last),
     })
 }
 
 /// The reply to a method that isn't served.
 #[tactic(auto, unfolding(crate::specs::Reply::method_body))]
 fn method_reply(alloc: Global, number: u64, closing: bool) -> Result<Reply, AllocError>
-    ensures text { IfOk result (λ r. r.text.items ≡ method_text number closing) }
+    ensures text { IfOk result (λ r. given_bytes r.given ≡ method_text number closing) }
     ensures built { IfOk result (λ r. r.built ≡ 0) }
     ensures last { IfOk result (λ r. r.last ≡ None) }
 {
@@ -117,14 +122,14 @@ fn method_reply(alloc: Global, number: u64, closing: bool) -> Result<Reply, Allo
     };
     let text = text_of(alloc, &head, b"{\"code\":\"method\"}")?;
     Ok(Reply {
-        text,
+        given: Given::Text(text),
         built: 0,
         last: None,
     })
 }
 
 /// What is answered on a state that the house has seen, at a moment, without changing it.
-#[tactic(auto, using(site_house::proofs::Moving::moves_same, crate::proofs::Made::stays_same))]
+#[tactic(auto, using(site_house::proofs::Moving::moves_same, crate::proofs::Made::stays_same, crate::proofs::Kept::needs_nothing))]
 pub fn reply_on<H: House>(
     alloc: Global,
     house: &mut H,
@@ -138,8 +143,8 @@ pub fn reply_on<H: House>(
     requires right { IsAsk ask.now }
     ensures moves { Moves (H.sees house.old) (H.sees house.new) }
     ensures stays { Stays (H.sees house.old) (H.sees house.new) }
-    ensures says { IfOk result (λ r. Says reading state.now ask.now now closing r.text.items r.built) }
-    ensures again { IfOk result (λ r. IfSome r.last (λ last. IsReplyUntil state.now ask.now now last r.text.items)) }
+    ensures says { IfOk result (λ r. Needing (H.sees house.old) (H.sees house.new) (λ needs. Says reading state.now ask.now now closing (given_bytes r.given) r.built needs)) }
+    ensures again { IfOk result (λ r. IfSome r.last (λ last. IsReplyUntil state.now ask.now now last (given_bytes r.given))) }
 {
     match reading {
         Reading::Page => {
@@ -153,7 +158,7 @@ pub fn reply_on<H: House>(
         Reading::NoMedia => {
             let text = media_text(alloc, state.number(), closing)?;
             Ok(Reply {
-                text,
+                given: Given::Text(text),
                 built: 0,
                 last: None,
             })
@@ -161,7 +166,7 @@ pub fn reply_on<H: House>(
         Reading::BadJson => {
             let text = bad_json_text(alloc, state.number(), closing)?;
             Ok(Reply {
-                text,
+                given: Given::Text(text),
                 built: 0,
                 last: None,
             })

@@ -1,12 +1,13 @@
 //! The page of a request on a state.
-ghost use Rattle.std.specs.Prelude.{◌≤◌, IfOk, IsTrue, min};
+ghost use Rattle.std.specs.Prelude.{◌≡◌, ◌≤◌, IfOk, IsTrue, length, min};
 ghost use Rattle.content_state.specs.Ask.{IsAsk};
 ghost use Rattle.http_heads.specs.Reply.{is_reply_status};
 ghost use Rattle.render_array.specs.Shown.{IsPage, page_count};
 ghost use Rattle.site_house.specs.House.{Moves, Stays};
 ghost use Rattle.site_house.specs.Bins.{IsSeenIn};
 ghost use Rattle.kept_pages.specs.Lasting.{Lasts};
-ghost use Rattle.site_http.specs.Reply.{IsBuiltFor};
+ghost use Rattle.site_http.specs.Kept.{Needing};
+ghost use Rattle.site_http.specs.Reply.{IsPutTogether};
 
 use content_state::{Ask, State};
 use kept_pages::{Page, render_page};
@@ -27,11 +28,12 @@ pub fn shown_page<H: House>(
     requires right { IsAsk ask.now }
     ensures moves { Moves (H.sees house.old) (H.sees house.new) }
     ensures stays { Stays (H.sees house.old) (H.sees house.new) }
-    ensures page { IfOk result (λ p. IsPage state.now.rows ask.now now p.status p.body) }
+    ensures page { IfOk result (λ p. IsPage state.now.rows ask.now now p.status p.parts) }
+    ensures length { IfOk result (λ p. p.length ≡ length p.parts) }
     ensures status { IfOk result (λ p. IsTrue (is_reply_status p.status)) }
-    ensures built_for { IfOk result (λ p. IsBuiltFor state.now ask.now now p.built) }
+    ensures built_for { IfOk result (λ p. Needing (H.sees house.old) (H.sees house.new) (λ needs. IsPutTogether state.now ask.now now p.built needs)) }
     ensures at_most { IfOk result (λ p. p.built ≤ min (page_count state.now.rows ask.now now) 18446744073709551615) }
-    ensures lasts { IfOk result (λ p. Lasts state.now ask.now now p.last p.status p.body) }
+    ensures lasts { IfOk result (λ p. Lasts state.now ask.now now p.last p.status p.parts) }
 {
     let viewer = viewer_of(state, ask, now);
     let page = render_page(alloc, house, state, &viewer, ask, now)?;

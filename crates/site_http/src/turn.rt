@@ -3,6 +3,7 @@ ghost use Rattle.std.specs.Prelude.{◌≡◌, ◌≤◌, ◌<◌, Some};
 ghost use Rattle.site_house.specs.House.{Moves, history_of};
 ghost use Rattle.site_io.specs.Series.{GivesInTurn, last_moment, last_word};
 ghost use Rattle.site_house.specs.History.{newest};
+ghost use Rattle.site_http.specs.Kept.{shelves_of};
 ghost use Rattle.site_http.specs.Recent.{AreRecent};
 ghost use Rattle.site_http.specs.Turn.{Turned, TurnReads, TurnWrites};
 
@@ -37,8 +38,8 @@ pub fn turn<H: House, S: Source, O: Sink, C: Clock, E: Entropy, G: Gate>(
     ensures moves { Moves (H.sees house.old) (H.sees house.new) }
     ensures recent { AreRecent (H.sees house.new) recent.new }
     ensures turned { Turned result
-        (record { left = S.left source.old; out = record { given = C.given clock.old; words = E.given entropy.old; points = G.reached gate.old; written = O.written sink.old; handed = (H.sees house.old).handed; keepers = (H.sees house.old).keepers } })
-        (record { left = S.left source.new; out = record { given = C.given clock.new; words = E.given entropy.new; points = G.reached gate.new; written = O.written sink.new; handed = (H.sees house.new).handed; keepers = (H.sees house.new).keepers } })
+        (record { left = S.left source.old; out = record { given = C.given clock.old; words = E.given entropy.old; points = G.reached gate.old; written = O.written sink.old; handed = (H.sees house.old).handed; keepers = (H.sees house.old).keepers; kept = shelves_of (H.sees house.old) } })
+        (record { left = S.left source.new; out = record { given = C.given clock.new; words = E.given entropy.new; points = G.reached gate.new; written = O.written sink.new; handed = (H.sees house.new).handed; keepers = (H.sees house.new).keepers; kept = shelves_of (H.sees house.new) } })
         (history_of (H.sees house.new)) LIMIT index (newest (history_of (H.sees house.old))) inbox.old inbox.new }
     ensures words { GivesInTurn last_word (E.words entropy.old) (E.words entropy.new) (E.given entropy.old) (E.given entropy.new) }
     ensures moments { GivesInTurn last_moment (C.moments clock.old) (C.moments clock.new) (C.given clock.old) (C.given clock.new) }

@@ -1,21 +1,37 @@
 //! A place in memory, which tells what it is to give and what it is given back.
-ghost use Rattle.std.specs.Prelude.{◌≡◌, ◌≤◌, ◌<◌, IfOk, IfSome, length, map, option_map};
+ghost use Rattle.std.specs.Prelude.{◌≡◌, ◌≤◌, ◌<◌, ◌+◌, false, IfErr, IfOk, IfSome, OnErr, OnOk, Some, is_none, length, map, option_map};
 ghost use Rattle.std.specs.String.{string_bytes};
-ghost use Rattle.site_io.specs.Memory.{fresh, up};
+ghost use Rattle.site_io.specs.Memory.{up};
 ghost use Rattle.content_state.specs.SiteRules.{AreValidRows};
-ghost use Rattle.site_keeper.specs.Memory.{fresh as fresh_keeper, made_of};
 ghost use Rattle.site_places.specs.Place.{
+  door_given,
   file_at,
+  keeper_of,
+  keeper_or_new,
   memory_view,
   new_memory,
   numbers,
+  opening_fails,
+  opening_passed,
   place_of,
+  port_at,
+  ports_left,
+  rows_given,
+  source_of,
   store_at,
+  HasTold,
+  HoldsMade,
+  HoldsTold,
+  IsDoorAt,
   IsNewDoor,
+  IsNoDevice,
+  IsNoneBack,
+  IsUnopened,
 };
 ghost use Rattle.site_places.specs.declared.place.NoDevice.TheVariants as why;
 
 use crate::place::{NoDevice, Place};
+use content_state::Rows;
 use site_io::{
     Door, ListClock, ListEntropy, MemoryDoor, MemorySink, MemorySource, OpenGate, Source,
 };
@@ -23,6 +39,7 @@ use site_keeper::{Fail, Keeper, MemoryKeeper, Stored};
 use std::alloc::{AllocError, Global};
 use std::marker::Model;
 use std::vec::IntoIter;
+use tag_counts::Counts;
 
 /// A file of a place in memory.
 #[derive(Drop)]
@@ -55,7 +72,7 @@ impl MemoryFile {
 
     /// A source of its bytes, of which none is read yet.
     fn opened(&self, alloc: Global) -> Result<MemorySource, AllocError>
-        ensures { IfOk result (λ s. (s.left ≡ self.now.bytes) × (s.calls ≡ fresh self.now.failing)) }
+        ensures { IfOk result (λ s. s ≡ source_of self.now) }
     {
         let bytes = Vec::from_slice(alloc, self.bytes.as_slice())?;
         let failing = Vec::from_slice(alloc, self.failing.as_slice())?;
@@ -108,7 +125,7 @@ impl MemoryStore {
 
     /// A keeper that holds what it holds, and has kept nothing yet.
     fn opened(&self, alloc: Global) -> Result<MemoryKeeper, AllocError>
-        ensures { IfOk result (λ k. k ≡ record { kept = made_of self.now.stored; calls = fresh_keeper self.now.failing }) }
+        ensures { IfOk result (λ k. k ≡ keeper_of self.now) }
     {
         let stored = self.stored.duplicate(alloc)?;
         let failing = Vec::from_slice(alloc, self.failing.as_slice())?;
@@ -121,6 +138,27 @@ fn store_at<'a>(stores: &'a [MemoryStore], path: &str) -> Option<&'a MemoryStore
     ensures { option_map (λ s. s.now) result ≡ store_at stores.now path.now }
 {
     stores.iter().find(|store| store.path.as_str() == path)
+}
+
+/// A keeper over the first store of that path, or over one that holds nothing where there is none.
+fn opened_or_new(
+    alloc: Global,
+    stores: &[MemoryStore],
+    path: &str,
+) -> Result<MemoryKeeper, AllocError>
+    ensures { IfOk result (λ k. k ≡ keeper_or_new (store_at stores.now path.now)) }
+{
+    match store_at(stores, path) {
+        Some(store) => Ok(store.opened(alloc)?),
+        None => {
+            let stored = Stored {
+                rows: Rows::new(alloc),
+                counts: Counts::new(alloc),
+                head: 0,
+            };
+            Ok(MemoryKeeper::new(alloc, stored, Vec::new(alloc)))
+        }
+    }
 }
 
 /// A port of a place in memory: an address, and a door there, at which nothing happened yet.
@@ -179,6 +217,7 @@ pub struct MemoryPlace {
     files: Vec<MemoryFile>,
     stores: Vec<MemoryStore>,
     ports: Vec<MemoryPort>,
+    rows_out: u64,
     returned: Option<MemoryKeeper>,
     doors_back: Vec<MemoryDoor>,
     doors_out: usize,
@@ -198,7 +237,7 @@ impl Model for MemoryPlace {
 
     ghost Value = { Memory };
 
-    ghost view = { λ p. record { moments = map numbers (into_iter_items p.moments); words = map numbers (into_iter_items p.words); files = p.files.items; stores = p.stores.items; ports = p.ports.items; returned = p.returned; doors_back = p.doors_back.items; doors_out = p.doors_out; failing = p.failing.items; opened = p.opened; faults = p.faults; rows_faults = p.rows_faults; keeper_faults = p.keeper_faults; door_faults = p.door_faults } };
+    ghost view = { λ p. record { moments = map numbers (into_iter_items p.moments); words = map numbers (into_iter_items p.words); files = p.files.items; stores = p.stores.items; ports = p.ports.items; rows_out = p.rows_out; returned = p.returned; doors_back = p.doors_back.items; doors_out = p.doors_out; failing = p.failing.items; opened = p.opened; faults = p.faults; rows_faults = p.rows_faults; keeper_faults = p.keeper_faults; door_faults = p.door_faults } };
 
     ghost invariant = { λ p. length p.doors_back.items + p.doors_out ≤ vec_capacity p.doors_back };
 }
@@ -215,6 +254,7 @@ impl MemoryPlace {
             files: Vec::new(alloc),
             stores: Vec::new(alloc),
             ports: Vec::new(alloc),
+            rows_out: 0,
             returned: None,
             doors_back: Vec::new(alloc),
             doors_out: 0,
@@ -304,32 +344,81 @@ impl Place for MemoryPlace {
 
     ghost sees = { memory_view };
 
-    fn rows(&mut self, path: &str) -> Result<MemorySource, NoDevice> {
+    fn rows(&mut self, path: &str) -> Result<MemorySource, NoDevice>
+        ensures told { IfOk result (λ rows. HasTold ((memory_view self.old).file path.now) (Some rows.left)) }
+        ensures unused { IfOk result (λ rows. rows.calls.faults ≡ 0) }
+        ensures later { OnOk result (memory_view self.new ≡ rows_given (memory_view self.old)) }
+        ensures cause { IfErr result (IsNoDevice (memory_view self.old) (memory_view self.new)) }
+        ensures source { IfOk result (λ rows. option_map source_of (file_at self.old.files path.now) ≡ Some rows) }
+        ensures passed { OnOk result (opening_fails self.old (is_none (file_at self.old.files path.now)) ≡ false) }
+        ensures given { OnOk result (self.new ≡ record (opening_passed self.old) { rows_out = self.old.rows_out + 1 }) }
+        ensures unopened { IfErr result (IsUnopened (opening_fails self.old (is_none (file_at self.old.files path.now))) self.old self.new) }
+    {
         self.opened = self.opened.saturating_add(1);
         if self.failing.contains(&self.opened) {
             return Err(self.fault());
         }
-        match file_at(self.files.as_slice(), path) {
-            Some(file) => Ok(file.opened(self.alloc)?),
-            None => Err(self.fault()),
-        }
+        let Some(file) = file_at(self.files.as_slice(), path) else {
+            return Err(self.fault());
+        };
+        let Some(out) = self.rows_out.checked_add(1) else {
+            return Err(NoDevice::OutOfMemory);
+        };
+        let Ok(rows) = file.opened(self.alloc) else {
+            return Err(NoDevice::OutOfMemory);
+        };
+        self.rows_out = out;
+        Ok(rows)
     }
 
     fn rows_back(&mut self, rows: MemorySource) {
         if rows.faults() > 0 {
             self.rows_faults = self.rows_faults.saturating_add(1);
         }
+        self.rows_out -= 1;
     }
 
-    fn keeper(&mut self, path: &str) -> Result<MemoryKeeper, NoDevice> {
+    fn keeper(&mut self, path: &str) -> Result<MemoryKeeper, NoDevice>
+        ensures told { IfOk result (λ keeper. HoldsTold ((memory_view self.old).store path.now) (Some keeper.kept)) }
+        ensures unused { IfOk result (λ keeper. keeper.calls.faults ≡ 0) }
+        ensures steady { IfOk result (λ _. memory_view self.new ≡ memory_view self.old) }
+        ensures cause { IfErr result (IsNoDevice (memory_view self.old) (memory_view self.new)) }
+        ensures keeper { IfOk result (λ keeper. option_map keeper_of (store_at self.old.stores path.now) ≡ Some keeper) }
+        ensures passed { OnOk result (opening_fails self.old (is_none (store_at self.old.stores path.now)) ≡ false) }
+        ensures given { OnOk result (self.new ≡ opening_passed self.old) }
+        ensures unopened { IfErr result (IsUnopened (opening_fails self.old (is_none (store_at self.old.stores path.now))) self.old self.new) }
+    {
         self.opened = self.opened.saturating_add(1);
         if self.failing.contains(&self.opened) {
             return Err(self.fault());
         }
-        match store_at(self.stores.as_slice(), path) {
-            Some(store) => Ok(store.opened(self.alloc)?),
-            None => Err(self.fault()),
+        let Some(store) = store_at(self.stores.as_slice(), path) else {
+            return Err(self.fault());
+        };
+        let Ok(keeper) = store.opened(self.alloc) else {
+            return Err(NoDevice::OutOfMemory);
+        };
+        Ok(keeper)
+    }
+
+    fn keeper_or_new(&mut self, path: &str) -> Result<MemoryKeeper, NoDevice>
+        ensures told { IfOk result (λ keeper. HoldsMade ((memory_view self.old).store path.now) (Some keeper.kept)) }
+        ensures unused { IfOk result (λ keeper. keeper.calls.faults ≡ 0) }
+        ensures steady { IfOk result (λ _. memory_view self.new ≡ memory_view self.old) }
+        ensures cause { IfErr result (IsNoDevice (memory_view self.old) (memory_view self.new)) }
+        ensures keeper { IfOk result (λ keeper. keeper ≡ keeper_or_new (store_at self.old.stores path.now)) }
+        ensures passed { OnOk result (opening_fails self.old false ≡ false) }
+        ensures given { OnOk result (self.new ≡ opening_passed self.old) }
+        ensures unopened { IfErr result (IsUnopened (opening_fails self.old false) self.old self.new) }
+    {
+        self.opened = self.opened.saturating_add(1);
+        if self.failing.contains(&self.opened) {
+            return Err(self.fault());
         }
+        let Ok(keeper) = opened_or_new(self.alloc, self.stores.as_slice(), path) else {
+            return Err(NoDevice::OutOfMemory);
+        };
+        Ok(keeper)
     }
 
     fn keeper_back(&mut self, keeper: MemoryKeeper) {
@@ -339,18 +428,31 @@ impl Place for MemoryPlace {
         self.returned = Some(keeper);
     }
 
-    fn door(&mut self, address: &str) -> Result<MemoryDoor, NoDevice> {
+    fn door(&mut self, address: &str) -> Result<MemoryDoor, NoDevice>
+        ensures told { IfOk result (λ door. IsDoorAt (memory_view self.old).doors address.now (Some door.coming)) }
+        ensures none_back { IfOk result (λ door. IsNoneBack (Some door.returned)) }
+        ensures none_out { IfOk result (λ door. door.is_out ≡ false) }
+        ensures unused { IfOk result (λ door. door.calls.faults ≡ 0) }
+        ensures later { OnOk result (memory_view self.new ≡ door_given address.now (memory_view self.old)) }
+        ensures cause { IfErr result (IsNoDevice (memory_view self.old) (memory_view self.new)) }
+        ensures door { IfOk result (λ door. option_map (λ port. port.door) (port_at address.now self.old.ports) ≡ Some door) }
+        ensures passed { OnOk result (opening_fails self.old (is_none (place_of address.now self.old.ports)) ≡ false) }
+        ensures given { OnOk result (self.new ≡ record (opening_passed self.old) { ports = ports_left address.now self.old.ports; doors_out = self.old.doors_out + 1 }) }
+        ensures unopened { IfErr result (IsUnopened (opening_fails self.old (is_none (place_of address.now self.old.ports))) self.old self.new) }
+    {
         self.opened = self.opened.saturating_add(1);
         if self.failing.contains(&self.opened) {
             return Err(self.fault());
         }
-        let Some(out) = self.doors_out.checked_add(1) else {
-            return Err(NoDevice::OutOfMemory);
-        };
         let Some(index) = place_of(self.ports.as_slice(), address) else {
             return Err(self.fault());
         };
-        self.doors_back.reserve(out)?;
+        let Some(out) = self.doors_out.checked_add(1) else {
+            return Err(NoDevice::OutOfMemory);
+        };
+        if self.doors_back.reserve(out).is_err() {
+            return Err(NoDevice::OutOfMemory);
+        }
         self.doors_out = out;
         Ok(self.ports.remove(index).into_door())
     }

@@ -6,9 +6,11 @@ ghost use Rattle.site_places.specs.Place.{
   entropy_given,
   next_list,
   none_given,
+  rows_given,
   DoorBack,
   GivenBack,
   HasTold,
+  HoldsMade,
   HoldsTold,
   IsDoorAt,
   IsNoDevice,
@@ -25,7 +27,7 @@ use std::alloc::AllocError;
 /// Why a place opened no device.
 #[derive(Clone, Copy, Debug, PartialEq, Eq)]
 pub enum NoDevice {
-    /// It can't be opened, and the place's count of faults rose.
+    /// It isn't there or can't be opened, and the place's count of faults rose. The program ends with status 7 then.
     Failed,
     OutOfMemory,
 }
@@ -63,24 +65,36 @@ pub trait Place {
 
     /// Opens the file of rows of that path.
     ///
-    /// The device has no fault yet, and the bytes that the place told of the file. `Failed` comes exactly where the
-    /// place's own count of faults rose in this call.
+    /// The device is out then, has no fault yet, and the bytes that the place told of the file. `Failed` comes exactly where
+    /// the place's own count of faults rose in this call, and always where the place told that there is no such file.
     fn rows(&mut self, path: &str) -> Result<Self::Rows, NoDevice>
         ensures told { IfOk result (λ rows. HasTold ((sees self.old).file path.now) (Self.Rows.left rows)) }
         ensures unused { IfOk result (λ rows. Self.Rows.faults rows ≡ 0) }
+        ensures later { OnOk result (sees self.new ≡ rows_given (sees self.old)) }
+        ensures cause { IfErr result (IsNoDevice (sees self.old) (sees self.new)) };
+
+    /// Takes one of the devices of rows that are out back. The count of such faults rises exactly where it had failed; the
+    /// program ends with status 7 then.
+    fn rows_back(&mut self, rows: Self::Rows)
+        requires { 0 < (sees self.old).rows_out }
+        ensures { GivenBack (Self.Rows.faults rows) (sees self.old) (sees self.new) };
+
+    /// Opens the store of that path, and makes none.
+    ///
+    /// The keeper has no fault yet, and holds what the place told of the store. `Failed` comes exactly where the place's
+    /// own count of faults rose in this call, and always where the place told that there is no such store.
+    fn keeper(&mut self, path: &str) -> Result<Self::Keeper, NoDevice>
+        ensures told { IfOk result (λ keeper. HoldsTold ((sees self.old).store path.now) (Self.Keeper.kept keeper)) }
+        ensures unused { IfOk result (λ keeper. Self.Keeper.faults keeper ≡ 0) }
         ensures steady { IfOk result (λ _. sees self.new ≡ sees self.old) }
         ensures cause { IfErr result (IsNoDevice (sees self.old) (sees self.new)) };
 
-    /// Takes a device of rows back. The count of such faults rises exactly where it had failed.
-    fn rows_back(&mut self, rows: Self::Rows)
-        ensures { GivenBack (Self.Rows.faults rows) (sees self.old) (sees self.new) };
-
-    /// Opens the store of that path.
+    /// Opens the store of that path, or makes one where nothing is there.
     ///
-    /// The keeper has no fault yet, and holds what the place told of the store. `Failed` comes exactly where the place's
-    /// own count of faults rose in this call.
-    fn keeper(&mut self, path: &str) -> Result<Self::Keeper, NoDevice>
-        ensures told { IfOk result (λ keeper. HoldsTold ((sees self.old).store path.now) (Self.Keeper.kept keeper)) }
+    /// The keeper has no fault yet, and holds what the place told of the store; one that is made holds no row. `Failed` comes
+    /// exactly where the place's own count of faults rose in this call.
+    fn keeper_or_new(&mut self, path: &str) -> Result<Self::Keeper, NoDevice>
+        ensures told { IfOk result (λ keeper. HoldsMade ((sees self.old).store path.now) (Self.Keeper.kept keeper)) }
         ensures unused { IfOk result (λ keeper. Self.Keeper.faults keeper ≡ 0) }
         ensures steady { IfOk result (λ _. sees self.new ≡ sees self.old) }
         ensures cause { IfErr result (IsNoDevice (sees self.old) (sees self.new)) };
@@ -102,7 +116,7 @@ pub trait Place {
         ensures cause { IfErr result (IsNoDevice (sees self.old) (sees self.new)) };
 
     /// Takes one of the doors that are out back, and tells then what it tells. The count of such faults rises exactly where
-    /// it had failed.
+    /// it had failed; the program ends with status 7 then.
     fn door_back(&mut self, door: Self::Door)
         requires { 0 < (sees self.old).doors_out }
         ensures { DoorBack (Self.Door.returned door) (Self.Door.faults door) (sees self.old) (sees self.new) };

@@ -24,13 +24,13 @@ impl Model for StoreFile {
 
     ghost Value = { ℕ };
 
-    ghost view = { λ s. s.keeper };
+    ghost view = { λ s. s.keeper.1 };
 }
 
 impl StoreFile {
     /// The same keeper.
     pub fn new(keeper: FileKeeper) -> StoreFile
-        ensures { result ≡ keeper }
+        ensures { result ≡ keeper.1 }
     {
         StoreFile { keeper }
     }

@@ -1,5 +1,5 @@
 //! The place of the real program.
-ghost use Rattle.std.specs.Prelude.{◌≡◌, ◌≤◌, IfOk, None, length};
+ghost use Rattle.std.specs.Prelude.{◌≡◌, ◌≤◌, IfErr, IfOk, None, false, length};
 ghost use Rattle.site_io.specs.Memory.{up};
 ghost use Rattle.site_io.specs.Chance.{stream_at};
 ghost use Rattle.site_places.specs.Place.{
@@ -9,27 +9,31 @@ ghost use Rattle.site_places.specs.Place.{
   stream_given,
   system_view,
   IsNewSystem,
+  IsNoDevice,
 };
 ghost use Rattle.site_places.specs.declared.place.NoDevice.TheVariants as why;
 
+use crate::framing::HttpFraming;
 use crate::place::{NoDevice, Place};
 use crate::store::StoreFile;
-use keeper_sqlite::{NoKeeper, open_keeper};
+use keeper_sqlite::{FileKeeper, NoKeeper, open_keeper, open_or_make_keeper};
+use site_doors::{Balance, LobbyDoor, listener_at};
 use site_io::{
-    Door, NoChance, OpenGate, Reading, Seed, Source, SystemClock, SystemEntropy, TcpDoor, Writing,
+    Door, NoChance, OpenGate, Reading, Seed, Source, SystemClock, SystemEntropy, Writing,
 };
 use site_keeper::Keeper;
 use std::fs::File;
 use std::io;
-use std::io::{ErrorKind, Stdin, Stdout};
+use std::io::{BufWriter, ErrorKind, Stdin, Stdout};
 use std::marker::Model;
 use std::net::TcpListener;
 
-/// The listener of an address, which the doors of that address share.
+/// The listener of an address, and what the doors of that address share so that each takes its part of the sockets.
 #[derive(Drop)]
 struct Listening {
     address: String,
     listener: TcpListener,
+    balance: Balance,
 }
 
 /// The place of the real program: the system's clock, streams of chance over one seed of the system's, its files, its
@@ -39,6 +43,7 @@ pub struct SystemPlace {
     rt: HostRuntime,
     seed: Seed,
     streams: u64,
+    rows_out: u64,
     listening: Option<Listening>,
     doors_out: u64,
     faults: u64,
@@ -52,7 +57,7 @@ impl Model for SystemPlace {
 
     ghost Value = { System };
 
-    ghost view = { λ p. record { seed = p.seed; streams = p.streams; doors_out = p.doors_out; faults = p.faults; rows_faults = p.rows_faults; keeper_faults = p.keeper_faults; door_faults = p.door_faults } };
+    ghost view = { λ p. record { seed = p.seed; streams = p.streams; rows_out = p.rows_out; doors_out = p.doors_out; faults = p.faults; rows_faults = p.rows_faults; keeper_faults = p.keeper_faults; door_faults = p.door_faults } };
 }
 
 impl SystemPlace {
@@ -67,6 +72,7 @@ impl SystemPlace {
             rt,
             seed,
             streams: 0,
+            rows_out: 0,
             listening: None,
             doors_out: 0,
             faults: 0,
@@ -77,21 +83,58 @@ impl SystemPlace {
     }
 
     /// A share of the listener of an address, which is made where no door of that address is out.
-    fn listener_at(&mut self, address: &str) -> io::Result<TcpListener>
+    fn share_at(&mut self, address: &str) -> io::Result<(TcpListener, Balance)>
         ensures { self.new ≡ self.old }
     {
         if let Some(listening) = &self.listening {
             if listening.address.as_str() == address {
-                return listening.listener.try_clone();
+                return Ok((
+                    listening.listener.try_clone()?,
+                    listening.balance.with_door()?,
+                ));
             }
         }
-        let listener = TcpListener::bind(&self.rt, address)?;
-        let share = listener.try_clone()?;
+        let listener = listener_at(&self.rt, address)?;
+        let balance = Balance::new(self.rt.alloc())?;
+        let share = (listener.try_clone()?, balance.with_door()?);
         self.listening = Some(Listening {
             address: String::from_str(self.rt.alloc(), address)?,
             listener,
+            balance,
         });
         Ok(share)
+    }
+
+    /// A door at an address.
+    fn door_at(&mut self, address: &str) -> io::Result<LobbyDoor<HostRuntime, HttpFraming>>
+        ensures same { self.new ≡ self.old }
+        ensures faults { IfOk result (λ door. door.faults ≡ 0) }
+        ensures none_out { IfOk result (λ door. door.is_out ≡ false) }
+    {
+        let (listener, balance) = self.share_at(address)?;
+        let framing = HttpFraming::new(self.rt.alloc())?;
+        LobbyDoor::new(
+            &self.rt,
+            self.rt.alloc(),
+            self.rt,
+            listener,
+            balance,
+            framing,
+        )
+    }
+
+    /// The store of a keeper, where it was opened; what wasn't is counted, but for want of memory.
+    fn store(&mut self, opened: Result<FileKeeper, NoKeeper>) -> Result<StoreFile, NoDevice>
+        requires { IfOk opened (λ keeper. keeper.1 ≡ 0) }
+        ensures unused { IfOk result (λ store. store ≡ 0) }
+        ensures steady { IfOk result (λ _. self.new ≡ self.old) }
+        ensures cause { IfErr result (IsNoDevice (system_view self.old) (system_view self.new)) }
+    {
+        match opened {
+            Ok(keeper) => Ok(StoreFile::new(keeper)),
+            Err(NoKeeper::OutOfMemory) => Err(NoDevice::OutOfMemory),
+            Err(NoKeeper::Refused | NoKeeper::Shape(_)) => Err(self.fault()),
+        }
     }
 
     /// Counts a fault of the place.
@@ -108,13 +151,13 @@ impl SystemPlace {
 impl Place for SystemPlace {
     type In = Reading<Stdin>;
 
-    type Out = Writing<Stdout>;
+    type Out = Writing<BufWriter<Stdout>>;
 
     type Rows = Reading<File>;
 
     type Keeper = StoreFile;
 
-    type Door = TcpDoor<HostRuntime>;
+    type Door = LobbyDoor<HostRuntime, HttpFraming>;
 
     type Clock = SystemClock<HostRuntime>;
 
@@ -125,8 +168,14 @@ impl Place for SystemPlace {
     ghost sees = { system_view };
 
     fn rows(&mut self, path: &str) -> Result<Reading<File>, NoDevice> {
+        let Some(out) = self.rows_out.checked_add(1) else {
+            return Err(NoDevice::OutOfMemory);
+        };
         match File::open(&self.rt, path) {
-            Ok(file) => Ok(Reading::new(file)),
+            Ok(file) => {
+                self.rows_out = out;
+                Ok(Reading::new(file))
+            }
             Err(error) if error.kind() == ErrorKind::OutOfMemory => Err(NoDevice::OutOfMemory),
             Err(_) => Err(self.fault()),
         }
@@ -136,14 +185,17 @@ impl Place for SystemPlace {
         if rows.faults() > 0 {
             self.rows_faults = self.rows_faults.saturating_add(1);
         }
+        self.rows_out -= 1;
     }
 
     fn keeper(&mut self, path: &str) -> Result<StoreFile, NoDevice> {
-        match open_keeper(&self.rt, path) {
-            Ok(keeper) => Ok(StoreFile::new(keeper)),
-            Err(NoKeeper::OutOfMemory) => Err(NoDevice::OutOfMemory),
-            Err(NoKeeper::Failed) => Err(self.fault()),
-        }
+        let opened = open_keeper(&self.rt, path);
+        self.store(opened)
+    }
+
+    fn keeper_or_new(&mut self, path: &str) -> Result<StoreFile, NoDevice> {
+        let opened = open_or_make_keeper(&self.rt, path);
+        self.store(opened)
     }
 
     fn keeper_back(&mut self, keeper: StoreFile) {
@@ -153,24 +205,25 @@ impl Place for SystemPlace {
         drop(keeper);
     }
 
-    fn door(&mut self, address: &str) -> Result<TcpDoor<HostRuntime>, NoDevice> {
+    fn door(&mut self, address: &str) -> Result<LobbyDoor<HostRuntime, HttpFraming>, NoDevice> {
         let Some(out) = self.doors_out.checked_add(1) else {
             return Err(NoDevice::OutOfMemory);
         };
-        match self.listener_at(address) {
-            Ok(listener) => {
+        match self.door_at(address) {
+            Ok(door) => {
                 self.doors_out = out;
-                Ok(TcpDoor::new(self.rt, listener))
+                Ok(door)
             }
             Err(error) if error.kind() == ErrorKind::OutOfMemory => Err(NoDevice::OutOfMemory),
             Err(_) => Err(self.fault()),
         }
     }
 
-    fn door_back(&mut self, door: TcpDoor<HostRuntime>) {
+    fn door_back(&mut self, mut door: LobbyDoor<HostRuntime, HttpFraming>) {
         if door.faults() > 0 {
             self.door_faults = self.door_faults.saturating_add(1);
         }
+        door.finish();
         self.doors_out -= 1;
         if self.doors_out == 0 {
             self.listening = None;

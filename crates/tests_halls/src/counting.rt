@@ -2,42 +2,60 @@
 ghost use Rattle.std.specs.Prelude.{◌≡◌};
 
 use crate::site::site;
-use crate::work::Connection;
+use crate::work::{Connection, answered_by};
+use site_hall::Tally;
 use site_keeper::MemoryKeeper;
-use site_turn::{Guest, Pass, Site, Work};
+use site_turn::{Pass, Site};
 use std::alloc::{AllocError, Global};
 use std::sync::Wait;
 
-/// The first node twice; then all is to be made anew; and then the first node again.
+/// The first node twice; then all is to be made anew; and then the first node again. Each page is asked for with a cookie that names nobody,
+/// so that no reply is given again.
 const REQUESTS: &[u8] =
-    b"GET /node/1 HTTP/1.1\r\nHost: a\r\n\r\nGET /node/1 HTTP/1.1\r\nHost: a\r\n\r\nPOST /cache/rebuild HTTP/1.1\r\nHost: a\r\nCookie: SESS=abc\r\nX-CSRF-Token: ba7816bf8f01cfea414140de5dae2223\r\n\r\nGET /node/1 HTTP/1.1\r\nHost: a\r\n\r\n";
+    b"GET /node/1 HTTP/1.1\r\nHost: a\r\nCookie: SESS=nobody\r\n\r\nGET /node/1 HTTP/1.1\r\nHost: a\r\nCookie: SESS=nobody\r\n\r\nPOST /cache/rebuild HTTP/1.1\r\nHost: a\r\nCookie: SESS=abc\r\nX-CSRF-Token: ba7816bf8f01cfea414140de5dae2223\r\n\r\nGET /node/1 HTTP/1.1\r\nHost: a\r\nCookie: SESS=nobody\r\n\r\n";
 
-// A connection is answered by a pass of a site.
-fn answer<R: Wait>(
+// What the hall of a site counted, whose only pass this is.
+fn tally<R: Wait>(
     rt: &R,
     alloc: Global,
-    site: &Site<MemoryKeeper>,
-    pass: &mut Pass,
-    connection: &mut Connection,
-)
-    requires { pass.old.table ≡ site.now.table }
+    site: Site<MemoryKeeper>,
+    pass: Pass,
+) -> Result<Tally, AllocError>
+    requires { pass.table ≡ site.table }
 {
-    let mut guest = Guest::new(rt, site.room(), pass);
-    connection.work(rt, alloc, &mut guest);
+    let mut passes = Vec::new(alloc);
+    passes.push(pass)?;
+    match site.close(rt, passes) {
+        Ok(hall) => Ok(hall.tally()),
+        Err(_) => Err(AllocError),
+    }
 }
 
-// How many replies there are to the requests, on one connection of a new site's pass, and what is built for each.
-fn built<R: Wait>(rt: &R, alloc: Global) -> Result<(usize, [u64; 4]), AllocError> {
-    let mut connection = Connection::new(alloc, REQUESTS)?;
+// What the hall of a new site counted, once its only pass answered a connection.
+fn counted<R: Wait>(
+    rt: &R,
+    alloc: Global,
+    connection: &mut Connection,
+) -> Result<Tally, AllocError> {
     let mut site = site(alloc)?;
     let mut pass = site.new_pass();
-    answer(rt, alloc, &site, &mut pass, &mut connection);
-    Ok(connection.built())
+    answered_by(rt, alloc, &site, &mut pass, connection);
+    tally(rt, alloc, site, pass)
 }
 
-// The page and its node are built once, found again, and built again once all is to be made anew.
+// The page and its node are built once, found again, and built again once all is to be made anew. Of a page three things are kept, each
+// behind a redirect: the page of its target, that of its path, and the node. None of the three is found at first; then the first one is,
+// by its redirect; and at last all three, which aren't fresh, and are kept anew.
 #[test]
 fn what_one_pass_keeps_it_finds(rt: HostRuntime) {
-    let built = built(&rt, rt.alloc()).expect(&rt, "memory");
-    assert!(rt; built == (4, [2, 0, 0, 2]));
+    let alloc = rt.alloc();
+    let mut connection = Connection::new(alloc, REQUESTS).expect(&rt, "memory");
+    let tally = counted(&rt, alloc, &mut connection).expect(&rt, "memory");
+    assert!(rt; connection.built() == (4, [2, 0, 0, 2]));
+    let all = Tally {
+        looks: 3 + 2 + 6,
+        found: 2 + 6,
+        kept: 6 + 6,
+    };
+    assert!(rt; tally == all);
 }

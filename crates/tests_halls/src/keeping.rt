@@ -3,6 +3,7 @@ ghost use Rattle.std.specs.Prelude.{◌≡◌};
 
 use crate::closing::closed;
 use crate::site::{key, site};
+use crate::work::{Connection, answered_by};
 use cache_entries::{Bin, Found, Kept};
 use cacheability::OrderedSet;
 use site_hall::Tally;
@@ -63,8 +64,40 @@ fn is_shared<R: Wait>(rt: &R, alloc: Global) -> Result<bool, AllocError> {
     Ok(!before && after && tally == counted)
 }
 
+/// The first node, with a cookie that names nobody.
+const NODE: &[u8] = b"GET /node/1 HTTP/1.1\r\nHost: a\r\nCookie: SESS=nobody\r\n\r\n";
+
+// What the hall of a new site counted, once one pass answered a connection, and then another pass the other.
+fn counted<R: Wait>(
+    rt: &R,
+    alloc: Global,
+    first: &mut Connection,
+    second: &mut Connection,
+) -> Result<Tally, AllocError> {
+    let mut site = site(alloc)?;
+    let mut one = site.new_pass();
+    let mut two = site.new_pass();
+    answered_by(rt, alloc, &site, &mut one, first);
+    answered_by(rt, alloc, &site, &mut two, second);
+    Ok(closed(rt, alloc, site, one, two)?.tally())
+}
+
+// A redirect that one pass keeps the other finds; and so it is with a page, which the first builds, keeping its three parts behind
+// redirects, and the second finds whole, by one of these.
 #[test]
 fn what_is_kept_is_shared(rt: HostRuntime) {
-    let right = is_shared(&rt, rt.alloc()).expect(&rt, "memory");
+    let alloc = rt.alloc();
+    let right = is_shared(&rt, alloc).expect(&rt, "memory");
     assert!(rt; right);
+    let mut first = Connection::new(alloc, NODE).expect(&rt, "memory");
+    let mut second = Connection::new(alloc, NODE).expect(&rt, "memory");
+    let tally = counted(&rt, alloc, &mut first, &mut second).expect(&rt, "memory");
+    assert!(rt; first.built() == (1, [2, 0, 0, 0]));
+    assert!(rt; second.built() == (1, [0, 0, 0, 0]));
+    let both = Tally {
+        looks: 3 + 2,
+        found: 2,
+        kept: 6,
+    };
+    assert!(rt; tally == both);
 }

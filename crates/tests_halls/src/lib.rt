@@ -11,6 +11,8 @@ mod counting;
 #[cfg(test)]
 mod keeping;
 #[cfg(test)]
+mod pieces;
+#[cfg(test)]
 mod rooms;
 #[cfg(test)]
 mod site;

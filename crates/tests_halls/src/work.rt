@@ -1,14 +1,15 @@
 //! Connections in memory that workers answer.
-ghost use Rattle.std.specs.Prelude.{None};
+ghost use Rattle.std.specs.Prelude.{◌≡◌, None};
 
 use site_house::House;
 use site_http::serve_connection;
 use site_io::{Gate, ListClock, ListEntropy, MemorySink, MemorySource, Point};
-use site_turn::Work;
+use site_keeper::MemoryKeeper;
+use site_turn::{Guest, Pass, Site, Work};
 use std::alloc::{AllocError, Global};
-use std::sync::Arc;
 use std::sync::atomic::AtomicBool;
 use std::sync::atomic::Ordering::SeqCst;
+use std::sync::{Arc, Wait};
 use std::thread;
 
 /// A mark that one thread sets and another waits for.
@@ -63,7 +64,7 @@ impl Gate for Hold {
             wait_for(&until);
         }
         match point {
-            Point::AfterSnapshot => {}
+            Point::AfterSnapshot | Point::BeforePart => {}
             Point::BeforeReply(built) => self.note(built),
         }
     }
@@ -116,6 +117,21 @@ impl Connection {
     pub fn built(&self) -> (usize, [u64; 4]) {
         (self.gate.replies, self.gate.built)
     }
+}
+
+/// A connection is answered by a pass of a site.
+pub fn answered_by<R: Wait>(
+    rt: &R,
+    alloc: Global,
+    site: &Site<MemoryKeeper>,
+    pass: &mut Pass,
+    connection: &mut Connection,
+)
+    requires { pass.old.table ≡ site.now.table }
+    ensures { pass.new.table ≡ site.now.table }
+{
+    let mut guest = Guest::new(rt, site.room(), pass);
+    connection.work(rt, alloc, &mut guest);
 }
 
 impl<R> Work<R> for Connection {

@@ -262,27 +262,16 @@ fn writers_that_fail(rt: HostRuntime) {
             Fails(ErrorKind::ConnectionReset),
             Moves(0),
             Moves(9),
-            Moves(9),
         ],
-        flushes: &[
-            Moves(0),
-            Fails(ErrorKind::Interrupted),
-            Fails(ErrorKind::StorageFull),
-            Fails(ErrorKind::StorageFull),
-            Moves(0),
-            Fails(ErrorKind::StorageFull),
-            Moves(0),
-        ],
+        flushes: &[],
     });
     // what is written, the answer, and the faults after it
-    let calls: [(&[u8], Result<usize, Failed>, u64); 7] = [
+    let calls: [(&[u8], Result<usize, Failed>, u64); 5] = [
         (b"abc", Ok(2), 0),
         (b"c", Ok(1), 0),
         (b"de", Err(Failed), 1),
         (b"de", Err(Failed), 2),
-        (b"de", Err(Failed), 3),
-        (b"de", Ok(2), 3),
-        (b"f", Ok(1), 3),
+        (b"de", Ok(2), 2),
     ];
     for (piece, answer, faults) in calls {
         assert!(rt; sink.write(piece) == answer);
@@ -291,15 +280,20 @@ fn writers_that_fail(rt: HostRuntime) {
 }
 
 #[test]
-fn flushes_that_are_owed(rt: HostRuntime) {
+fn flushes_that_fail(rt: HostRuntime) {
     let mut sink = Writing::new(Scripted {
         moves: &[Moves(9)],
-        flushes: &[Fails(ErrorKind::StorageFull), Fails(ErrorKind::StorageFull)],
+        flushes: &[
+            Fails(ErrorKind::StorageFull),
+            Fails(ErrorKind::Interrupted),
+            Moves(0),
+            Moves(0),
+        ],
     });
     assert!(rt; write_whole(&mut sink, b"abc") == Ok(()));
     let calls: [(Result<(), Failed>, u64); 3] = [(Err(Failed), 1), (Ok(()), 1), (Ok(()), 1)];
     for (answer, faults) in calls {
-        assert!(rt; sink.settle() == answer);
+        assert!(rt; sink.flush() == answer);
         assert!(rt; sink.faults() == faults);
     }
 }

@@ -1,5 +1,5 @@
 //! Tests of what comes in and goes out, by public calls alone: requests and heads of replies, which edit a request asks for and the
-//! replies to edits, devices, doors in memory and over TCP, and pieces of pages.
+//! replies to edits, devices, doors in memory, and pieces of pages.
 #![tactic(auto)]
 
 #[cfg(test)]
@@ -16,5 +16,3 @@ mod paths;
 mod refused;
 #[cfg(test)]
 mod requests;
-#[cfg(test)]
-mod tcp;

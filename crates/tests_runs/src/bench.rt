@@ -33,6 +33,7 @@ fn is_setting(word: &[u8]) -> bool {
             | b"piece"
             | b"reads"
             | b"room"
+            | b"takes"
             | b"writes"
     )
 }

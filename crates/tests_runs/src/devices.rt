@@ -32,9 +32,14 @@ pub fn source(alloc: Global, set: &[Section], input: &[u8]) -> Result<MemorySour
     Ok(MemorySource::new(Vec::from_slice(alloc, input)?, piece).failing_at(failing))
 }
 
-/// Where to is written, with room for 400,000 bytes where nothing else is set.
+/// Where to is written, with room for 400,000 bytes where nothing else is set, which takes each piece whole where nothing else is.
 pub fn sink(alloc: Global, set: &[Section]) -> Result<MemorySink, AllocError> {
     let failing = numbers(alloc, rest_of(set, b"writes"))?;
     let room = number_of(set, b"room", 400_000);
-    Ok(MemorySink::new(alloc, room)?.failing_at(failing))
+    let most = number_of(set, b"takes", u64::MAX);
+    Ok(
+        MemorySink::new(alloc, room)?
+            .failing_at(failing)
+            .taking(most),
+    )
 }

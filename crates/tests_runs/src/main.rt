@@ -1,5 +1,5 @@
 //! Tests of whole runs of the program, by cases in files: each is run by public calls alone and compared with what its file
-//! says. docs/TESTS.md has the format.
+//! says. docs/verification/TESTS.md has the format.
 #![tactic(auto)]
 
 mod bench;

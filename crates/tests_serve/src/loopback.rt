@@ -5,7 +5,7 @@ use site_files::STARTER;
 use site_io::{MemorySink, MemorySource, Reading, Writing};
 use site_jobs::{JobEnd, export_rows, import_rows};
 use std::alloc::{AllocError, Global};
-use std::io::{Read, Write};
+use std::io::{BufWriter, Read, Write};
 use std::net::{SocketAddr, TcpListener, TcpStream};
 use std::{fs, io, thread};
 
@@ -30,7 +30,7 @@ fn is_filled(alloc: Global, place: &mut SystemPlace) -> Result<bool, AllocError>
     rows.extend_from_slice(SESSION)?;
     let mut source = MemorySource::new(rows, 4_096);
     let mut sink = MemorySink::new(alloc, 1_000)?;
-    let Ok(mut keeper) = place.keeper(STORE) else {
+    let Ok(mut keeper) = place.keeper_or_new(STORE) else {
         return Ok(false);
     };
     let end = import_rows(alloc, &mut keeper, &mut source, &mut sink);
@@ -58,14 +58,15 @@ fn words(alloc: Global, address: SocketAddr) -> Result<Vec<String>, AllocError> 
     Ok(words)
 }
 
-// The reply to the edit at an address, once somebody listens there.
+// The reply to the edit at an address, once somebody listens there, beside a client that says nothing.
 fn edited(rt: &HostRuntime, address: SocketAddr) -> io::Result<Vec<u8>> {
     let mut reply = Vec::new(rt.alloc());
     for _ in 0..10_000_000u32 {
-        let Ok(mut peer) = TcpStream::connect(rt, address) else {
+        let Ok(_idle) = TcpStream::connect(rt, address) else {
             thread::yield_now();
             continue;
         };
+        let mut peer = TcpStream::connect(rt, address)?;
         peer.write_all(TITLE)?;
         peer.read_to_end(&mut reply)?;
         return Ok(reply);
@@ -107,7 +108,8 @@ fn one_connection_edits_a_store(rt: HostRuntime) {
     let words = ready(&rt, address, &mut place).expect(&rt, "memory");
     let words = words.expect(&rt, "a store");
     let mut input = Reading::new(rt.stdin());
-    let mut output = Writing::new(rt.stdout());
+    let writer = BufWriter::new(rt.alloc(), rt.stdout()).expect(&rt, "memory");
+    let mut output = Writing::new(writer);
     let serve = || run_system(&rt, rt.alloc(), &words, &mut place, &mut input, &mut output);
     let (reply, status) = thread::join(&rt, || edited(&rt, address), serve);
     let kept = match reply {

@@ -2,6 +2,7 @@ use Rattle.std.proofs.Common.{◌∙◌, List, ℕ, sym, refl, subst, arith}
 use Rattle.site_house.proofs.Moving.{moves_same, moves_on}
 use Rattle.site_house.specs.History.{newest}
 use Rattle.site_house.specs.House.{history_of}
+use Rattle.site_http.specs.Kept.{shelves_of}
 use Rattle.site_http.specs.Connection.{Around, CountsReads, CountsWrites}
 use Rattle.site_io.proofs.Turns.{turn_same, turn_more}
 use Rattle.site_http.proofs.Progress.{Progress, begun, spent_at}
@@ -14,7 +15,7 @@ returns-in-Some-clause-moves g c = moves_on c.requests.invariant.moves c.in-Some
 pub requests-init : goal.requests-init
 requests-init g c =
     let house = g.H.House.sees c.args.house.now in
-    let old : Around = record { left = g.S.Source.left c.args.source.now; out = record { given = g.C.Clock.given c.args.clock.now; words = g.E.Entropy.given c.args.entropy.now; points = g.G.Gate.reached c.args.gate.now; written = g.O.Sink.written c.args.sink.now; handed = house.handed; keepers = house.keepers } } in
+    let old : Around = record { left = g.S.Source.left c.args.source.now; out = record { given = g.C.Clock.given c.args.clock.now; words = g.E.Entropy.given c.args.entropy.now; points = g.G.Gate.reached c.args.gate.now; written = g.O.Sink.written c.args.sink.now; handed = house.handed; keepers = house.keepers; kept = shelves_of house } } in
     record {
       moves = moves_same house;
       progress = subst (λ (b : List ℕ). Progress old old (history_of house) 1000 (newest (history_of house)) 0 (newest (history_of house)) b) (sym c.clear.ensures) (begun old (history_of house) 1000);
@@ -28,7 +29,7 @@ requests-init g c =
 pub returns-in-Some-clause-connection : goal.returns-in-Some-clause-connection
 returns-in-Some-clause-connection g c =
     let house = g.H.House.sees c.turn.new.house in
-    ended_in (record { left = g.S.Source.left c.turn.new.source; out = record { given = g.C.Clock.given c.turn.new.clock; words = g.E.Entropy.given c.turn.new.entropy; points = g.G.Gate.reached c.turn.new.gate; written = g.O.Sink.written c.turn.new.sink; handed = house.handed; keepers = house.keepers } }) {house = g.H.House.sees c.requests.house} {house' = house} c.turn.new.inbox c.in-Some.ended (omega arith) c.in-Some.ensures.moves c.requests.invariant.progress c.in-Some.ensures.turned
+    ended_in (record { left = g.S.Source.left c.turn.new.source; out = record { given = g.C.Clock.given c.turn.new.clock; words = g.E.Entropy.given c.turn.new.entropy; points = g.G.Gate.reached c.turn.new.gate; written = g.O.Sink.written c.turn.new.sink; handed = house.handed; keepers = house.keepers; kept = shelves_of house } }) {house = g.H.House.sees c.requests.house} {house' = house} c.turn.new.inbox c.in-Some.ended (omega arith) c.in-Some.ensures.moves c.requests.invariant.progress c.in-Some.ensures.turned
 
 pub returns-in-Some-clause-reads : goal.returns-in-Some-clause-reads
 returns-in-Some-clause-reads g c =

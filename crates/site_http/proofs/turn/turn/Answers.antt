@@ -1,6 +1,8 @@
 use Rattle.std.proofs.Common.{rules, inl, inr, refl, sym}
 use Rattle.std.proofs.lemmas.List.{append-nil}
 use Rattle.site_http.proofs.Asks.{are_asks}
+use Rattle.site_http.specs.Kept.{shelves_of}
+use Rattle.site_http.proofs.Kept.{keeps_nothing}
 use Rattle.site_http.proofs.Told.{after_nothing, points_nothing}
 use Rattle.site_http.proofs.turn.turn.Goals as goal
 
@@ -18,6 +20,7 @@ returns-in-Err-clause-turned g c =
         sink = f.told;
         house = sym (append-nil (g.H.House.sees c.args.house.now).handed);
         failures = refl {a = (g.H.House.sees c.args.house.now).keepers};
+        kept = keeps_nothing (shelves_of (g.H.House.sees c.args.house.now)) (shelves_of (g.H.House.sees c.args.house.now)) refl;
       };
     })
 

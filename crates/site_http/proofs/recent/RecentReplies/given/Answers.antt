@@ -1,11 +1,11 @@
-use Rattle.std.proofs.Common.{sym, subst, IfSome}
-use Rattle.site_http.specs.Recent.{IsRecent, IsReplyUntil}
-use Rattle.site_http.proofs.Again.{made_recent}
+use Rattle.std.proofs.Common.{subst, IfSome}
+use Rattle.site_http.specs.declared.recent.Given.{Given}
+use Rattle.site_http.specs.Recent.{given_bytes, IsReplyUntil}
 use Rattle.site_http.proofs.recent.RecentReplies.given.Goals as goal
 
-pub returns-in-Ok-new-clause-recent : goal.returns-in-Ok-new-clause-recent
-returns-in-Ok-new-clause-recent c house state seen number right until are =
-    c.remember.ensures house are
-    (subst (IsRecent house) (sym c.in-Ok-new.ensures.ok)
-    (made_recent house state _ c.args.ask.now seen number right c.in-Ok.ensures
-    (subst (λ o. IfSome o (λ l. IsReplyUntil state c.args.ask.now c.args.now l c.args.text.items)) c.in-Some.is until)))
+pub returns-in-Page-clause-recent : goal.returns-in-Page-clause-recent
+returns-in-Page-clause-recent c house state seen number right until are =
+    c.shared.ensures.recent house state seen number right
+    (subst (λ (g : Given). IsReplyUntil state c.args.ask.now c.args.now c.in-Some.until (given_bytes g)) c.in-Page.is
+    (subst (λ o. IfSome o (λ l. IsReplyUntil state c.args.ask.now c.args.now l (given_bytes c.args.given))) c.in-Some.is until))
+    are

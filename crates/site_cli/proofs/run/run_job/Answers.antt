@@ -2,7 +2,7 @@ use Rattle.std.proofs.Common.{map}
 use Rattle.std.specs.String.{string_bytes}
 use Rattle.site_cli.specs.Words.{asked}
 use Rattle.site_cli.proofs.Loading.{starved}
-use Rattle.site_cli.proofs.run.run_site.Goals as goal
+use Rattle.site_cli.proofs.run.run_job.Goals as goal
 
 pub returns-in-Err-OutOfMemory-clause-runs : goal.returns-in-Err-OutOfMemory-clause-runs
 returns-in-Err-OutOfMemory-clause-runs g c =

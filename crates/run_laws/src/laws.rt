@@ -1,0 +1,14 @@
+//! Completeness.
+ghost use Rattle.run_laws.specs.Complete.{ConnectionsComplete, WorkersComplete};
+
+/// The law that a connection whose input is known ends as the requests of its input do, with a reply to each of them, where
+/// neither reading nor writing failed; or memory was wanting.
+pub fn connections_complete()
+    ensures { ConnectionsComplete }
+{}
+
+/// The same of each connection that a worker serves: it is given back with the end of its requests, with a reply to each of
+/// them, where neither of its two ends failed; or memory was wanting.
+pub fn workers_complete()
+    ensures { WorkersComplete }
+{}
