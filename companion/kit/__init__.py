@@ -1,0 +1,1 @@
+"""What `sitekit` is made of: a companion for the people who run and write a site."""

@@ -1,0 +1,213 @@
+"""What the tests have in common: the command, the program, served sites, and a crawl."""
+
+from __future__ import annotations
+
+import contextlib
+import http.client
+import os
+import re
+import shutil
+import signal
+import socket
+import subprocess
+import sys
+import tempfile
+import time
+import unittest
+from pathlib import Path
+from typing import Any, Callable, Iterator, Optional, Sequence
+
+COMPANION = Path(__file__).resolve().parents[1]
+REPOSITORY = COMPANION.parent
+SITEKIT = COMPANION / "sitekit"
+SAMPLES = REPOSITORY / "samples"
+sys.path.insert(0, str(COMPANION))
+
+from kit import program  # noqa: E402
+from kit.trouble import Trouble  # noqa: E402
+
+MOMENT = "1780000000"
+
+
+def site() -> str:
+    """The program. Without it nothing is tested."""
+    try:
+        return program.found()
+    except Trouble as trouble:
+        raise SystemExit(str(trouble)) from trouble
+
+
+def needs(*words: str) -> Callable[[Any], Any]:
+    """Skips a test where a program of another package isn't there."""
+    missing = [word for word in words if not shutil.which(word, path=os.environ.get("PATH", "") + ":/usr/sbin:/sbin")]
+    return unittest.skipIf(bool(missing), f"there is no {', '.join(missing)}")
+
+
+NGINX = """\
+daemon off; worker_processes 1; pid {room}/nginx.pid; error_log {room}/error.log;
+events {{ worker_connections 64; }}
+http {{
+    access_log off;
+    client_body_temp_path {room}/1; proxy_temp_path {room}/2; fastcgi_temp_path {room}/3; uwsgi_temp_path {room}/4; scgi_temp_path {room}/5;
+    {http}
+    server {{
+        listen 127.0.0.1:{port};
+        {server}
+    }}
+}}
+"""
+
+
+class Case(unittest.TestCase):
+    """A test with a folder of its own, in which it runs `sitekit` and `site`."""
+
+    def setUp(self) -> None:
+        room = tempfile.TemporaryDirectory(prefix="sitekit-test-")
+        self.addCleanup(room.cleanup)
+        self.room = Path(room.name)
+        self.environment = {
+            **os.environ,
+            "PATH": os.environ.get("PATH", "") + ":/usr/sbin:/sbin",
+            "SITE_PROGRAM": site(),
+            "SOURCE_DATE_EPOCH": MOMENT,
+            "XDG_STATE_HOME": str(self.room / "state"),
+        }
+
+    def path(self, name: str) -> str:
+        """A file of the test's folder."""
+        return str(self.room / name)
+
+    def write(self, name: str, text: str | bytes) -> str:
+        """Writes a file, and gives its name."""
+        path = self.room / name
+        path.parent.mkdir(parents=True, exist_ok=True)
+        path.write_bytes(text if isinstance(text, bytes) else text.encode())
+        return str(path)
+
+    def run_kit(self, *words: str, status: int = 0, given: str = "") -> subprocess.CompletedProcess[str]:
+        """Runs `sitekit`, whose status has to be the one that is said."""
+        done = subprocess.run(
+            [sys.executable, str(SITEKIT), *words], input=given, capture_output=True, text=True, cwd=self.room,
+            env=self.environment, timeout=60,
+        )  # fmt: skip
+        self.assertEqual(done.returncode, status, f"sitekit {' '.join(words)}\n{done.stdout}\n{done.stderr}")
+        return done
+
+    def run_site(self, *words: str, given: bytes = b"", status: int = 0) -> str:
+        """Runs the program, whose status has to be the one that is said."""
+        done = subprocess.run([site(), *words], input=given, capture_output=True, timeout=60)
+        self.assertEqual(done.returncode, status, f"site {' '.join(words)}\n{done.stdout[:500]!r}")
+        return done.stdout.decode()
+
+    def imported(self, rows: str, store: str = "site.db") -> str:
+        """A store with the rows of a file."""
+        self.run_site("import", "--store", self.path(store), given=Path(rows).read_bytes())
+        return self.path(store)
+
+    def new_site(self, *words: str, name: str = "A Club") -> str:
+        """The rows of a new site, whose user 1 has the password `oar`."""
+        self.write("password", "oar\n")
+        self.run_kit("new", "--name", name, "--password-file", self.path("password"), "-o", self.path("site.rows"), *words)
+        return self.path("site.rows")
+
+    @contextlib.contextmanager
+    def served(self, store: str, workers: int = 4) -> Iterator["Server"]:
+        """A served store, which is killed at the end."""
+        server = Server(store, workers)
+        self.environment["SITEKIT_AT"] = server.address
+        try:
+            yield server
+        finally:
+            server.stop()
+
+    @contextlib.contextmanager
+    def nginx(self, http: str, server: str) -> Iterator[int]:
+        """An nginx with these words in its blocks `http` and `server`; gives its port."""
+        port = free_port()
+        self.write("nginx.conf", NGINX.format(room=self.room, port=port, http=http, server=server))
+        words = ["nginx", "-p", str(self.room), "-e", self.path("error.log"), "-c", self.path("nginx.conf")]
+        with subprocess.Popen(words, stderr=subprocess.DEVNULL, env=self.environment) as process:
+            try:
+                wait_for(port)
+                yield port
+            finally:
+                process.terminate()
+
+    def log_in(self, name: str = "admin", password: str = "oar") -> None:
+        """Logs in at the served site."""
+        self.write("password", password + "\n")
+        self.run_kit("edit", "login", name, "--password-file", self.path("password"))
+
+
+def free_port() -> int:
+    """A port that nobody listens at."""
+    with socket.socket() as it:
+        it.bind(("127.0.0.1", 0))
+        return it.getsockname()[1]
+
+
+class Server:
+    """A served store on loopback."""
+
+    def __init__(self, store: str, workers: int = 4) -> None:
+        self.port = free_port()
+        self.address = f"http://127.0.0.1:{self.port}"
+        words = [site(), "serve", "--store", store, "--listen", f"127.0.0.1:{self.port}", "--workers", str(workers)]
+        self.process = subprocess.Popen(words, stdout=subprocess.PIPE)
+        assert self.process.stdout is not None
+        line = self.process.stdout.readline()
+        if not line.startswith(b"listening "):
+            raise AssertionError(f"the server said {line!r}")
+
+    @property
+    def pid(self) -> int:
+        return self.process.pid
+
+    def stop(self) -> None:
+        """Kills it, as one does."""
+        self.process.send_signal(signal.SIGKILL)
+        self.process.wait()
+        assert self.process.stdout is not None
+        self.process.stdout.close()
+
+    def get(self, path: str, cookie: Optional[str] = None) -> tuple[int, str]:
+        """The status and the page of a path."""
+        return get(self.port, path, cookie)
+
+
+def get(port: int, path: str, cookie: Optional[str] = None) -> tuple[int, str]:
+    """The status and the body of a path at a port of loopback."""
+    connection = http.client.HTTPConnection("127.0.0.1", port, timeout=20)
+    try:
+        connection.request("GET", path, headers={"Connection": "close", **({"Cookie": cookie} if cookie else {})})
+        reply = connection.getresponse()
+        return reply.status, reply.read().decode("utf-8", "replace")
+    finally:
+        connection.close()
+
+
+def crawl(port: int, start: str = "/", cookie: Optional[str] = None, extra: Sequence[str] = ()) -> dict[str, int]:
+    """The statuses of all that links lead to, from a page on, by their addresses."""
+    found: dict[str, int] = {}
+    left = [start, *extra]
+    while left:
+        target = left.pop()
+        if target in found:
+            continue
+        found[target], page = get(port, target, cookie)
+        base = target.split("?")[0]
+        for link in re.findall(r'href="([^"]*)"', page):
+            left.append(base + link if link.startswith("?") else link)
+    return found
+
+
+def wait_for(what: object, seconds: float = 10) -> None:
+    """Waits until a port takes connections."""
+    end = time.monotonic() + seconds
+    while time.monotonic() < end:
+        try:
+            socket.create_connection(("127.0.0.1", int(str(what))), 1).close()
+            return
+        except OSError:
+            time.sleep(0.02)
+    raise AssertionError(f"nobody listens at {what}")
