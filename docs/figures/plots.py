@@ -1,0 +1,79 @@
+#!/usr/bin/env python3
+"""Draws the plots over data/*.csv: page-instructions.svg, proof-seconds.svg, beside-nginx.svg."""
+import csv
+import math
+import os
+import sys
+
+sys.path.insert(0, os.path.dirname(os.path.realpath(__file__)))
+from drawing import COLOURS, HERE, INK, SOFT, Canvas  # noqa: E402
+
+BLUE, GREEN = COLOURS["blue"][1], COLOURS["green"][1]
+
+
+def table(name):
+    with open(f"{HERE}/data/{name}.csv", encoding="utf-8") as file:
+        return list(csv.DictReader(line for line in file if not line.startswith("#")))
+
+
+def steps(name, title, columns, ticks, unit):
+    """Columns over the steps of a history, on a logarithmic scale."""
+    rows, left, top, wide, high = table(name), 90, 56, 760, 300
+    canvas = Canvas(left + wide + 40, top + high + 130, title)
+    canvas.text(20, 28, title, size=14, bold=True)
+    low, most = math.log(ticks[0]), math.log(ticks[-1])
+    y_of = lambda value: top + high - (math.log(value) - low) / (most - low) * high
+    x_of = lambda at: left + (at + 0.5) * wide / len(rows)
+    for tick in ticks:
+        canvas.line(left, y_of(tick), left + wide, y_of(tick))
+        canvas.text(left - 8, y_of(tick) + 4, f"{tick:,}", size=11, anchor="end", colour=SOFT)
+    canvas.text(20, top - 8, unit, size=11, colour=SOFT)
+    for number, (column, label, colour) in enumerate(columns):
+        points = [(x_of(at), y_of(float(row[column])), float(row[column])) for at, row in enumerate(rows) if row[column]]
+        canvas.curve([(x, y) for x, y, _ in points], colour)
+        for at, (x, y, value) in enumerate(points):
+            canvas.dot(x, y, colour)
+            if at in (0, len(points) - 1):
+                canvas.text(x, y - 9 if number == 0 else y + 18, f"{value:,.4g}" if value < 1000 else f"{value:,.0f}", size=11, anchor="middle", colour=colour, bold=True)
+        canvas.line(left + wide - 210, 20 + number * 17, left + wide - 186, 20 + number * 17, colour, 2.4)
+        canvas.text(left + wide - 180, 24 + number * 17, label, size=12)
+    for at, row in enumerate(rows):
+        words, lines = row["step"].split(" "), [""]
+        for word in words:
+            if len(lines[-1]) + len(word) > wide / len(rows) / 6.4 and lines[-1]:
+                lines.append("")
+            lines[-1] += (" " if lines[-1] else "") + word
+        for place, line in enumerate(lines):
+            canvas.text(x_of(at), top + high + 20 + place * 14, line, size=10, anchor="middle", colour=SOFT)
+    canvas.save(name)
+
+
+def bars(name, title):
+    """One bar for each crate: seconds of its proof, and behind them those of its must-fail edits."""
+    rows = sorted(table(name), key=lambda row: -int(row["proof"]))
+    left, top, step, wide = 140, 56, 15, 640
+    most = max(int(row["proof"]) + int(row["edits"] or 0) for row in rows)
+    canvas = Canvas(left + wide + 60, top + step * len(rows) + 20, title)
+    canvas.text(20, 28, title, size=14, bold=True)
+    for number, (label, colour) in enumerate((("proof", BLUE), ("must-fail edits", COLOURS["amber"][1]))):
+        canvas.box(left + wide - 260 + number * 90, 18, 12, 12, radius=2)
+        canvas.parts[-1] = f'<rect x="{left + wide - 260 + number * 90}" y="18" width="12" height="12" fill="{colour}"/>'
+        canvas.text(left + wide - 243 + number * 90, 28, label, size=12)
+    for at, row in enumerate(rows):
+        y, proof, edits = top + at * step, int(row["proof"]), int(row["edits"] or 0)
+        canvas.text(left - 8, y + 9, row["crate"], size=10.5, anchor="end", colour=INK)
+        scale = wide / most
+        canvas.parts.append(f'<rect x="{left}" y="{y}" width="{proof * scale:.1f}" height="{step - 4}" fill="{BLUE}"/>')
+        canvas.parts.append(f'<rect x="{left + proof * scale:.1f}" y="{y}" width="{edits * scale:.1f}" height="{step - 4}" fill="{COLOURS["amber"][1]}" opacity="0.75"/>')
+        canvas.text(left + (proof + edits) * scale + 5, y + 9, f"{proof}" + (f" + {edits}" if edits else ""), size=10, colour=SOFT)
+    canvas.save(name)
+
+
+def main():
+    steps("page-instructions", "Instructions of one page of a new site", [("built", "rendered", BLUE), ("found", "given before", GREEN)], [1_000, 3_000, 10_000, 30_000, 100_000, 300_000], "instructions")
+    steps("beside-nginx", "Processor time a request, nginx = 1", [("publisher", "an article (4,433 bytes)", BLUE), ("town", "the login page (4,105 bytes)", GREEN)], [0.5, 1, 2, 5, 10, 20, 40], "times nginx's")
+    bars("proof-seconds", "Processor seconds of each crate")
+
+
+if __name__ == "__main__":
+    main()
