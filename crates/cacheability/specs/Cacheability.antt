@@ -17,6 +17,10 @@ always_same = record { tags = []; contexts = []; max_age = Permanent }
 abbrev pub merged : Cacheability → Cacheability → Cacheability
 merged a b = record { tags = union tag_cmp a.tags b.tags; contexts = union context_cmp a.contexts b.contexts; max_age = least a.max_age b.max_age }
 
+-- the tags of both and the contexts of both, and the age of the first
+abbrev pub joined : Cacheability → Cacheability → Cacheability
+joined a b = record { tags = union tag_cmp a.tags b.tags; contexts = union context_cmp a.contexts b.contexts; max_age = a.max_age }
+
 -- tags and contexts stand in the order of their texts, each once
 pub record IsInOrder (c : Cacheability) : Type 0 where
   pub tags : IsStrictlySortedBy tag_cmp c.tags

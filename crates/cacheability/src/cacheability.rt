@@ -9,7 +9,7 @@ ghost use Rattle.cacheability.specs.MaxAge.{least};
 
 use crate::context::Context;
 use crate::max_age::MaxAge;
-use crate::ordered_set::OrderedSet;
+use crate::ordered_set::{OrderedSet, take_in_both};
 use crate::tag::Tag;
 use std::alloc::{AllocError, Global};
 
@@ -29,6 +29,7 @@ pub struct Cacheability {
 impl Cacheability {
     ghost use Rattle.cacheability.specs.Cacheability.{
       always_same,
+      joined,
       merged,
       IsInOrder,
       MustPlacehold,
@@ -81,11 +82,48 @@ impl Cacheability {
         ensures ordered { OnOk result (IsInOrder self.new) }
         ensures err { OnErr result (self.new ≡ self.old) }
     {
+        self.join(alloc, other)?;
+        self.max_age = self.max_age.least(other.max_age);
+        Ok(())
+    }
+
+    /// Takes the other's tags and contexts in: where they stand if its tags are few beside these,
+    /// which asks for no memory most times, and else into new lists. Refused, all is as it was.
+    fn join(&mut self, alloc: Global, other: &Cacheability) -> Result<(), AllocError>
+        ensures ok { OnOk result (self.new ≡ joined self.old other.now) }
+        ensures ordered { OnOk result (IsInOrder self.new) }
+        ensures err { OnErr result (self.new ≡ self.old) }
+    {
+        if other.tags.is_few_beside(&self.tags) {
+            return self.join_in_place(other);
+        }
+        self.join_anew(alloc, other)
+    }
+
+    /// Puts the other's tags and contexts into the lists that stand. Refused, all is as it was.
+    fn join_in_place(&mut self, other: &Cacheability) -> Result<(), AllocError>
+        ensures ok { OnOk result (self.new ≡ joined self.old other.now) }
+        ensures ordered { OnOk result (IsInOrder self.new) }
+        ensures err { OnErr result (self.new ≡ self.old) }
+    {
+        take_in_both(
+            &mut self.tags,
+            &other.tags,
+            &mut self.contexts,
+            &other.contexts,
+        )
+    }
+
+    /// Makes new lists of these tags and contexts and the other's. Refused, all is as it was.
+    fn join_anew(&mut self, alloc: Global, other: &Cacheability) -> Result<(), AllocError>
+        ensures ok { OnOk result (self.new ≡ joined self.old other.now) }
+        ensures ordered { OnOk result (IsInOrder self.new) }
+        ensures err { OnErr result (self.new ≡ self.old) }
+    {
         let tags = self.tags.union(alloc, &other.tags)?;
         let contexts = self.contexts.union(alloc, &other.contexts)?;
         self.tags = tags;
         self.contexts = contexts;
-        self.max_age = self.max_age.least(other.max_age);
         Ok(())
     }
 

@@ -1,5 +1,7 @@
-//! The order of numbers by their texts in decimal, which are not written for it.
-ghost use Rattle.std.specs.Prelude.{◌≡◌, ◌<◌, ◌≤◌, ◌^◌, length, take};
+//! The order of numbers by their texts in decimal, and the sums of these texts' bytes: no text is
+//! written for either.
+ghost use Rattle.std.specs.Prelude.{◌≡◌, ◌<◌, ◌≤◌, ◌*◌, ◌^◌, length, take};
+ghost use Rattle.std.specs.List.{sum};
 ghost use Rattle.std.specs.Ordering.{nat_cmp};
 ghost use Rattle.std.specs.Cmp.Lexicographic.{slice_cmp};
 ghost use Rattle.cacheability.specs.Decimal.{decimal};
@@ -65,4 +67,18 @@ fn power_above(number: u32) -> u64
     } else {
         10_000_000_000
     }
+}
+
+/// The sum of the bytes of a number's text in decimal.
+pub fn digit_sum(number: u32) -> u32
+    ensures exact { result ≡ sum (decimal number) }
+    ensures small { result ≤ 10 * 57 }
+{
+    let mut total = 0;
+    let mut rest = number;
+    'digits: while rest >= 10 {
+        total += 48 + rest % 10;
+        rest /= 10;
+    }
+    total + 48 + rest
 }

@@ -5,6 +5,7 @@ ghost use Rattle.std.specs.Prelude.{
   ◌↔◌,
   ◌-◌,
   ◌++◌,
+  ◌*◌,
   ℕ,
   List,
   length,
@@ -16,6 +17,7 @@ ghost use Rattle.std.specs.Prelude.{
   nat_eq,
   refl,
 };
+ghost use Rattle.std.specs.List.{sum};
 ghost use Rattle.std.specs.Ordering.{nat_cmp};
 ghost use Rattle.std.specs.Cmp.{partial_equiv_from_equiv};
 ghost use Rattle.std.specs.Cmp.Lexicographic.{
@@ -88,6 +90,27 @@ impl Name {
     {
         &self.buf[..self.len as usize]
     }
+
+    /// The sum of the bytes of the name.
+    pub(crate) fn byte_sum(&self) -> u32
+        ensures exact { result ≡ sum self.now }
+        ensures small { result ≤ 64 * 255 }
+    {
+        sum_of(self.as_bytes())
+    }
+}
+
+/// The sum of at most 64 bytes.
+fn sum_of(bytes: &[u8]) -> u32
+    requires { length bytes.now ≤ 64 }
+    ensures exact { result ≡ sum bytes.now }
+    ensures small { result ≤ 64 * 255 }
+{
+    let mut total = 0;
+    'bytes: for byte in bytes {
+        total += u32::from(*byte);
+    }
+    total
 }
 
 /// Whether a byte may stand in a name.

@@ -1,12 +1,13 @@
 //! Cache tags.
 ghost use Rattle.std.specs.Prelude.{◌≡◌, ◌↔◌, IfOk, IsTrue, Some, nat_eq, refl};
+ghost use Rattle.std.specs.List.{sum};
 ghost use Rattle.std.specs.Ordering.{nat_cmp, on};
 ghost use Rattle.std.specs.Cmp.{partial_equiv_from_equiv};
 ghost use Rattle.std.specs.Cmp.Lexicographic.{pointwise, slice_cmp};
 ghost use Rattle.std.specs.Cmp.Rules.{comparing};
 ghost use Rattle.std.proofs.Common.{rules};
 
-use crate::decimal::order_of_decimals;
+use crate::decimal::{digit_sum, order_of_decimals};
 use crate::name::Name;
 use crate::written::Written;
 use std::alloc::{AllocError, Global};
@@ -56,6 +57,30 @@ impl Tag {
         ensures { IfOk result (λ text. text.items ≡ tag_text self.now) }
     {
         Vec::from_slice(alloc, self.written().as_slice())
+    }
+
+    /// The sum of the bytes of the tag's text, which is not written for it: the sum of what stands
+    /// before the name or the number, and the sum of that.
+    pub fn text_sum(&self) -> u32
+        ensures { result ≡ sum (tag_text self.now) }
+    {
+        match self {
+            Tag::Site => 1_848,
+            Tag::NodeType(name) => 1_652 + name.byte_sum(),
+            Tag::Role(name) => 1_661 + name.byte_sum(),
+            Tag::User(number) => 505 + digit_sum(*number),
+            Tag::Term(number) => 1_488 + digit_sum(*number),
+            Tag::TermList => 1_969,
+            Tag::Node(number) => 480 + digit_sum(*number),
+            Tag::NodeList => 961,
+            Tag::NodeListOf(name) => 1_019 + name.byte_sum(),
+            Tag::Menu(name) => 1_894 + name.byte_sum(),
+            Tag::Listing(name) => 1_781 + name.byte_sum(),
+            Tag::Block(name) => 1_826 + name.byte_sum(),
+            Tag::BlockList => 1_750,
+            Tag::Rendered => 841,
+            Tag::NotFound => 1_216,
+        }
     }
 
     /// Whether two tags are the same. They are exactly where their texts are.

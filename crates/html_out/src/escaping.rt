@@ -1,5 +1,21 @@
 //! Escaped text.
-ghost use Rattle.std.specs.Prelude.{◌≡◌, ◌++◌, ℕ, List, OnOk, OnErr, true, length, take};
+ghost use Rattle.std.specs.Prelude.{
+  ◌≡◌,
+  ◌++◌,
+  ◌∷◌,
+  ◌<◌,
+  ◌≤◌,
+  [],
+  ℕ,
+  List,
+  IsTrue,
+  IfOk,
+  OnOk,
+  OnErr,
+  true,
+  length,
+  take,
+};
 ghost use Rattle.std.specs.List.{list_all};
 ghost use Rattle.html_out.specs.Escape.{escaped_byte, escaped, is_inert};
 
@@ -29,15 +45,56 @@ pub fn escaped_is_inert()
 {}
 
 // Adds the escaped text, or for want of memory some of it.
-#[tactic(auto, unfolding(crate::specs::Escape::escaped), using(crate::proofs::Front::front_of_more))]
+#[tactic(auto, using(crate::proofs::Front::front_of_more))]
 fn add_escaped(out: &mut Vec<u8>, text: &[u8]) -> Result<(), AllocError>
     ensures ok { OnOk result (out.new.items ≡ out.old.items ++ escaped text.now) }
     ensures err { OnErr result (take (length out.old.items) out.new.items ≡ out.old.items) }
 {
-    for byte in text {
-        add_escaped_byte(out, *byte)?;
+    // as much room as plain text needs, at once
+    out.reserve(text.len())?;
+    let mut done = 0;
+    'runs: while done < text.len() {
+        done += add_run(out, &text[done..])?;
     }
     Ok(())
+}
+
+// Adds the plain bytes at the front of a text and what stands for the byte behind them, or for want of memory some of
+// it. Says how many bytes of the text that were.
+#[tactic(auto, using(crate::proofs::Front::front_of_more))]
+fn add_run(out: &mut Vec<u8>, text: &[u8]) -> Result<usize, AllocError>
+    requires { 0 < length text.now }
+    ensures ok { IfOk result (λ n. out.new.items ≡ out.old.items ++ escaped (take n text.now)) }
+    ensures some { IfOk result (λ n. 0 < n) }
+    ensures within { IfOk result (λ n. n ≤ length text.now) }
+    ensures err { OnErr result (take (length out.old.items) out.new.items ≡ out.old.items) }
+{
+    let plain = plain_front(text);
+    out.extend_from_slice(&text[..plain])?;
+    if plain == text.len() {
+        return Ok(plain);
+    }
+    add_escaped_byte(out, text[plain])?;
+    Ok(plain + 1)
+}
+
+// How many bytes at the front of a text stand for themselves.
+fn plain_front(text: &[u8]) -> usize
+    ensures within { result ≤ length text.now }
+    ensures plain { escaped (take result text.now) ≡ take result text.now }
+{
+    let mut n = 0;
+    'bytes: while n < text.len() && is_plain(text[n]) {
+        n += 1;
+    }
+    n
+}
+
+// Whether a byte stands for itself.
+fn is_plain(byte: u8) -> bool
+    ensures { IsTrue result → (escaped_byte byte ≡ byte ∷ []) }
+{
+    !matches!(byte, b'&' | b'<' | b'>' | b'"' | b'\'')
 }
 
 // Adds what stands for a byte.
