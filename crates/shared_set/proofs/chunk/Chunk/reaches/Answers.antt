@@ -1,0 +1,19 @@
+use Rattle.std.proofs.Common.{rules, ◌∙◌, ◌≡◌, ◌≤◌, ◌-◌, ap, sym, subst, get_or, length}
+use Rattle.std.specs.Prelude.{not}
+use Rattle.std.specs.Ordering.{is_gt}
+use Rattle.std.specs.List.Sorted.{IsStrictlySortedBy}
+use Rattle.shared_set.specs.Keys.{reaches}
+use Rattle.shared_set.proofs.Ends.{reaches_by_last, from_on}
+use Rattle.shared_set.proofs.chunk.Chunk.reaches.Goals as goal
+
+pub returns-in-Some : goal.returns-in-Some
+returns-in-Some g c =
+    let R = g.K.Ord.cmp in
+    let k = c.args.key.now in
+    let xs = c.deref-2.result.now in
+    let l = c.in-Some.last.now in
+    let some : 1 ≤ length xs = search rules in
+    let at : l ≡ get_or xs (length xs - 1) l = search rules in
+    let own : xs ≡ c.args.self.now = search rules in
+    let sorted : IsStrictlySortedBy R xs = subst (IsStrictlySortedBy R) (sym c.deref-2.ensures.value) (subst (λ v. IsStrictlySortedBy R v.items) (sym c.deref.ensures) c.self.invariant) in
+    ap not (c.is_gt.ensures ∙ ap is_gt c.cmp.ensures) ∙ reaches_by_last R k (from_on g.met.K.Ord.total k) l xs sorted some at ∙ ap (reaches R k) own
