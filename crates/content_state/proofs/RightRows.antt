@@ -10,7 +10,7 @@ use Rattle.content_rows.specs.declared.row.Row.{Row}
 abbrev pub AllRight : List (Cell × Row) → Type 0
 AllRight rows = All (λ (e : Cell × Row). IsValidRow e.0 e.1) rows
 
-abbrev One : Cell × Row → Type 0
+abbrev pub One : Cell × Row → Type 0
 One e = IsValidRow e.0 e.1
 
 pub none_left : (rows : List (Cell × Row)) → rows ≡ [] → AllRight rows

@@ -15,3 +15,10 @@ pub mod Replay
 pub mod SiteRules
 pub mod FirstFault
 pub mod Seen
+pub mod Having
+pub mod TextKeys
+pub mod Indexes
+pub mod FoundTexts
+pub mod Ranked
+pub mod TextLaws
+pub mod Cells

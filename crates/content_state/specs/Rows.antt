@@ -22,10 +22,15 @@ use Rattle.content_rows.specs.declared.row.Block.{Block}
 use Rattle.content_rows.specs.declared.row.Session.{Session}
 use Rattle.content_rows.specs.CellOrder.{cell_cmp}
 
--- what a pair of references shows, and what an iterator of rows has left
+-- what a pair of references shows
 abbrev pub entry_of : Bor Cell × Bor Row → Cell × Row
 entry_of e = (e.0.now, e.1.now)
 
+-- what a cell and a reference to its row show
+abbrev pub shown : Cell × Bor Row → Cell × Row
+shown e = (e.0, e.1.now)
+
+-- what an iterator of rows has left
 abbrev pub entries_left : List (Cell × Row) → List (Cell × Row)
 entries_left rows = rows
 

@@ -1,8 +1,6 @@
 //! Where a path leads.
 ghost use Rattle.std.specs.Prelude.{◌≡◌, ◌≢◌, IfOk};
-ghost use Rattle.std.specs.List.{find};
-ghost use Rattle.std.specs.Option.{option_copied, option_map};
-ghost use Rattle.content_state.specs.Rows.{entry_of};
+ghost use Rattle.std.specs.Option.{option_copied};
 ghost use Rattle.content_state.specs.Forms.{led_by, tags_by};
 ghost use Rattle.content_state.specs.Route.{
   meant,
@@ -15,14 +13,13 @@ ghost use Rattle.content_state.specs.Route.{
   route_of,
   path_tags,
 };
-ghost use Rattle.content_state.specs.SiteRules.{is_text, text_of};
 ghost use Rattle.content_state.specs.There.{IsThere};
 
 use crate::forms::Named;
-use crate::site_rules::{Unique, text_of};
+use crate::site_rules::Unique;
 use crate::state::State;
 use cacheability::{Name, Tag};
-use content_rows::{Cell, Items, Row};
+use content_rows::{Cell, Items};
 use std::alloc::{AllocError, Global};
 
 /// What a path leads to.
@@ -148,26 +145,9 @@ fn cell_route(state: &State, cell: Option<&Cell>) -> Route
 fn cell_with<'a>(state: &'a State, path: &[u8]) -> Option<&'a Cell>
     ensures { option_copied result ≡ cell_with state.now.rows path.now }
 {
-    match entry_with(state, path) {
+    match state.rows_with(Unique::Path, path).next() {
         Some((cell, _)) => Some(cell),
         None => None,
-    }
-}
-
-/// The first row that has this path, with its cell.
-fn entry_with<'a>(state: &'a State, path: &[u8]) -> Option<(&'a Cell, &'a Row)>
-    ensures { option_map entry_of result ≡ find (λ e. is_text path.now (text_of Unique.Path e.1)) state.now.rows }
-{
-    state.rows().iter().find(|entry| has_path(entry.1, path))
-}
-
-/// Whether a row has this path of its own.
-fn has_path(row: &Row, path: &[u8]) -> bool
-    ensures { result ≡ is_text path.now (text_of Unique.Path row.now) }
-{
-    match text_of(Unique::Path, row) {
-        Some(own) => own.as_slice() == path,
-        None => false,
     }
 }
 

@@ -1,19 +1,20 @@
 //! The rows of a state.
-ghost use Rattle.std.specs.Prelude.{◌≡◌, [], Some, None, IfOk, IfErr, OnOk, OnErr, codes, length};
+ghost use Rattle.std.specs.Prelude.{◌≡◌, ◌≤◌, ◌+◌, ◌++◌, ◌∷◌, ◌↔◌, [], Some, None, IsTrue, IsPermutation, IfOk, IfErr, OnOk, OnErr, length, map};
 ghost use Rattle.std.specs.Option.{option_copied, option_map};
 ghost use Rattle.std.specs.Arc.{arc_value};
-ghost use Rattle.std.specs.Map.{keys_of};
-ghost use Rattle.std.specs.List.Sorted.{IsStrictlySortedBy};
 ghost use Rattle.std.specs.Iterator.{YieldsFirstBy, item_count};
-ghost use Rattle.content_state.specs.Rows.{entry_of, entries_left};
+ghost use Rattle.bucket_map.specs.Buckets.{bucket_size};
+ghost use Rattle.cell_keys.specs.Places.{cell_place};
+ghost use Rattle.content_state.specs.Rows.{entry_of, shown, entries_left};
 
-use cacheability::Name;
+use bucket_map::{Again, BucketMap, Steps, Walk};
+use cell_keys::CellKey;
 use content_rows::{Cell, Row};
 use std::alloc::{AllocError, AllocFailed, Global};
-use std::collections::BTreeMap;
-use std::collections::btree_map::Range;
 use std::marker::Model;
 use std::sync::Arc;
+use std::sync::ledger::Ledger;
+use std::vec::IntoIter;
 
 /// A row that several states may share, which contracts see as the row.
 struct Shared {
@@ -44,10 +45,8 @@ impl Shared {
     }
 }
 
-impl Clone for Shared {
-    ghost is_clone = { λ s t. t ≡ s };
-
-    fn clone(&self) -> Result<Shared, AllocError> {
+impl Again for Shared {
+    fn again(&self) -> Result<Shared, AllocError> {
         Ok(Shared {
             row: Arc::try_clone(&self.row)?,
         })
@@ -55,9 +54,9 @@ impl Clone for Shared {
 }
 
 /// The rows of a state: a finite map from cells to rows, which contracts see as the list of its pairs in cell order.
-/// Several states may share a row.
+/// Several states may share a row, and all rows of a bucket.
 pub struct Rows {
-    map: BTreeMap<Cell, Shared>,
+    map: BucketMap<CellKey, Shared>,
 }
 
 impl Drop for Rows {
@@ -73,13 +72,14 @@ impl Model for Rows {
 
     ghost Value = { List (CellValue × RowValue) };
 
-    ghost view = { λ r. r.map.entries };
+    ghost view = { λ r. r.map };
 }
 
-/// The cells that have a row, each with its row, in cell order. Contracts see it as the list of those that are left.
+/// The cells that have a row, each with its row, in an order that is not told. Contracts see it as the list of those that are
+/// left.
 #[derive(Drop)]
 pub struct RowsIter<'a> {
-    entries: Range<'a, Cell, Shared>,
+    entries: Walk<'a, CellKey, Shared>,
 }
 
 impl<'a> Model for RowsIter<'a> {
@@ -101,32 +101,52 @@ impl<'a> Iterator for RowsIter<'a> {
 
     fn next(&mut self) -> Option<(&'a Cell, &'a Row)> {
         match self.entries.next() {
-            Some((cell, shared)) => Some((cell, shared.row.as_ref())),
+            Some((key, shared)) => Some((&key.0, shared.row.as_ref())),
             None => None,
         }
     }
 }
 
-/// A name before which none of a session stands.
-fn least_name() -> Name
-    ensures { result ≡ codes "0" }
-{
-    match Name::new(b"0") {
-        Ok(name) => name,
-        Err(_) => unreachable!(),
+/// The cells that have a row, each with its row, in cell order. Contracts see it as the list of those that are left.
+#[derive(Drop)]
+pub struct RowsInOrder<'a> {
+    entries: IntoIter<(Cell, &'a Row)>,
+}
+
+impl<'a> Model for RowsInOrder<'a> {
+    ghost use Rattle.std.specs.Prelude.{List, map};
+    ghost use Rattle.std.specs.Vec.Iter.{into_iter_items};
+    ghost use Rattle.content_rows.specs.declared.cell.Cell.{Cell as CellValue};
+    ghost use Rattle.content_rows.specs.declared.row.Row.{Row as RowValue};
+    ghost use Rattle.content_state.specs.Rows.{shown};
+
+    ghost Value = { List (CellValue × RowValue) };
+
+    ghost view = { λ i. map shown (into_iter_items i.entries) };
+}
+
+impl<'a> Iterator for RowsInOrder<'a> {
+    type Item = (Cell, &'a Row);
+
+    ghost next_gives = { YieldsFirstBy shown entries_left };
+
+    ghost remaining = { item_count entries_left };
+
+    fn next(&mut self) -> Option<(Cell, &'a Row)> {
+        self.entries.next()
     }
 }
 
 impl Rows {
-    ghost use Rattle.content_state.specs.Rows.{row_at, with_row, without_row, blocks_of};
-    ghost use Rattle.content_rows.specs.CellOrder.{cell_cmp};
+    ghost use Rattle.content_state.specs.Rows.{row_at, with_row, without_row};
+    ghost use Rattle.content_state.specs.SiteRules.{InOrder};
 
     /// No rows.
     pub fn new(alloc: Global) -> Rows
         ensures { result ≡ [] }
     {
         Rows {
-            map: BTreeMap::new(alloc),
+            map: BucketMap::new(alloc),
         }
     }
 
@@ -134,31 +154,75 @@ impl Rows {
     pub fn get(&self, cell: Cell) -> Option<&Row>
         ensures { option_copied result ≡ row_at self.now cell }
     {
-        match self.map.get(&cell) {
+        match self.map.get(&CellKey(cell)) {
             Some(shared) => Some(shared.row.as_ref()),
             None => None,
         }
     }
 
-    /// The cells that have a row, each with its row, in cell order.
-    pub fn iter(&self) -> RowsIter<'_>
-        ensures rest { result ≡ self.now }
-        ensures ordered { IsStrictlySortedBy cell_cmp (keys_of self.now) }
+    /// The row of a cell, to be shared. `Err` only where memory is wanting.
+    pub fn shared(&self, cell: Cell) -> Result<Option<Arc<Row>>, AllocError>
+        ensures { IfOk result (λ row. option_map (λ r. arc_value r) row ≡ row_at self.now cell) }
     {
-        RowsIter {
-            entries: self.map.range(..),
+        match self.map.get(&CellKey(cell)) {
+            Some(shared) => Ok(Some(Arc::try_clone(&shared.row)?)),
+            None => Ok(None),
         }
     }
 
-    /// The cells among which all placed blocks stand, each with its row, in cell order: no node's is among them but that of the
-    /// greatest id, and no session's.
-    pub fn around_blocks(&self) -> RowsIter<'_>
-        ensures { blocks_of result ≡ blocks_of self.now }
+    /// How many rows there are.
+    pub fn len(&self) -> usize
+        ensures { result ≡ length self.now }
     {
-        let until = Cell::Session(least_name());
+        self.map.len()
+    }
+
+    /// How many rows the bucket of a cell has.
+    pub fn bucket_len(&self, cell: Cell) -> usize
+        ensures { result ≡ bucket_size cell_place self.now (cell_place cell) }
+    {
+        self.map.bucket_len(&CellKey(cell))
+    }
+
+    /// Whether there is no row.
+    pub fn is_empty(&self) -> bool
+        ensures { IsTrue result ↔ (self.now ≡ []) }
+    {
+        self.map.is_empty()
+    }
+
+    /// The law that each cell has one row, and that contracts see the rows in cell order.
+    pub fn stands_in_order(&self)
+        ensures { InOrder self.now }
+    {
+        self.map.stands_in_order();
+    }
+
+    /// The cells that have a row, each with its row, in an order that is not told. It takes no memory.
+    pub fn each(&self) -> RowsIter<'_>
+        ensures { IsPermutation self.now result }
+    {
         RowsIter {
-            entries: self.map.range(Cell::Node(u32::MAX)..until),
+            entries: self.map.each(),
         }
+    }
+
+    /// The cells that have a row, each with its row, in cell order. `Err` only where memory is wanting.
+    pub fn in_order(&self, alloc: Global) -> Result<RowsInOrder<'_>, AllocError>
+        ensures rows { IfOk result (λ entries. entries ≡ self.now) }
+        ensures ordered { InOrder self.now }
+    {
+        self.stands_in_order();
+        let keys = self.map.keys_in_order(alloc)?;
+        let mut entries = Vec::with_capacity(alloc, keys.len())?;
+        'keys: for key in &keys {
+            if let Some(row) = self.get(key.0) {
+                push(&mut entries, key.0, row)?;
+            }
+        }
+        Ok(RowsInOrder {
+            entries: entries.into_iter(),
+        })
     }
 
     /// Sets the row of a cell. Where memory is wanting, the rows are as they were, and the cell and the row come back.
@@ -167,34 +231,68 @@ impl Rows {
         ensures err { OnErr result (self.new ≡ self.old) }
         ensures back { IfErr result (λ f. (f.value.0 ≡ cell) × (arc_value f.value.1 ≡ arc_value row)) }
     {
-        match self.map.insert(cell, Shared { row }) {
-            Ok(_) => Ok(()),
-            Err(refused) => {
-                let (cell, shared) = refused.value;
-                Err(AllocFailed {
-                    value: (cell, shared.into_row()),
-                })
-            }
+        let key = CellKey(cell);
+        let shared = Shared { row };
+        let set = self.map.set(&key, &shared);
+        match set {
+            Ok(()) => Ok(()),
+            Err(_) => Err(AllocFailed {
+                value: (key.0, shared.into_row()),
+            }),
         }
     }
 
-    /// Removes the row of a cell, and hands it out where there was one.
-    pub fn remove(&mut self, cell: &Cell) -> Option<Arc<Row>>
-        ensures rows { self.new ≡ without_row self.old cell.now }
-        ensures row { option_map (λ r. arc_value r) result ≡ row_at self.old cell.now }
+    /// As `set`, with a count of the entries that are put into new buckets: as many as the cell's bucket has, and one, at most.
+    pub fn set_counted<L: Ledger>(
+        &mut self,
+        cell: Cell,
+        row: Arc<Row>,
+        steps: &mut Steps<L>,
+    ) -> Result<(), AllocError>
+        ensures ok { OnOk result (self.new ≡ with_row self.old cell (arc_value row)) }
+        ensures err { OnErr result (self.new ≡ self.old) }
+        ensures cost { steps.new ≤ steps.old + (bucket_size cell_place self.old (cell_place cell) + 1) }
     {
-        match self.map.remove(cell) {
-            Some(shared) => Some(shared.into_row()),
-            None => None,
-        }
+        self.map.put(&CellKey(cell), &Shared { row }, steps)
     }
 
-    /// The same rows again, which share each row with these. `Err` only where memory is wanting.
+    /// Removes the row of a cell, if it has one. `Err` only where memory is wanting, and then the rows are as they were.
+    pub fn remove(&mut self, cell: &Cell) -> Result<(), AllocError>
+        ensures ok { OnOk result (self.new ≡ without_row self.old cell.now) }
+        ensures err { OnErr result (self.new ≡ self.old) }
+    {
+        self.map.unset(&CellKey(*cell))
+    }
+
+    /// As `remove`, with a count of the entries that are put into new buckets: as many as the cell's bucket has, at most.
+    pub fn remove_counted<L: Ledger>(
+        &mut self,
+        cell: &Cell,
+        steps: &mut Steps<L>,
+    ) -> Result<(), AllocError>
+        ensures ok { OnOk result (self.new ≡ without_row self.old cell.now) }
+        ensures err { OnErr result (self.new ≡ self.old) }
+        ensures cost { steps.new ≤ steps.old + bucket_size cell_place self.old (cell_place cell.now) }
+    {
+        self.map.remove(&CellKey(*cell), steps)
+    }
+
+    /// The same rows again, which share each bucket with these. `Err` only where memory is wanting.
     pub fn duplicate(&self, _alloc: Global) -> Result<Rows, AllocError>
         ensures { IfOk result (λ copy. copy ≡ self.now) }
     {
         Ok(Rows {
-            map: self.map.clone()?,
+            map: self.map.share()?,
         })
+    }
+}
+
+/// Puts a cell and its row behind others. `Err` only where memory is wanting.
+fn push<'a>(entries: &mut Vec<(Cell, &'a Row)>, cell: Cell, row: &'a Row) -> Result<(), AllocError>
+    ensures { OnOk result (map shown entries.new.items ≡ map shown entries.old.items ++ (cell, row.now) ∷ []) }
+{
+    match entries.push((cell, row)) {
+        Ok(()) => Ok(()),
+        Err(_) => Err(AllocError),
     }
 }

@@ -18,7 +18,6 @@ ghost use Rattle.content_state.specs.SiteRules.{
   has_id_from,
   is_id_from,
   taken,
-  is_text,
   text_of,
 };
 ghost use Rattle.content_state.specs.Rows.{user_of, term_of, node_of, listing_of, session_of};
@@ -126,7 +125,7 @@ impl Rows {
     pub fn are_right(&self) -> bool
         ensures { IsTrue result ↔ AreValidRows self.now }
     {
-        'rows: for (cell, row) in self.iter() {
+        'rows: for (cell, row) in self.each() {
             if !row.is_right(cell) {
                 return false;
             }
@@ -182,8 +181,9 @@ fn present_fault(alloc: Global, state: &State) -> Result<Option<NotASite>, Alloc
     ensures first { IfOk result (λ fault. fault ≡ first_among state.now.rows (keys_of state.now.rows)) }
 {
     let mut seen = BTreeSet::new(alloc);
-    'rows: for (cell, row) in state.rows().iter() {
-        let fault = found(*cell, cell_fault(state, &seen, cell));
+    let entries = state.rows().in_order(alloc)?;
+    'rows: for (cell, row) in entries {
+        let fault = found(cell, cell_fault(state, &seen, &cell));
         if fault.is_some() {
             return Ok(fault);
         }
@@ -417,7 +417,7 @@ fn session_fault(state: &State, token: &Name) -> Option<(SiteRule, SiteField)>
 fn has_id_from(state: &State, kind: Numbered, next: u32) -> bool
     ensures { result ≡ has_id_from state.now.rows kind next }
 {
-    'rows: for (cell, _) in state.rows().iter() {
+    'rows: for (cell, _) in state.rows().each() {
         if is_id_from(kind, next, cell) {
             return true;
         }
@@ -476,16 +476,6 @@ fn note_text<'a>(
             Ok(())
         }
         None => Ok(()),
-    }
-}
-
-/// Whether a row has the text, as what no other may have.
-pub fn has_text(what: Unique, row: &Row, text: &Text) -> bool
-    ensures { result ≡ is_text text.now (text_of what row.now) }
-{
-    match text_of(what, row) {
-        Some(own) => own.as_slice() == text.as_slice(),
-        None => false,
     }
 }
 

@@ -1,15 +1,24 @@
 //! The states of a site.
-ghost use Rattle.std.specs.Prelude.{◌≡◌, ◌↔◌, ◌≤◌, ◌<◌, ◌+◌, ◌^◌, IfOk, IfErr, IsTrue};
+ghost use Rattle.std.specs.Prelude.{◌≡◌, ◌↔◌, ◌≤◌, ◌<◌, ◌+◌, ◌^◌, IfOk, IfErr, IsTrue, fold, ◌*◌, ℕ, length};
 ghost use Rattle.std.specs.Arc.{arc_value};
 ghost use Rattle.std.specs.Option.{option_copied, MatchOption};
+ghost use Rattle.bucket_map.specs.Buckets.{AtMost};
+ghost use Rattle.cell_keys.specs.Places.{cell_place};
+ghost use Rattle.content_state.specs.Cells.{cells_of};
 ghost use Rattle.content_state.specs.Forms.{form_rows};
+ghost use Rattle.content_state.specs.Indexes.{AreIndexes};
+ghost use Rattle.content_state.specs.Replay.{written};
 ghost use Rattle.cacheability.specs.declared.tag.Tag.TheVariants as tag;
 
+use crate::commit::Write;
 use crate::forms::{Forms, Named};
+use crate::indexed::IndexedRows;
+use crate::indexes::Indexes;
 use crate::rows::Rows;
 use crate::site_rules::{
     NotASite, Refusal, Refused, SiteField, SiteRule, first_fault, meets_site_rules,
 };
+use bucket_map::Steps;
 use cacheability::{Name, Tag};
 use content_rows::{
     Block, Cell, Listing, Menu, Node, NodeType, Role, Row, Seq, Session, Site, Term, User,
@@ -17,6 +26,7 @@ use content_rows::{
 use std::alloc::{AllocError, Global};
 use std::marker::Model;
 use std::sync::Arc;
+use std::sync::ledger::Ledger;
 use tag_counts::Counts;
 
 /// The greatest number that a site may begin with: 2^62, so that the edits of no run lead past a u64.
@@ -28,7 +38,7 @@ pub struct State {
     // The fixed forms of paths, the same in every state. They stand first: as the last field they lie too deep for the
     // search that shows that states go between threads.
     forms: Arc<Forms>,
-    rows: Rows,
+    rows: IndexedRows,
     counts: Counts,
     number: u64,
 }
@@ -82,6 +92,9 @@ impl State {
         ensures { IfOk result (λ s. s ≡ record { rows = rows; counts = counts; number = number }) }
     {
         let forms = shared_forms(alloc)?;
+        let Ok(rows) = IndexedRows::of(alloc, rows) else {
+            return Err(AllocError);
+        };
         Ok(State {
             rows,
             counts,
@@ -90,14 +103,21 @@ impl State {
         })
     }
 
-    /// The state after this one, of these rows and counts, whether they are a site or not. `Err` only where memory is
-    /// wanting.
-    pub fn after(&self, rows: Rows, counts: Counts) -> Result<State, AllocError>
+    /// The state after these writes to this one, with these counts, whether it is a site or not. Each row is shared, and none
+    /// is copied. `Err` only where memory is wanting.
+    pub fn after<L: Ledger>(
+        &self,
+        alloc: Global,
+        writes: &[Write],
+        counts: Counts,
+        steps: &mut Steps<L>,
+    ) -> Result<State, AllocError>
         requires { self.now.number < 2 ^ 63 }
-        ensures { IfOk result (λ s. s ≡ record { rows = rows; counts = counts; number = self.now.number + 1 }) }
+        ensures same { IfOk result (λ s. s ≡ record { rows = fold written self.now.rows writes.now; counts = counts; number = self.now.number + 1 }) }
+        ensures cost { (most : ℕ) → AtMost cell_place self.now.rows most (cells_of writes.now) → steps.new ≤ steps.old + (most + length writes.now) * length writes.now }
     {
         Ok(State {
-            rows,
+            rows: self.rows.after(alloc, writes, steps)?,
             counts,
             number: self.number + 1,
             forms: Arc::try_clone(&self.forms)?,
@@ -108,7 +128,14 @@ impl State {
     pub fn rows(&self) -> &Rows
         ensures { result.now ≡ self.now.rows }
     {
-        &self.rows
+        self.rows.rows()
+    }
+
+    /// The indexes of its rows.
+    pub(crate) fn indexes(&self) -> &Indexes
+        ensures { AreIndexes self.now.rows result.now }
+    {
+        self.rows.indexes()
     }
 
     /// How often each tag was invalidated.
@@ -142,7 +169,7 @@ impl State {
         ensures rows { InOrder self.now.rows }
         ensures counts { IsInOrder self.now.counts }
     {
-        let _entries = self.rows.iter();
+        self.rows().stands_in_order();
         let _tags = self.counts.len();
     }
 
@@ -162,9 +189,16 @@ impl State {
         ensures refused { IfErr result (λ r. IsRefusal rows number r.why) }
         ensures back { IfErr result (λ r. (r.rows ≡ rows) × (r.counts ≡ counts)) }
     {
-        let forms = match shared_forms(alloc) {
-            Ok(forms) => forms,
-            Err(_) => {
+        let Ok(forms) = shared_forms(alloc) else {
+            return Err(Refused {
+                rows,
+                counts,
+                why: Refusal::OutOfMemory,
+            });
+        };
+        let rows = match IndexedRows::of(alloc, rows) {
+            Ok(rows) => rows,
+            Err(rows) => {
                 return Err(Refused {
                     rows,
                     counts,
@@ -197,7 +231,11 @@ impl State {
             number: _,
             forms: _,
         } = self;
-        Refused { rows, counts, why }
+        Refused {
+            rows: rows.into_rows(),
+            counts,
+            why,
+        }
     }
 
     /// Why the state is no site, if it is none: the first cell that breaks a rule of sites, or else the number.
@@ -221,7 +259,7 @@ impl State {
         ensures { IfOk result (λ valid. IsTrue valid ↔ IsValidState self.now) }
     {
         self.stands_in_order();
-        if !self.rows.are_right() {
+        if !self.rows().are_right() {
             return Ok(false);
         }
         meets_site_rules(alloc, self)
@@ -239,7 +277,7 @@ impl State {
         ensures row { option_copied result.0 ≡ site_of self.now.rows }
         ensures tag { result.1 ≡ tag.Site }
     {
-        let site = match self.rows.get(Cell::Site) {
+        let site = match self.rows().get(Cell::Site) {
             Some(Row::Site(site)) => Some(site),
             _ => None,
         };
@@ -250,7 +288,7 @@ impl State {
     pub fn seq(&self) -> Option<&Seq>
         ensures { option_copied result ≡ seq_of self.now.rows }
     {
-        match self.rows.get(Cell::Seq) {
+        match self.rows().get(Cell::Seq) {
             Some(Row::Seq(seq)) => Some(seq),
             _ => None,
         }
@@ -261,7 +299,7 @@ impl State {
         ensures row { option_copied result.0 ≡ type_of self.now.rows name }
         ensures tag { result.1 ≡ tag.NodeType name }
     {
-        let node_type = match self.rows.get(Cell::NodeType(name)) {
+        let node_type = match self.rows().get(Cell::NodeType(name)) {
             Some(Row::NodeType(node_type)) => Some(node_type),
             _ => None,
         };
@@ -273,7 +311,7 @@ impl State {
         ensures row { option_copied result.0 ≡ role_of self.now.rows name }
         ensures tag { result.1 ≡ tag.Role name }
     {
-        let role = match self.rows.get(Cell::Role(name)) {
+        let role = match self.rows().get(Cell::Role(name)) {
             Some(Row::Role(role)) => Some(role),
             _ => None,
         };
@@ -285,7 +323,7 @@ impl State {
         ensures row { option_copied result.0 ≡ user_of self.now.rows uid }
         ensures tag { result.1 ≡ tag.User uid }
     {
-        let user = match self.rows.get(Cell::User(uid)) {
+        let user = match self.rows().get(Cell::User(uid)) {
             Some(Row::User(user)) => Some(user),
             _ => None,
         };
@@ -297,7 +335,7 @@ impl State {
         ensures row { option_copied result.0 ≡ term_of self.now.rows tid }
         ensures tag { result.1 ≡ tag.Term tid }
     {
-        let term = match self.rows.get(Cell::Term(tid)) {
+        let term = match self.rows().get(Cell::Term(tid)) {
             Some(Row::Term(term)) => Some(term),
             _ => None,
         };
@@ -309,7 +347,7 @@ impl State {
         ensures row { option_copied result.0 ≡ node_of self.now.rows nid }
         ensures tag { result.1 ≡ tag.Node nid }
     {
-        let node = match self.rows.get(Cell::Node(nid)) {
+        let node = match self.rows().get(Cell::Node(nid)) {
             Some(Row::Node(node)) => Some(node),
             _ => None,
         };
@@ -321,7 +359,7 @@ impl State {
         ensures row { option_copied result.0 ≡ menu_of self.now.rows name }
         ensures tag { result.1 ≡ tag.Menu name }
     {
-        let menu = match self.rows.get(Cell::Menu(name)) {
+        let menu = match self.rows().get(Cell::Menu(name)) {
             Some(Row::Menu(menu)) => Some(menu),
             _ => None,
         };
@@ -333,7 +371,7 @@ impl State {
         ensures row { option_copied result.0 ≡ listing_of self.now.rows name }
         ensures tag { result.1 ≡ tag.Listing name }
     {
-        let listing = match self.rows.get(Cell::Listing(name)) {
+        let listing = match self.rows().get(Cell::Listing(name)) {
             Some(Row::Listing(listing)) => Some(listing),
             _ => None,
         };
@@ -345,7 +383,7 @@ impl State {
         ensures row { option_copied result.0 ≡ block_of self.now.rows name }
         ensures tag { result.1 ≡ tag.Block name }
     {
-        let block = match self.rows.get(Cell::Block(name)) {
+        let block = match self.rows().get(Cell::Block(name)) {
             Some(Row::Block(block)) => Some(block),
             _ => None,
         };
@@ -356,7 +394,7 @@ impl State {
     pub fn session(&self, token: Name) -> Option<&Session>
         ensures { option_copied result ≡ session_of self.now.rows token }
     {
-        match self.rows.get(Cell::Session(token)) {
+        match self.rows().get(Cell::Session(token)) {
             Some(Row::Session(session)) => Some(session),
             _ => None,
         }

@@ -1,10 +1,8 @@
 -- The edit of a file, and why there is none.
 use Rattle.std.proofs.Common.{◌≡◌, List, ℕ, Option, Some, None, Ok, sym, ap, subst, ◌∙◌, All, length, map, fold, []}
-use Rattle.std.proofs.lemmas.List.{length-map}
 use Rattle.cacheability.specs.declared.tag.Tag.{Tag}
 use Rattle.std.specs.Arc.{arc_value}
 use Rattle.std.specs.List.{IsDistinct}
-use Rattle.std.specs.Map.{keys_of}
 use Rattle.std.specs.Ordering.{eq_by_cmp}
 use Rattle.content_rows.specs.CellOrder.{cell_cmp}
 use Rattle.content_rows.specs.declared.cell.Cell.{Cell}
@@ -69,9 +67,6 @@ rows_made base file rows made writes sorted in_order keeps is same all = is ∙ 
 
 pub made_valid : (base file rows : Stored) → AreValidRows base → AreValidRows file → rows ≡ merged base file → AreValidRows rows
 made_valid base file rows base_valid valid is = subst AreValidRows (sym is) (merged_valid base file base_valid valid)
-
-pub as_many : (file : Stored) (cells : List Cell) (count : ℕ) → cells ≡ keys_of file → count ≡ length cells → count ≡ length file
-as_many file cells count same is = is ∙ ap length same ∙ length-map file (λ (e : Cell × Row). e.0)
 
 abbrev commit_with : List Write → List Tag → Commit
 commit_with writes extra = record { writes = writes; extra = extra; pass = 0 }

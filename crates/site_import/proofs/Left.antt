@@ -2,17 +2,16 @@
 use Rattle.std.proofs.Common.{◌≡◌, ◌≤◌, ◌+◌, ◌++◌, List, [], ◌∷◌, ℕ, suc, Bool, true, false, cond, Option, Some, None, Result, Ok, Err, OnErr, refl, sym, ap, subst, ◌∙◌, arith, All, length, take, map, filter, append_assoc, append-nil, length-append}
 use Rattle.std.proofs.lemmas.List.Elements.{All-head, All-tail, All-cons, All-nil}
 use Rattle.std.proofs.lemmas.List.{take-append-le}
-use Rattle.std.specs.Map.{keys_of}
 use Rattle.content_rows.specs.ValidRow.{IsValidRow}
 use Rattle.content_rows.specs.declared.cell.Cell.{Cell}
 use Rattle.content_rows.specs.declared.row.Row.{Row}
-use Rattle.content_state.specs.Rows.{row_at, without_row}
-use Rattle.content_state.specs.SiteRules.{AreValidRows}
+use Rattle.content_state.specs.Rows.{row_at}
+use Rattle.content_state.specs.SiteRules.{AreValidRows, InOrder}
 use Rattle.content_state.specs.Write.{Write}
 use Rattle.site_io.specs.Told.{after, AddsFront}
 use Rattle.site_import.specs.Changes.{is_change, write_of, writes_of, KeepsUnchanged}
 use Rattle.site_import.specs.Lines.{ended_line, export_text, TellsItsRow}
-use Rattle.site_import.proofs.Order.{first_row, without_first}
+use Rattle.site_import.proofs.Order.{row_within}
 
 abbrev pub Stored : Type 0
 Stored = List (Cell × Row)
@@ -44,31 +43,13 @@ one_so_far P whole left rest e is one so_far = λ valid.
 pub all_so_far : (P : Cell × Row → Type 0) (whole left : Stored) → left ≡ [] → SoFar P whole left → AreValidRows whole → All P whole
 all_so_far P whole left is so_far valid = (so_far valid).1 (subst (All P) (sym is) (All-nil P))
 
--- ---- a row is taken
+-- ---- a write is made
 
-cells_apart : (d c : Cell) (ds cs : List Cell) → d ∷ ds ≡ c ∷ cs → (d ≡ c) × (ds ≡ cs)
-cells_apart d c ds cs h = (cc, cc)
-
-same_row : (x y : Row) → Some x ≡ Some y → x ≡ y
-same_row x y h = cc
-
--- the row of the first cell is that of the first entry, and the others are left
-pub first_taken : (file left : Stored) (c : Cell) (cells : List Cell) (r : Row) → keys_of file ≡ c ∷ cells → Some r ≡ row_at file c → left ≡ without_row file c → (file ≡ (c, r) ∷ left) × (keys_of left ≡ cells)
-first_taken [] left c cells r keys found is = absurd cc
-first_taken (e ∷ file) left c cells r keys found is =
-    let apart = cells_apart e.0 c (keys_of file) cells keys in
-    let row : r ≡ e.1 = same_row r e.1 (found ∙ ap (row_at (e ∷ file)) (sym apart.0) ∙ first_row e file) in
-    let rest : left ≡ file = is ∙ ap (without_row (e ∷ file)) (sym apart.0) ∙ without_first e file in (
-      ap (λ d. (d, e.1) ∷ file) apart.0 ∙ ap (λ x. (c, x) ∷ file) (sym row) ∙ ap (λ l. (c, r) ∷ l) (sym rest),
-      ap keys_of rest ∙ apart.1,
-    )
-
-pub one_is_taken : (file : Stored) (c : Cell) (cells : List Cell) → keys_of file ≡ c ∷ cells → None ≡ row_at file c → ⊥
-one_is_taken [] c cells keys found = cc
-one_is_taken (e ∷ file) c cells keys found =
-    let apart = cells_apart e.0 c (keys_of file) cells keys in
-    let none : None ≡ Some e.1 = found ∙ ap (row_at (e ∷ file)) (sym apart.0) ∙ first_row e file in
-    cc
+-- the write that sets what the rows have in a cell of theirs
+pub shared_write : (file before rest : Stored) (e : Cell × Row) (o : Option Row) → InOrder file → file ≡ before ++ e ∷ rest → o ≡ row_at file e.0 → record { cell = e.0; row = o } ≡ write_of e
+shared_write file before rest e o sorted split is =
+    ap (λ (r : Option Row). record { cell = e.0; row = r })
+    (is ∙ ap (λ l. row_at l e.0) split ∙ row_within before e rest (subst InOrder split sorted))
 
 writes_by : (b : Bool) (base : Stored) (e : Cell × Row) (rest : Stored) → is_change base e ≡ b → writes_of base (e ∷ rest) ≡ cond b (write_of e ∷ writes_of base rest) (writes_of base rest)
 writes_by true base e rest is = ap (λ b. map write_of (cond b (e ∷ filter (is_change base) rest) (filter (is_change base) rest))) is
@@ -81,10 +62,6 @@ one_write base left rest e so_far whole is change all =
 pub no_write : (base left rest : Stored) (e : Cell × Row) (so_far : List Write) (whole : List Write) → left ≡ e ∷ rest → is_change base e ≡ false → so_far ++ writes_of base left ≡ whole → so_far ++ writes_of base rest ≡ whole
 no_write base left rest e so_far whole is change all =
     ap (λ ws. so_far ++ ws) (sym (ap (writes_of base) is ∙ writes_by false base e rest change)) ∙ all
-
-pub no_cells : (file : Stored) → keys_of file ≡ [] → file ≡ []
-no_cells [] h = refl
-no_cells (e ∷ file) h = absurd cc
 
 -- ---- a line is written
 

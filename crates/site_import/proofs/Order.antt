@@ -11,7 +11,7 @@ use Rattle.content_rows.proofs.CellLemmas.{cell_cmp_total}
 use Rattle.content_rows.specs.CellOrder.{cell_cmp}
 use Rattle.content_rows.specs.declared.cell.Cell.{Cell}
 use Rattle.content_rows.specs.declared.row.Row.{Row}
-use Rattle.content_state.specs.Rows.{row_at, with_row, without_row}
+use Rattle.content_state.specs.Rows.{row_at, with_row}
 use Rattle.content_state.specs.SiteRules.{InOrder}
 
 abbrev Stored : Type 0
@@ -81,11 +81,3 @@ again_at Greater c r e es is others sorted found = ap (λ l. e ∷ l) (others so
 pub put_again : (es : Stored) (c : Cell) (r : Row) → InOrder es → row_at es c ≡ Some r → with_row es c r ≡ es
 put_again [] c r sorted found = absurd (let absent : None ≡ Some r = found in cc)
 put_again (e ∷ es) c r sorted found = again_at (cell_cmp c e.0) c r e es refl (put_again es c r) sorted found
-
--- ---- the first of some rows
-
-pub first_row : (e : Cell × Row) (es : Stored) → row_at (e ∷ es) e.0 ≡ Some e.1
-first_row e es = ap (λ o. cond (is_eq o) (Some e.1) (row_at es e.0)) (tied_itself cell_cmp_total e.0)
-
-pub without_first : (e : Cell × Row) (es : Stored) → without_row (e ∷ es) e.0 ≡ es
-without_first e es = ap (λ o. cond (is_eq o) es (e ∷ without_row es e.0)) (tied_itself cell_cmp_total e.0)

@@ -1,6 +1,5 @@
 //! What the rows of a file change where some rows stand.
 ghost use Rattle.std.specs.Prelude.{◌≡◌, All, IfOk, OnOk, fold};
-ghost use Rattle.std.specs.Map.{keys_of};
 ghost use Rattle.content_rows.specs.ValidRow.{IsValidRow};
 ghost use Rattle.content_state.specs.Replay.{written};
 ghost use Rattle.content_state.specs.SiteRules.{AreValidRows, InOrder};
@@ -28,39 +27,20 @@ fn is_change(alloc: Global, base: &State, cell: &Cell, row: &Row) -> Result<bool
     }
 }
 
-/// The cells of rows, in their order. `Err` only where memory is wanting.
-pub(crate) fn cells_of(alloc: Global, rows: &Rows) -> Result<Vec<Cell>, AllocError>
-    ensures same { IfOk result (λ cells. cells.items ≡ keys_of rows.now) }
-    ensures ordered { InOrder rows.now }
+/// The writes of those rows of a file that change what a state has in their cells, in cell order. `Err` only where memory is
+/// wanting.
+pub(crate) fn changes_of(alloc: Global, base: &State, file: &Rows) -> Result<Vec<Write>, AllocError>
+    ensures writes { IfOk result (λ writes. writes.items ≡ writes_of base.now.rows file.now) }
+    ensures kept { OnOk result (AreValidRows base.now.rows → AreValidRows file.now → All (KeepsUnchanged base.now.rows) file.now) }
+    ensures ordered { InOrder file.now }
 {
-    let mut cells = Vec::new(alloc);
-    'rows: for (cell, _) in rows.iter() {
-        cells.push(*cell)?;
-    }
-    Ok(cells)
-}
-
-/// Takes the rows of a file, whose cells are these, and gives the writes of those that change what
-/// stands in their cells. `Err` only where memory is wanting.
-pub(crate) fn take_writes(
-    alloc: Global,
-    base: &State,
-    file: &mut Rows,
-    cells: &[Cell],
-) -> Result<Vec<Write>, AllocError>
-    requires cells { keys_of file.old ≡ cells.now }
-    ensures writes { IfOk result (λ writes. writes.items ≡ writes_of base.now.rows file.old) }
-    ensures kept { OnOk result (AreValidRows base.now.rows → AreValidRows file.old → All (KeepsUnchanged base.now.rows) file.old) }
-{
+    let entries = file.in_order(alloc)?;
     let mut writes = Vec::new(alloc);
-    'cells: for cell in cells {
-        let Some(row) = file.remove(cell) else {
-            unreachable!();
-        };
-        if is_change(alloc, base, cell, row.as_ref())? {
+    'rows: for (cell, row) in entries {
+        if is_change(alloc, base, &cell, row)? {
             writes.push(Write {
-                cell: *cell,
-                row: Some(row),
+                cell,
+                row: file.shared(cell)?,
             })?;
         }
     }
@@ -87,9 +67,7 @@ fn make_write(rows: &mut Rows, write: &Write) -> Result<(), AllocError>
             let shared = Arc::try_clone(row)?;
             rows.set(write.cell, shared)?;
         }
-        None => {
-            let _removed = rows.remove(&write.cell);
-        }
+        None => rows.remove(&write.cell)?,
     }
     Ok(())
 }

@@ -11,7 +11,7 @@ ghost use Rattle.site_import.specs.Faults.{fault_of, IsImportCause};
 ghost use Rattle.site_import.specs.Ground.{ground, HasValidRows};
 ghost use Rattle.site_import.specs.Imports.{IsEdit, IsImport, IsImportFault, IsJudgement, IsNoSiteFault};
 
-use crate::changes::{cells_of, rows_after, take_writes};
+use crate::changes::{changes_of, rows_after};
 use crate::fault::ImportFault;
 use crate::full::first_full_cell;
 use content_rows::Items;
@@ -85,20 +85,19 @@ fn import_onto<S: Source>(
     ensures cause { IfErr result (IsImportCause (S.faults source.old) (S.faults source.new)) }
     ensures steady { OnOk result (S.faults source.new ≡ S.faults source.old) }
 {
-    let mut file = read_rows(alloc, source)?;
-    edit_onto(alloc, base, &mut file)
+    let file = read_rows(alloc, source)?;
+    edit_onto(alloc, base, &file)
 }
 
-/// The edit that puts the rows of a file where they change what is stored, and how many they are. It takes the rows.
-fn edit_onto(alloc: Global, base: &State, file: &mut Rows) -> Result<Imported, ImportFault>
+/// The edit that puts the rows of a file where they change what is stored, and how many they are.
+fn edit_onto(alloc: Global, base: &State, file: &Rows) -> Result<Imported, ImportFault>
     requires base { AreValidRows base.now.rows }
-    requires file { AreValidRows file.old }
-    ensures edit { IfOk result (λ i. IsEdit base.now file.old i) }
-    ensures fault { IfErr result (IsJudgement base.now (merged base.now.rows file.old) (writes_of base.now.rows file.old)) }
+    requires file { AreValidRows file.now }
+    ensures edit { IfOk result (λ i. IsEdit base.now file.now i) }
+    ensures fault { IfErr result (IsJudgement base.now (merged base.now.rows file.now) (writes_of base.now.rows file.now)) }
 {
     base.stands_in_order();
-    let cells = cells_of(alloc, file)?;
-    let writes = take_writes(alloc, base, file, cells.as_slice())?;
+    let writes = changes_of(alloc, base, file)?;
     let rows = rows_after(alloc, base, writes.as_slice())?;
     judge(alloc, base, rows, writes.as_slice())?;
     let commit = Commit {
@@ -107,7 +106,7 @@ fn edit_onto(alloc: Global, base: &State, file: &mut Rows) -> Result<Imported, I
         pass: 0,
     };
     Ok(Imported {
-        rows: cells.as_slice().len() as u64,
+        rows: file.len() as u64,
         commit: Arc::new(alloc, commit)?,
     })
 }

@@ -26,9 +26,9 @@ pub fn export<O: Sink>(alloc: Global, state: &State, sink: &mut O) -> Result<(),
     ensures cause { IfErr result (IsExportCause (O.faults sink.old) (O.faults sink.new)) }
     ensures steady { OnOk result (O.faults sink.new ≡ O.faults sink.old) }
 {
-    let rows = state.rows();
-    'rows: for (cell, row) in rows.iter() {
-        write_row(alloc, cell, row, sink)?;
+    let rows = state.rows().in_order(alloc)?;
+    'rows: for (cell, row) in rows {
+        write_row(alloc, &cell, row, sink)?;
     }
     Ok(())
 }

@@ -1,5 +1,5 @@
 //! The ground of a job: the state that a keeper holds.
-ghost use Rattle.std.specs.Prelude.{◌≡◌, ◌↔◌, [], true, IfOk, IfErr, OnOk, IsTrue};
+ghost use Rattle.std.specs.Prelude.{◌≡◌, IfOk, IfErr, OnOk};
 ghost use Rattle.content_state.specs.SiteRules.{AreValidRows};
 ghost use Rattle.site_keeper.specs.Steps.{stored_of};
 ghost use Rattle.site_jobs.specs.Faults.{SaysRefusal, SaysText};
@@ -10,7 +10,7 @@ ghost use Rattle.site_jobs.specs.Texts.{cell_fault_text};
 use crate::fault::NoJob;
 use crate::texts::cell_fault_text;
 use content_rows::{Cell, Text};
-use content_state::{NotASite, Refusal, Rows, SiteField, SiteRule, State};
+use content_state::{NotASite, Refusal, SiteField, SiteRule, State};
 use site_keeper::{Keeper, Stored};
 use std::alloc::Global;
 
@@ -25,13 +25,6 @@ fn refused(alloc: Global, fault: &NotASite) -> NoJob
         Ok(text) => NoJob::Refused(Text::from_vec(text)),
         Err(_) => NoJob::OutOfMemory,
     }
-}
-
-/// Whether there is no row.
-fn has_none(rows: &Rows) -> bool
-    ensures { IsTrue result ↔ (rows.now ≡ []) }
-{
-    rows.iter().next().is_none()
 }
 
 /// Why rows that are no site end a job.
@@ -65,7 +58,7 @@ fn ground_of(alloc: Global, stored: Stored) -> Result<State, NoJob>
     ensures ground { IfOk result IsGround }
     ensures none { IfErr result (IsNoStored IsNoGround stored) }
 {
-    if !has_none(&stored.rows) {
+    if !stored.rows.is_empty() {
         return site_of(alloc, stored);
     }
     if stored.head > GREATEST_NUMBER {

@@ -1,12 +1,12 @@
 //! Jobs that tell of the site that a keeper holds.
-ghost use Rattle.std.specs.Prelude.{◌≡◌, ◌≤◌, ◌⊎◌, IfOk, length};
+ghost use Rattle.std.specs.Prelude.{◌≡◌, ◌≤◌, ◌⊎◌, IfOk};
 ghost use Rattle.site_jobs.specs.Jobs.{checked, exported, KeeperRises, OutputRises, TellsBy};
 
 use crate::fault::NoJob;
 use crate::ground::load_site;
 use crate::job::{JobEnd, print_refusal};
 use crate::texts::checked_text;
-use content_state::{Rows, State};
+use content_state::State;
 use site_import::{ExportFault, export};
 use site_io::{Sink, write_whole};
 use site_keeper::Keeper;
@@ -39,25 +39,11 @@ pub fn export_rows<K: Keeper, O: Sink>(alloc: Global, keeper: &mut K, sink: &mut
     }
 }
 
-/// How many rows there are. `Err` only where they are more than a u64 counts, which no memory holds.
-fn row_count(rows: &Rows) -> Result<u64, AllocError>
-    ensures { IfOk result (λ n. n ≡ length rows.now) }
-{
-    let mut count: u64 = 0;
-    'rows: for _row in rows.iter() {
-        let Some(more) = count.checked_add(1) else {
-            return Err(AllocError);
-        };
-        count = more;
-    }
-    Ok(count)
-}
-
 /// What is printed of a site that was checked.
 fn text_of(alloc: Global, site: &State) -> Result<Vec<u8>, AllocError>
     ensures { IfOk result (λ text. text.items ≡ checked site.now) }
 {
-    let rows = row_count(site.rows())?;
+    let rows = site.rows().len() as u64;
     checked_text(alloc, site.number(), rows)
 }
 

@@ -72,9 +72,7 @@ fn make_write(rows: &mut Rows, write: &Write) -> Result<(), AllocError>
 {
     match &write.row {
         Some(row) => rows.set(write.cell, Arc::try_clone(row)?)?,
-        None => {
-            let _ = rows.remove(&write.cell);
-        }
+        None => rows.remove(&write.cell)?,
     }
     Ok(())
 }

@@ -1,4 +1,5 @@
 pub mod Entries
+pub mod Cost
 pub mod Counted
 pub mod Steps
 pub mod Logs

@@ -1,8 +1,12 @@
--- When an edit makes no state.
-use Rattle.std.specs.Prelude.{ℕ, List, ◌≡◌, ◌==◌, Option, Some}
+-- When an edit makes no state, and what it costs to make one.
+use Rattle.std.specs.Prelude.{ℕ, List, ◌≡◌, ◌==◌, ◌+◌, ◌*◌, Option, Some, length, max}
 use Rattle.std.specs.List.{find}
+use Rattle.bucket_map.specs.Buckets.{fullest}
 use Rattle.cacheability.specs.declared.tag.Tag.{Tag}
 use Rattle.tag_counts.specs.Counts.{count_of}
+use Rattle.tag_counts.specs.Key.{tag_place}
+use Rattle.cell_keys.specs.Places.{cell_place}
+use Rattle.content_state.specs.Cells.{cells_of}
 use Rattle.content_state.specs.State.{State}
 use Rattle.content_state.specs.declared.commit.Commit.{Commit}
 use Rattle.content_state.specs.Replay.{tags_of_commit}
@@ -21,3 +25,16 @@ full_tag state commit = first_full state.counts (tags_of_commit state.rows commi
 abbrev pub IsFault : State → Commit → ApplyFault → Type 0
 IsFault state commit (apply_fault.CountFull tag) = full_tag state commit ≡ Some tag
 IsFault state commit apply_fault.OutOfMemory = Unit {0}
+
+-- how many entries the fullest bucket has that an edit touches, be they rows or counts
+abbrev pub fullest_touched : State → Commit → ℕ
+fullest_touched state commit =
+    max (fullest cell_place state.rows (cells_of commit.writes)) (fullest tag_place state.counts (tags_of_commit state.rows commit))
+
+-- how many entries are put into new buckets at most: each change of one copies that bucket, which has grown by one at most for
+-- each change before
+abbrev pub steps_of : State → Commit → ℕ
+steps_of state commit =
+    let writes = length commit.writes in
+    let bumps = length (tags_of_commit state.rows commit) in
+    (fullest_touched state commit + writes + bumps) * (writes + bumps)

@@ -1,18 +1,23 @@
 //! What an edit makes of a state.
-ghost use Rattle.std.specs.Prelude.{◌≡◌, ◌≢◌, ◌<◌, ◌^◌, Some, None, IfOk, IfErr, OnOk, fold};
+ghost use Rattle.std.specs.Prelude.{◌≡◌, ◌≢◌, ◌≤◌, ◌<◌, ◌+◌, ◌*◌, ◌^◌, ℕ, Some, None, IfOk, IfErr, OnOk, fold, length};
 ghost use Rattle.std.specs.Arc.{arc_value};
 ghost use Rattle.std.specs.List.Sorted.{IsStrictlySortedBy};
+ghost use Rattle.bucket_map.specs.Buckets.{bucket_size, AtMost};
 ghost use Rattle.cacheability.specs.Tag.{tag_cmp};
 ghost use Rattle.tag_counts.specs.Counts.{bumped, count_of};
-ghost use Rattle.content_state.specs.Replay.{written, step};
-ghost use Rattle.state_commits.specs.Apply.{first_full, full_tag, IsFault};
+ghost use Rattle.tag_counts.specs.Key.{tag_place};
+ghost use Rattle.content_state.specs.Replay.{step};
+ghost use Rattle.state_commits.specs.Apply.{first_full, full_tag, IsFault, steps_of};
 ghost use Rattle.state_commits.specs.declared.applying.ApplyFault.TheVariants as apply_fault;
 
 use crate::tags::tags_of_commit;
+use bucket_map::Steps;
 use cacheability::Tag;
-use content_state::{Commit, Rows, State, Write};
+use content_state::{Commit, State};
 use std::alloc::{AllocError, AllocFailed, Global};
+use std::marker::Brand;
 use std::sync::Arc;
+use std::sync::ledger::{Blank, Ledger};
 use tag_counts::Counts;
 
 /// Why an edit made no state.
@@ -46,22 +51,57 @@ impl<T: Drop> From<AllocFailed<T>> for ApplyFault {
 /// greatest count already, with the first such tag by its text; `OutOfMemory` where memory is wanting, which may come in
 /// its place. The state before stays as it is in any case.
 /// <https://www.drupal.org/docs/drupal-apis/cache-api/cache-tags>
-#[tactic(auto, unfolding(content_state::specs::Replay::step))]
 pub fn apply(alloc: Global, state: &State, commit: &Commit) -> Result<Arc<State>, ApplyFault>
     requires { state.now.number < 2 ^ 63 }
     ensures step { IfOk result (λ after. arc_value after ≡ step state.now commit.now) }
     ensures none_full { IfOk result (λ _. full_tag state.now commit.now ≡ None) }
     ensures fault { IfErr result (IsFault state.now commit.now) }
 {
+    apply_from::<Brand>(alloc, state, commit, Blank::new(1))
+}
+
+/// As `apply`, with a count of its own.
+fn apply_from<L: Ledger>(
+    alloc: Global,
+    state: &State,
+    commit: &Commit,
+    blank: Blank,
+) -> Result<Arc<State>, ApplyFault>
+    requires number { state.now.number < 2 ^ 63 }
+    requires name { blank.name ≡ L.name }
+    requires parts { blank.parts ≡ L.parts }
+    requires some { 0 < L.parts }
+    ensures step { IfOk result (λ after. arc_value after ≡ step state.now commit.now) }
+    ensures none_full { IfOk result (λ _. full_tag state.now commit.now ≡ None) }
+    ensures fault { IfErr result (IsFault state.now commit.now) }
+{
+    let mut steps = Steps::<L>::new(blank);
+    apply_counted(alloc, state, commit, &mut steps)
+}
+
+/// As `apply`, and it counts the entries that are put into new buckets. A state shares every bucket that an edit doesn't touch
+/// with the state before. An edit of `w` writes that invalidates `b` tags puts at most `(m + w + b) * (w + b)` entries into new
+/// buckets, where `m` is how many the fullest bucket has before of those that it touches.
+#[tactic(auto, unfolding(content_state::specs::Replay::step))]
+pub fn apply_counted<L: Ledger>(
+    alloc: Global,
+    state: &State,
+    commit: &Commit,
+    steps: &mut Steps<L>,
+) -> Result<Arc<State>, ApplyFault>
+    requires { state.now.number < 2 ^ 63 }
+    ensures step { IfOk result (λ after. arc_value after ≡ step state.now commit.now) }
+    ensures none_full { IfOk result (λ _. full_tag state.now commit.now ≡ None) }
+    ensures fault { IfErr result (IsFault state.now commit.now) }
+    ensures cost { steps.new ≤ steps.old + steps_of state.now commit.now }
+{
     let tags = tags_of_commit(alloc, state.rows(), commit)?;
     if let Some(tag) = first_full(state.counts(), tags.as_slice()) {
         return Err(ApplyFault::CountFull(tag));
     }
     let mut counts = state.counts().duplicate(alloc)?;
-    bump_all(&mut counts, tags.as_slice())?;
-    let mut rows = state.rows().duplicate(alloc)?;
-    write_all(&mut rows, commit.writes.as_slice())?;
-    let after = state.after(rows, counts)?;
+    bump_all(&mut counts, tags.as_slice(), steps)?;
+    let after = state.after(alloc, commit.writes.as_slice(), counts, steps)?;
     Ok(Arc::new(alloc, after)?)
 }
 
@@ -85,50 +125,30 @@ fn first_full(counts: &Counts, tags: &[Tag]) -> Option<Tag>
 
 /// Adds one to the count of each of these tags, which stand in order, each once, and none of which is full. `Err` only
 /// where memory is wanting.
-fn bump_all(counts: &mut Counts, tags: &[Tag]) -> Result<(), AllocError>
+fn bump_all<L: Ledger>(
+    counts: &mut Counts,
+    tags: &[Tag],
+    steps: &mut Steps<L>,
+) -> Result<(), AllocError>
     requires ordered { IsStrictlySortedBy tag_cmp tags.now }
     requires none_full { first_full counts.old tags.now ≡ None }
-    ensures { OnOk result (counts.new ≡ fold bumped counts.old tags.now) }
+    ensures same { OnOk result (counts.new ≡ fold bumped counts.old tags.now) }
+    ensures cost { (most : ℕ) → AtMost tag_place counts.old most tags.now → steps.new ≤ steps.old + (most + length tags.now) * length tags.now }
 {
     'tags: for tag in tags {
-        bump(counts, tag)?;
+        bump(counts, tag, steps)?;
     }
     Ok(())
 }
 
 /// Adds one to the count of a tag that is not full. `Err` only where memory is wanting.
-fn bump(counts: &mut Counts, tag: &Tag) -> Result<(), AllocError>
+fn bump<L: Ledger>(counts: &mut Counts, tag: &Tag, steps: &mut Steps<L>) -> Result<(), AllocError>
     requires { count_of counts.old tag.now ≢ 18_446_744_073_709_551_615 }
-    ensures { OnOk result (counts.new ≡ bumped counts.old tag.now) }
+    ensures same { OnOk result (counts.new ≡ bumped counts.old tag.now) }
+    ensures cost { steps.new ≤ steps.old + (bucket_size tag_place counts.old (tag_place tag.now) + 1) }
 {
-    match counts.bump(tag) {
+    match counts.bump_counted(tag, steps) {
         Ok(()) => Ok(()),
         Err(_) => Err(AllocError),
     }
-}
-
-/// Makes each of these writes in turn.
-fn write_all(rows: &mut Rows, writes: &[Write]) -> Result<(), AllocError>
-    ensures { OnOk result (rows.new ≡ fold written rows.old writes.now) }
-{
-    'writes: for write in writes {
-        make_write(rows, write)?;
-    }
-    Ok(())
-}
-
-/// Makes one write: the cell gets the row, which is shared with the edit, or it has none then.
-fn make_write(rows: &mut Rows, write: &Write) -> Result<(), AllocError>
-    ensures { OnOk result (rows.new ≡ written rows.old write.now) }
-{
-    match &write.row {
-        Some(row) => {
-            let shared = Arc::try_clone(row)?;
-            rows.set(write.cell, shared)?;
-        }
-        None => {
-            let _removed = rows.remove(&write.cell);
-        }
-    }
-    Ok(())
 }

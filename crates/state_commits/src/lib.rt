@@ -5,6 +5,6 @@ mod applying;
 mod laws;
 mod tags;
 
-pub use applying::{ApplyFault, apply, full_tag};
+pub use applying::{ApplyFault, apply, apply_counted, full_tag};
 pub use laws::{covered_reads_stay, edits_keep_order, edits_lower_no_count, sums_tell_counts};
 pub use tags::{tags_of_commit, tags_of_write};

@@ -1,7 +1,7 @@
 -- How often each cache tag was invalidated: a finite map from tags to numbers, in the order of the tags' texts. What it
 -- does not name was never invalidated.
 -- https://www.drupal.org/docs/drupal-apis/cache-api/cache-tags
-use Rattle.std.specs.Prelude.{ℕ, List, [], ◌∷◌, ◌+◌, unwrap_or, sum_by}
+use Rattle.std.specs.Prelude.{ℕ, List, ◌+◌, unwrap_or, sum_by}
 use Rattle.std.specs.Map.{lookup, keys_of}
 use Rattle.std.specs.BTreeMap.{is_at, insert_entry}
 use Rattle.std.specs.List.Sorted.{IsStrictlySortedBy}
@@ -27,8 +27,3 @@ with_count counts tag count = insert_entry tag_cmp counts tag count
 -- each tag stands once, in the order of the tags' texts
 abbrev pub IsInOrder : List (Tag × ℕ) → Type 0
 IsInOrder counts = IsStrictlySortedBy tag_cmp (keys_of counts)
-
--- the pairs of a table, put in the order of the tags' texts
-abbrev pub in_order : List (Tag × ℕ) → List (Tag × ℕ)
-in_order [] = []
-in_order (e ∷ es) = insert_entry tag_cmp (in_order es) e.0 e.1

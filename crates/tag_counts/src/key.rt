@@ -1,14 +1,16 @@
-//! Under which key the count of a tag stands.
+//! The key of a count.
 ghost use Rattle.std.specs.Ordering.{eq_by_cmp};
 ghost use Rattle.std.specs.Cmp.{partial_equiv_from_equiv};
 ghost use Rattle.std.specs.Cmp.Rules.{comparing};
 ghost use Rattle.std.proofs.Common.{rules};
 
+use bucket_map::Placed;
 use cacheability::Tag;
-use std::hash::{Hash, Hasher};
+use std::cmp::Ordering;
 use std::marker::Model;
 
-/// A tag that is found by its hash. Contracts see it as the tag.
+/// A tag as a key: tags stand in the order of their texts, and the bytes of a tag's text tell its bucket. Contracts see it
+/// as the tag.
 #[derive(Clone, Copy, Debug)]
 pub(crate) struct Key(pub(crate) Tag);
 
@@ -42,30 +44,47 @@ impl Eq for Key {
     ghost laws = { Prim.search (comparing, rules) };
 }
 
-impl Hash for Key {
-    ghost use Rattle.tag_counts.specs.Key.{key_writes, keys_alike};
+impl PartialOrd for Key {
+    ghost use Rattle.std.specs.Prelude.{Some};
+    ghost use Rattle.cacheability.specs.Tag.{tag_cmp};
 
-    ghost hash_input = { key_writes };
+    ghost partial_cmp = { λ a b. Some (tag_cmp a b) };
 
-    ghost respects_eq = { keys_alike };
+    ghost laws = { Prim.search (comparing, rules) };
 
-    fn hash<H: Hasher>(&self, state: &mut H) {
-        match &self.0 {
-            Tag::Node(nid) => state.write_u64(u64::from(*nid)),
-            Tag::User(uid) => state.write_u64(0x1_0000_0000 + u64::from(*uid)),
-            Tag::Term(tid) => state.write_u64(0x2_0000_0000 + u64::from(*tid)),
-            Tag::NodeType(name)
-            | Tag::Role(name)
-            | Tag::NodeListOf(name)
-            | Tag::Menu(name)
-            | Tag::Listing(name)
-            | Tag::Block(name) => state.write(name.as_bytes()),
-            Tag::Site => state.write_u8(0),
-            Tag::TermList => state.write_u8(1),
-            Tag::NodeList => state.write_u8(2),
-            Tag::BlockList => state.write_u8(3),
-            Tag::Rendered => state.write_u8(4),
-            Tag::NotFound => state.write_u8(5),
-        }
+    fn partial_cmp(&self, other: &Self) -> Option<Ordering> {
+        Some(self.cmp(other))
+    }
+}
+
+impl Ord for Key {
+    ghost use Rattle.std.specs.Prelude.{refl};
+    ghost use Rattle.cacheability.specs.Tag.{tag_cmp, tag_text};
+    ghost use Rattle.std.specs.Cmp.Lexicographic.{on_texts};
+
+    ghost cmp = { tag_cmp };
+
+    ghost total = { on_texts tag_text };
+
+    ghost matches_partial_cmp = { λ a b. refl };
+
+    ghost matches_eq = { Prim.search (comparing, rules) };
+
+    fn cmp(&self, other: &Self) -> Ordering {
+        self.0.cmp(&other.0)
+    }
+}
+
+impl Placed for Key {
+    ghost use Rattle.tag_counts.specs.Key.{tag_place, tag_place_within, same_tags};
+
+    ghost place = { tag_place };
+
+    ghost within = { tag_place_within };
+
+    ghost exact = { same_tags };
+
+    fn place(&self) -> usize {
+        self.0.text_sum() as usize % 1_024
     }
 }

@@ -1,16 +1,19 @@
 //! How often each cache tag was invalidated.
 #![tactic(auto)]
 
-ghost use Rattle.std.specs.Prelude.{◌≡◌, ◌≢◌, ◌↔◌, ◌+◌, [], length, IfOk, OnOk, OnErr, IsErrOf, IfErr, IsTrue};
+ghost use Rattle.std.specs.Prelude.{◌≡◌, ◌≢◌, ◌↔◌, ◌≤◌, ◌+◌, [], length, IfOk, OnOk, OnErr, IsErrOf, IfErr, IfSome, IfNone, IsTrue};
+ghost use Rattle.bucket_map.specs.Buckets.{bucket_size};
+ghost use Rattle.tag_counts.specs.Key.{tag_place};
 ghost use Rattle.tag_counts.specs.declared.BumpFault.TheVariants as bump_fault;
 
 mod key;
 
+use bucket_map::{BucketMap, Steps};
 use cacheability::Tag;
 use key::Key;
 use std::alloc::{AllocError, AllocFailed, Global};
-use std::collections::HashMap;
 use std::marker::Model;
+use std::sync::ledger::Ledger;
 
 /// The count of this tag is 18,446,744,073,709,551,615 and cannot be raised.
 #[derive(Clone, Copy, Debug)]
@@ -25,6 +28,14 @@ pub enum BumpFault {
     OutOfMemory,
 }
 
+impl From<AllocError> for BumpFault {
+    ghost from_gives = { λ _ e. e ≡ bump_fault.OutOfMemory };
+
+    fn from(_fault: AllocError) -> BumpFault {
+        BumpFault::OutOfMemory
+    }
+}
+
 impl<T: Drop> From<AllocFailed<T>> for BumpFault {
     ghost from_gives = { λ _ e. e ≡ bump_fault.OutOfMemory };
 
@@ -34,11 +45,11 @@ impl<T: Drop> From<AllocFailed<T>> for BumpFault {
 }
 
 /// How often each tag was invalidated: a finite map from tags to counts, which contracts see as the
-/// list of its pairs in the order of the tags' texts. The count of an absent tag is 0.
+/// list of its pairs in the order of the tags' texts. The count of an absent tag is 0. Several owners may share what they
+/// have in common.
 /// <https://www.drupal.org/docs/drupal-apis/cache-api/cache-tags>
-#[derive(Debug)]
 pub struct Counts {
-    table: HashMap<Key, u64>,
+    table: BucketMap<Key, u64>,
 }
 
 impl Drop for Counts {
@@ -53,9 +64,7 @@ impl Model for Counts {
 
     ghost Value = { List (TagValue × ℕ) };
 
-    ghost use Rattle.tag_counts.specs.Counts.{in_order};
-
-    ghost view = { λ c. in_order c.table.entries };
+    ghost view = { λ c. c.table };
 }
 
 impl Counts {
@@ -67,7 +76,7 @@ impl Counts {
         ensures { result ≡ [] }
     {
         Counts {
-            table: HashMap::new(alloc),
+            table: BucketMap::new(alloc),
         }
     }
 
@@ -77,6 +86,7 @@ impl Counts {
         ensures same { result ≡ length self.now }
         ensures ordered { IsInOrder self.now }
     {
+        self.table.stands_in_order();
         self.table.len()
     }
 
@@ -91,9 +101,6 @@ impl Counts {
     pub fn count(&self, tag: &Tag) -> u64
         ensures { result ≡ count_of self.now tag.now }
     {
-        if self.table.is_empty() {
-            return 0;
-        }
         match self.table.get(&Key(*tag)) {
             Some(count) => *count,
             None => 0,
@@ -122,14 +129,36 @@ impl Counts {
         ensures full { IsErrOf result (BumpFault.Full (record { 0 = tag.now })) ↔ (count_of self.old tag.now ≡ 18_446_744_073_709_551_615) }
         ensures only { IfErr result (λ e. e ≢ BumpFault.Full (record { 0 = tag.now }) → e ≡ BumpFault.OutOfMemory) }
     {
-        let count = self.count(tag);
-        if count == u64::MAX {
-            return Err(BumpFault::Full(CountFull(*tag)));
+        match self.raised(tag) {
+            Some(count) => Ok(self.set(tag, count)?),
+            None => Err(BumpFault::Full(CountFull(*tag))),
         }
-        match self.set(tag, count + 1) {
-            Ok(()) => Ok(()),
-            Err(AllocError) => Err(BumpFault::OutOfMemory),
+    }
+
+    /// As `bump`, and it takes at most as many steps as the tag's bucket has counts, and one.
+    pub fn bump_counted<L: Ledger>(
+        &mut self,
+        tag: &Tag,
+        steps: &mut Steps<L>,
+    ) -> Result<(), BumpFault>
+        ensures ok { OnOk result (self.new ≡ bumped self.old tag.now) }
+        ensures err { OnErr result (self.new ≡ self.old) }
+        ensures full { IsErrOf result (BumpFault.Full (record { 0 = tag.now })) ↔ (count_of self.old tag.now ≡ 18_446_744_073_709_551_615) }
+        ensures only { IfErr result (λ e. e ≢ BumpFault.Full (record { 0 = tag.now }) → e ≡ BumpFault.OutOfMemory) }
+        ensures cost { steps.new ≤ steps.old + (bucket_size tag_place self.old (tag_place tag.now) + 1) }
+    {
+        match self.raised(tag) {
+            Some(count) => Ok(self.table.put(&Key(*tag), &count, steps)?),
+            None => Err(BumpFault::Full(CountFull(*tag))),
         }
+    }
+
+    /// One more than the count of a tag, where that is not the greatest.
+    fn raised(&self, tag: &Tag) -> Option<u64>
+        ensures some { IfSome result (λ count. count ≡ count_of self.now tag.now + 1) }
+        ensures none { IfNone result (count_of self.now tag.now ≡ 18_446_744_073_709_551_615) }
+    {
+        self.count(tag).checked_add(1)
     }
 
     /// Sets the count of a tag. `Err` only where memory is wanting, and then all counts are as they were.
@@ -140,17 +169,18 @@ impl Counts {
         ensures ordered { OnOk result (IsInOrder self.new) }
         ensures err { OnErr result (self.new ≡ self.old) }
     {
-        self.table.insert(Key(*tag), count)?;
-        Ok(())
+        self.table.stands_in_order();
+        self.table.set(&Key(*tag), &count)
     }
 
-    /// The same counts again, in memory of their own. `Err` only where memory is wanting.
+    /// The same counts again, which share all that they have. `Err` only where memory is wanting.
     pub fn duplicate(&self, _alloc: Global) -> Result<Counts, AllocError>
         ensures same { IfOk result (λ copy. copy ≡ self.now) }
         ensures ordered { IfOk result (λ copy. IsInOrder copy) }
     {
+        self.table.stands_in_order();
         Ok(Counts {
-            table: self.table.clone()?,
+            table: self.table.share()?,
         })
     }
 }

@@ -21,6 +21,8 @@ mod roles;
 #[cfg(test)]
 mod rows;
 #[cfg(test)]
+mod sharing;
+#[cfg(test)]
 mod starting;
 #[cfg(test)]
 mod tags;

@@ -47,7 +47,7 @@ pub fn fill(stored: &mut Stored, word: &[u8]) -> Result<bool, AllocError> {
 /// The cells that have rows, one a line.
 pub fn cells_text(alloc: Global, stored: &Stored) -> Result<Vec<u8>, AllocError> {
     let mut text = Vec::new(alloc);
-    for (cell, _) in stored.rows.iter() {
+    for (cell, _) in stored.rows.in_order(alloc)? {
         text.extend_from_slice(cell.text(alloc)?.as_slice())?;
         text.push(b'\n')?;
     }

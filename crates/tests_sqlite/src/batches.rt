@@ -2,7 +2,7 @@
 
 use cacheability::Tag;
 use content_rows::{Cell, Items, Row};
-use content_state::{Commit, Rows, Write};
+use content_state::{Commit, Write};
 use keeper_sqlite::tag_of;
 use row_json::row_from_json;
 use serde_json::Value;
@@ -173,7 +173,7 @@ pub(crate) fn held_by<K: Keeper>(alloc: Global, keeper: &mut K) -> Result<Seen, 
 
 fn in_short(stored: &Stored, told: u64) -> Seen {
     Seen {
-        rows: row_count(&stored.rows),
+        rows: stored.rows.len(),
         next_node: number_in(stored, Cell::Seq),
         version: number_in(stored, Cell::Node(1)),
         tags: stored.counts.len(),
@@ -181,15 +181,6 @@ fn in_short(stored: &Stored, told: u64) -> Seen {
         head: stored.head,
         told,
     }
-}
-
-/// How many rows there are.
-fn row_count(rows: &Rows) -> usize {
-    let mut count: usize = 0;
-    'rows: for _ in rows.iter() {
-        count = count.saturating_add(1);
-    }
-    count
 }
 
 /// The next node's id, or a node's version; 0 where the cell holds none.

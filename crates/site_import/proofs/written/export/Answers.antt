@@ -11,8 +11,8 @@ pub rows-init : goal.rows-init
 rows-init g c =
     let rows = c.args.state.now.rows in
     let sink = g.O.Sink.written c.args.sink.now in
-    let is : c.into_iter-cell-iterator.result ≡ rows = c.into_iter-cell-iterator.ensures.into_iter_gives ∙ c.iter-cell-items.ensures.rest ∙ c.rows-rows.ensures in record {
-      ordered = subst InOrder c.rows-rows.ensures c.iter-cell-items.ensures.ordered;
+    let is : c.into_iter-cell-iterator.result ≡ rows = c.into_iter-cell-iterator.ensures.into_iter_gives ∙ c.in_ok-rows.ensures.rows ∙ c.rows-2.ensures in record {
+      ordered = subst InOrder c.rows-2.ensures c.in_ok-rows.ensures.ordered;
       written = subst (λ (l : Stored). WrittenSoFar sink sink rows l) (sym is) (none_written sink rows);
       told = subst (λ (l : Stored). ToldSoFar rows l) (sym is) (none_so_far (λ e. TellsItsRow e.0 e.1) rows);
       faults = refl;
@@ -21,7 +21,7 @@ rows-init g c =
 pub rows-preserved : goal.rows-preserved
 rows-preserved g c =
     let rows = c.args.state.now.rows in
-    let e : Cell × Row = (c.in-Some.cell.now, c.in-Some.row.now) in
+    let e : Cell × Row = (c.in-Some.cell, c.in-Some.row.now) in
     let sink = g.O.Sink.written c.args.sink.now in record {
       ordered = c.rows.invariant.ordered;
       written = one_written sink (g.O.Sink.written c.rows.sink) (g.O.Sink.written c.write_row.new.sink) rows c.rows.cell-iterator c.next.new.self e c.in-Some.ensures.steps c.in_ok-write_row.ensures.whole c.rows.invariant.written;
@@ -31,8 +31,8 @@ rows-preserved g c =
 
 pub returns-in_err-write_row-clause-front : goal.returns-in_err-write_row-clause-front
 returns-in_err-write_row-clause-front g c =
-    on_err c.from_residual.result
-    (front_written (g.O.Sink.written c.args.sink.now) (g.O.Sink.written c.rows.sink) (g.O.Sink.written c.write_row.new.sink) c.args.state.now.rows c.rows.cell-iterator c.next.new.self (c.in-Some.cell.now, c.in-Some.row.now) c.in-Some.ensures.steps c.in_err-write_row.ensures.front c.rows.invariant.written)
+    on_err c.from_residual-in_err-write_row.result
+    (front_written (g.O.Sink.written c.args.sink.now) (g.O.Sink.written c.rows.sink) (g.O.Sink.written c.write_row.new.sink) c.args.state.now.rows c.rows.cell-iterator c.next.new.self (c.in-Some.cell, c.in-Some.row.now) c.in-Some.ensures.steps c.in_err-write_row.ensures.front c.rows.invariant.written)
 
 pub returns-clause-whole : goal.returns-clause-whole
 returns-clause-whole g c =

@@ -1,8 +1,17 @@
-use Rattle.std.proofs.Common.{refl}
+use Rattle.std.proofs.Common.{refl, sym, subst}
 use Rattle.std.proofs.lemmas.Bool.{both_ways}
+use Rattle.std.proofs.lemmas.List.Sorted.{All-permutation, IsPermutation-sym}
 use Rattle.content_rows.specs.ValidRow.{IsValidRow}
-use Rattle.content_state.proofs.RightRows.{none_left, first_right, first_wrong}
+use Rattle.content_state.proofs.RightRows.{AllRight, One, none_left, first_right, first_wrong}
 use Rattle.content_state.proofs.rows.Rows.are_right.Goals as goal
+
+pub rows-init : goal.rows-init
+rows-init c =
+    let is = c.into_iter-cell-iterator.ensures.into_iter_gives in
+    let moved = c.each-cell-items.ensures in (
+      λ h. All-permutation One _ _ (IsPermutation-sym _ _ moved) (subst AllRight is h),
+      λ h. subst AllRight (sym is) (All-permutation One _ _ moved h),
+    )
 
 pub returns-then-not-is_right : goal.returns-then-not-is_right
 returns-then-not-is_right c =

@@ -1,0 +1,6 @@
+//! Cells as the keys of maps in buckets.
+#![tactic(auto)]
+
+mod key;
+
+pub use key::CellKey;

@@ -1,0 +1,5 @@
+pub mod Ranks
+pub mod Keys
+pub mod Exact
+pub mod Named
+pub mod Spans

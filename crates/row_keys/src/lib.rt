@@ -1,0 +1,13 @@
+//! The keys by which the rows of a state are found: nodes in the order of listings, of a type, or with a term, and blocks in
+//! their regions. Each key names the cell that it came from.
+#![tactic(auto)]
+
+mod blocks;
+mod key;
+mod nodes;
+mod rank;
+
+pub use blocks::{OfRegion, region_place};
+pub use key::Key;
+pub use nodes::{AllNodes, OfType, WithTerm};
+pub use rank::{BlockKey, BlockRank, NodeRank, TermKey, TypeKey, node_rank};

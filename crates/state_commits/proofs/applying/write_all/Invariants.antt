@@ -1,7 +1,0 @@
-use Rattle.std.proofs.Common.{◌≡◌, take, fold}
-use Rattle.content_state.specs.Replay.{written}
-use Rattle.state_commits.proofs.applying.write_all.Given as goal
-
--- so far the writes so far are made
-abbrev pub invariant-writes : goal.invariant-writes
-invariant-writes l = l.rows ≡ fold written l.initial.rows (take l.write-index l.writes)
