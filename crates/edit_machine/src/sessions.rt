@@ -10,7 +10,7 @@ use crate::permission;
 use access_result::Reason;
 use cacheability::{Name, Tag};
 use content_rows::{Cell, Items, Row, Session, User};
-use content_state::{Commit, Rows, State, Viewer};
+use content_state::{Commit, State, Unique, Viewer};
 use site_access::Account;
 use site_commands::{Credentials, Done, Refusal, Verdict};
 use site_passwords::check_pass;
@@ -43,16 +43,16 @@ fn user_with(state: &State, asked: &Credentials) -> Option<u32>
     ensures { result ≡ option_map (λ found. found.0) (user_with state.now.rows asked.now.name asked.now.pass) }
 {
     match (&asked.name, &asked.pass) {
-        (Some(name), Some(pass)) => first_user(state.rows(), name.as_slice(), pass.as_slice()),
+        (Some(name), Some(pass)) => first_user(state, name.as_slice(), pass.as_slice()),
         _ => None,
     }
 }
 
 /// The id of the first active user that has the name and the password.
-fn first_user(rows: &Rows, name: &[u8], pass: &[u8]) -> Option<u32>
-    ensures { result ≡ option_map (λ found. found.0) (find (λ e. is_user_with name.now pass.now e.1) (users_of rows.now)) }
+fn first_user(state: &State, name: &[u8], pass: &[u8]) -> Option<u32>
+    ensures { result ≡ option_map (λ found. found.0) (find (λ e. is_user_with name.now pass.now e.1) (users_of state.now.rows)) }
 {
-    'rows: for (cell, row) in rows.iter() {
+    'rows: for (cell, row) in state.rows_with(Unique::UserName, name) {
         if let (Cell::User(uid), Row::User(user)) = (cell, row) {
             if is_user_with(name, pass, user) {
                 return Some(*uid);

@@ -1,4 +1,3 @@
-pub mod Orders
 pub mod Ranks
 pub mod There
 pub mod Digits
@@ -6,3 +5,5 @@ pub mod Menus
 pub mod Roles
 pub mod ListingPlans
 pub mod VisiblePlans
+pub mod RegionBlocks
+pub mod ChosenLaws

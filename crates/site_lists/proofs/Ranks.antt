@@ -13,24 +13,24 @@ use Rattle.content_rows.specs.declared.row.Row.{Row}
 use Rattle.content_rows.specs.declared.row.Node.{Node}
 use Rattle.content_rows.specs.declared.row.Listing.{Listing}
 use Rattle.content_state.specs.Rows.{nodes_of, nodes_of_type}
-use Rattle.site_lists.specs.declared.rank.NodeRank.{NodeRank}
-use Rattle.site_lists.specs.contracts.rank.NodeRankPartialEq.TheImpl as same
-use Rattle.site_lists.specs.contracts.rank.NodeRankOrd.TheImpl.Laws as laws
+use Rattle.row_keys.specs.declared.rank.NodeRank.{NodeRank}
+use Rattle.row_keys.specs.contracts.rank.NodeRankPartialEq.TheImpl as same
+use Rattle.row_keys.specs.contracts.rank.NodeRankOrd.TheImpl.Laws as laws
 use Rattle.site_lists.specs.Listed.{in_order, rank_of, rank_cmp, is_listed, is_of_types, has_term, is_recent, ids_in_order, candidates}
-use Rattle.site_lists.proofs.Orders.{same_order, filter_in_order}
+use Rattle.index_law.proofs.Orders.{same_order, filter_in_order}
 
 same_rank : (a b : NodeRank) → same.ghosts.eq a b ≡ true → a ≡ b
 same_rank a b h = search rules
 
-rank_exact : CmpEqualImpliesEq rank_cmp
+pub rank_exact : CmpEqualImpliesEq rank_cmp
 rank_exact a b h = same_rank a b (laws.matches_eq-law a b ∙ ap is_eq h)
 
-rank_total : IsTotalOrder rank_cmp
+pub rank_total : IsTotalOrder rank_cmp
 rank_total = laws.total-law
 
 -- ---- tests of lists
 
-map_filter_any : {X Y : Type 0} (f : X → Y) (p : X → Bool) (t : Y → Bool) (xs : List X) → list_any t (map f (filter p xs)) ≡ list_any (λ x. p x && t (f x)) xs
+pub map_filter_any : {X Y : Type 0} (f : X → Y) (p : X → Bool) (t : Y → Bool) (xs : List X) → list_any t (map f (filter p xs)) ≡ list_any (λ x. p x && t (f x)) xs
 map_filter_any f p t [] = refl
 map_filter_any f p t (x ∷ xs) = elim (p x) as (λ b. list_any t (map f (if b then x ∷ filter p xs else filter p xs)) ≡ ((b && t (f x)) || list_any (λ y. p y && t (f y)) xs)) [
   | true ↦ ap (λ b. t (f x) || b) (map_filter_any f p t xs)
@@ -44,7 +44,7 @@ any_filter p t (x ∷ xs) = elim (p x) as (λ b. list_any t (if b then x ∷ fil
   | false ↦ any_filter p t xs
 ]
 
-any_never : {X : Type 0} (xs : List X) → false ≡ list_any (λ x. false) xs
+pub any_never : {X : Type 0} (xs : List X) → false ≡ list_any (λ x. false) xs
 any_never [] = refl
 any_never (x ∷ xs) = any_never xs
 
@@ -54,7 +54,7 @@ four_or false true true d = refl
 four_or false true false d = refl
 four_or false false c d = refl
 
-any_or : {X : Type 0} (p t : X → Bool) (xs : List X) → (list_any p xs || list_any t xs) ≡ list_any (λ x. p x || t x) xs
+pub any_or : {X : Type 0} (p t : X → Bool) (xs : List X) → (list_any p xs || list_any t xs) ≡ list_any (λ x. p x || t x) xs
 any_or p t [] = refl
 any_or p t (x ∷ xs) = four_or (p x) (list_any p xs) (t x) (list_any t xs) ∙ ap (λ b. (p x || t x) || b) (any_or p t xs)
 

@@ -63,7 +63,7 @@ module _ {X : Type 0} (P : X → Type 0) where
 
 -- ---- the nodes of rows in order
 
-abbrev Found : List (Cell × Row) → ℕ × Node → Type 0
+abbrev pub Found : List (Cell × Row) → ℕ × Node → Type 0
 Found rows e = node_of rows e.0 ≡ Some e.1
 
 same_some : {X : Type 0} (a b : X) → Some a ≡ Some b → a ≡ b
@@ -93,7 +93,7 @@ found_first e es x is =
     ap is_eq (subst (λ k. cell_cmp (cell.Node x.0) k ≡ Equal) (sym (entry_cell e x is)) (tied_itself cell_cmp_total (cell.Node x.0))) in
     ap (option_and_then as_node) (lookup_head (is_at (cell_cmp (cell.Node x.0))) e es level ∙ ap Some (entry_row e x is))
 
-nodes_found : (rows : List (Cell × Row)) → IsStrictlySortedBy cell_cmp (keys_of rows) → AllByRecursion (Found rows) (nodes_of rows)
+pub nodes_found : (rows : List (Cell × Row)) → IsStrictlySortedBy cell_cmp (keys_of rows) → AllByRecursion (Found rows) (nodes_of rows)
 nodes_found [] sorted = tt
 nodes_found (e ∷ es) sorted =
     let later = weaker (Found es) (Found (e ∷ es)) (λ x found. found_later e es x sorted found) (nodes_of es) (nodes_found es (sorted_tail cell_cmp e.0 (keys_of es) sorted)) in

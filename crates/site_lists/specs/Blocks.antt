@@ -9,8 +9,8 @@ use Rattle.content_rows.specs.declared.row.Block.{Block}
 use Rattle.content_rows.specs.declared.row.Region.{Region}
 use Rattle.content_rows.specs.declared.row.Region.TheVariants as region
 use Rattle.content_state.specs.Rows.{blocks_of}
-use Rattle.site_lists.specs.declared.rank.BlockRank.{BlockRank}
-use Rattle.site_lists.specs.contracts.rank.BlockRankOrd.TheImpl as block_ranks
+use Rattle.row_keys.specs.declared.rank.BlockRank.{BlockRank}
+use Rattle.row_keys.specs.contracts.rank.BlockRankOrd.TheImpl as block_ranks
 use Rattle.site_lists.specs.Listed.{in_order}
 
 abbrev pub is_region : Region → Region → Bool

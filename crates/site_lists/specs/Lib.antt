@@ -4,3 +4,4 @@ pub mod MenuPlaces
 pub mod Blocks
 pub mod Visible
 pub mod ListingPlan
+pub mod Chosen

@@ -12,8 +12,8 @@ use Rattle.content_rows.specs.declared.row.Row.{Row}
 use Rattle.content_rows.specs.declared.row.Node.{Node}
 use Rattle.content_rows.specs.declared.row.Listing.{Listing}
 use Rattle.content_state.specs.Rows.{nodes_of}
-use Rattle.site_lists.specs.declared.rank.NodeRank.{NodeRank}
-use Rattle.site_lists.specs.contracts.rank.NodeRankOrd.TheImpl as node_ranks
+use Rattle.row_keys.specs.declared.rank.NodeRank.{NodeRank}
+use Rattle.row_keys.specs.contracts.rank.NodeRankOrd.TheImpl as node_ranks
 
 -- some things in their order, each once
 abbrev pub in_order : {K : Type 0} → (K → K → Ordering) → List K → List K

@@ -3,23 +3,23 @@
 #![tactic(auto)]
 
 mod blocks;
+mod chosen;
 mod front;
 mod laws;
 mod listed;
 mod names;
 mod paging;
 mod query;
-mod rank;
 mod trail;
 mod tree;
 mod visible;
 
 pub use blocks::blocks_of;
 pub use laws::plans_answer;
-pub use listed::{candidates, list_tags, term_listing};
+pub use listed::{candidates, candidates_counted, list_tags, term_listing};
 pub use paging::{Page, page_asked, page_at, page_of};
 pub use query::query_value;
-pub use rank::{BlockRank, NodeRank};
+pub use row_keys::{BlockRank, NodeRank};
 pub use trail::active_trail;
 pub use tree::{MenuPlace, menu_tree};
 pub use visible::block_visible;

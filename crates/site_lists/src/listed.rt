@@ -1,31 +1,28 @@
 //! The nodes of a listing.
-ghost use Rattle.std.specs.Prelude.{◌≡◌, ◌==◌, All, IfOk, IsSome, map};
-ghost use Rattle.std.specs.List.{list_any, filter};
-ghost use Rattle.std.specs.List.Sorted.{IsStrictlySortedBy};
-ghost use Rattle.std.specs.Map.{keys_of};
-ghost use Rattle.content_rows.specs.CellOrder.{cell_cmp};
-ghost use Rattle.content_state.specs.Rows.{node_of, nodes_of};
+ghost use Rattle.std.specs.Prelude.{◌≡◌, ◌==◌, ◌<◌, ◌≤◌, ◌+◌, All, IfOk, IsSome, map};
+ghost use Rattle.std.specs.List.{list_any};
+ghost use Rattle.content_state.specs.Rows.{node_of};
+ghost use Rattle.site_lists.specs.Chosen.{published_count};
 ghost use Rattle.site_lists.specs.Listed.{
   candidates as listed_ids,
   term_listing as listing_of_term,
   list_tags as tags_of_types,
-  in_order,
   is_listed,
   is_of_types,
   has_term,
   is_recent,
-  rank_of,
-  rank_cmp,
 };
 
+use crate::chosen::{Asked, chosen};
 use crate::names::is_among;
-use crate::rank::NodeRank;
 use cacheability::{Name, Tag};
-use content_rows::{Cell, Items, Listing, Node, Row, Text};
-use content_state::{Rows, State};
+use content_rows::{Items, Listing, Node, Text};
+use content_state::{NodeReads, State};
+use row_keys::NodeRank;
 use std::alloc::{AllocError, Global};
-use std::cmp::Reverse;
 use std::collections::BTreeSet;
+use std::marker::Brand;
+use std::sync::ledger::{Blank, Ledger};
 
 /// The ids of the nodes that a listing has at a moment, in seconds since 1970, where access to them
 /// allows: published, promoted if the listing asks for it, of its types, with its term, and made
@@ -41,7 +38,48 @@ pub fn candidates(
     ensures ids { IfOk result (λ ids. ids.items ≡ listed_ids state.now.rows listing.now moment) }
     ensures there { IfOk result (λ ids. All (λ n. IsSome (node_of state.now.rows n)) ids.items) }
 {
-    let ranks = ranks_of(alloc, state.rows(), listing, moment)?;
+    candidates_from::<Brand>(alloc, state, listing, moment, Blank::new(1))
+}
+
+/// The same, in a count of its own.
+fn candidates_from<L: Ledger>(
+    alloc: Global,
+    state: &State,
+    listing: &Listing,
+    moment: u64,
+    blank: Blank,
+) -> Result<Vec<u32>, AllocError>
+    requires name { blank.name ≡ L.name }
+    requires parts { blank.parts ≡ L.parts }
+    requires some { 0 < L.parts }
+    ensures ids { IfOk result (λ ids. ids.items ≡ listed_ids state.now.rows listing.now moment) }
+    ensures there { IfOk result (λ ids. All (λ n. IsSome (node_of state.now.rows n)) ids.items) }
+{
+    let mut reads = NodeReads::<L>::new(blank);
+    candidates_counted(alloc, state, listing, moment, &mut reads)
+}
+
+/// What `candidates` gives. It reads at most as many nodes as are published with the listing's term, where it has one, else
+/// as are published of its types, by the sum over these, where it has any, else as are published.
+#[tactic(auto, using(crate::proofs::ChosenLaws::count_right))]
+pub fn candidates_counted<L: Ledger>(
+    alloc: Global,
+    state: &State,
+    listing: &Listing,
+    moment: u64,
+    reads: &mut NodeReads<L>,
+) -> Result<Vec<u32>, AllocError>
+    ensures ids { IfOk result (λ ids. ids.items ≡ listed_ids state.now.rows listing.now moment) }
+    ensures there { IfOk result (λ ids. All (λ n. IsSome (node_of state.now.rows n)) ids.items) }
+    ensures reads { reads.new ≤ reads.old + published_count state.now.rows listing.now.term listing.now.types }
+{
+    state.stands_in_order();
+    let asked = Asked {
+        state,
+        listing,
+        moment,
+    };
+    let ranks = chosen(alloc, &asked, reads)?;
     ids_of(alloc, &ranks)
 }
 
@@ -56,40 +94,8 @@ fn ids_of(alloc: Global, ranks: &BTreeSet<NodeRank>) -> Result<Vec<u32>, AllocEr
     Ok(ids)
 }
 
-/// What places the nodes that a listing has, in their order; the rows are in the order of their cells.
-fn ranks_of(
-    alloc: Global,
-    rows: &Rows,
-    listing: &Listing,
-    moment: u64,
-) -> Result<BTreeSet<NodeRank>, AllocError>
-    ensures ordered { IsStrictlySortedBy cell_cmp (keys_of rows.now) }
-    ensures ranks { IfOk result (λ ranks. ranks.keys ≡ in_order rank_cmp (map rank_of (filter (λ e. is_listed listing.now moment e.1) (nodes_of rows.now)))) }
-{
-    let mut ranks = BTreeSet::new(alloc);
-    'rows: for (cell, row) in rows.iter() {
-        if let (Cell::Node(id), Row::Node(node)) = (cell, row) {
-            if is_listed(listing, moment, node) {
-                ranks.insert(rank(*id, node))?;
-            }
-        }
-    }
-    Ok(ranks)
-}
-
-/// What places a node.
-fn rank(id: u32, node: &Node) -> NodeRank
-    ensures { result ≡ rank_of (id, node.now) }
-{
-    NodeRank {
-        sticky: Reverse(node.sticky),
-        created: Reverse(node.created),
-        id: Reverse(id),
-    }
-}
-
 /// Whether a listing has a node at a moment, where access to the node allows.
-fn is_listed(listing: &Listing, moment: u64, node: &Node) -> bool
+pub fn is_listed(listing: &Listing, moment: u64, node: &Node) -> bool
     ensures { result ≡ is_listed listing.now moment node.now }
 {
     node.status

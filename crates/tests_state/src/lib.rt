@@ -11,6 +11,8 @@ mod contexts;
 #[cfg(test)]
 mod keeping;
 #[cfg(test)]
+mod listings;
+#[cfg(test)]
 mod pages;
 #[cfg(test)]
 mod routes;

@@ -1,27 +1,29 @@
 //! Who else has what no two rows may have, and whether nodes have a type.
-ghost use Rattle.std.specs.Prelude.{◌≡◌};
+ghost use Rattle.std.specs.Prelude.{◌≡◌, not};
 ghost use Rattle.std.specs.Option.{option_copied};
-ghost use Rattle.valid_edits.specs.Holders.{holder, path_holder, is_other_with, is_node_of, is_used};
+ghost use Rattle.std.specs.Ordering.{is_eq};
+ghost use Rattle.content_rows.specs.CellOrder.{cell_cmp};
+ghost use Rattle.valid_edits.specs.Holders.{holder, path_holder, is_node_of, is_used};
 
 use cacheability::Name;
 use content_rows::{Cell, Row, Text};
-use content_state::{State, Unique, has_text};
+use content_state::{State, Unique};
 
-/// The first cell in cell order, other than this one, whose row has the text as what no two rows may have. It looks at
-/// every row, and takes no memory.
+/// The first cell in cell order, other than this one, whose row has the text as what no two rows may have. It takes no
+/// memory.
 pub fn holder<'a>(state: &'a State, cell: &Cell, what: Unique, text: &Text) -> Option<&'a Cell>
     ensures { option_copied result ≡ holder state.now.rows cell.now what text.now }
 {
-    'rows: for (other, row) in state.rows().iter() {
-        if is_other_with(cell, what, text, other, row) {
+    'rows: for (other, _) in state.rows_with(what, text.as_slice()) {
+        if is_other(cell, other) {
             return Some(other);
         }
     }
     None
 }
 
-/// The first cell in cell order, other than this one, whose row has the path; none where there is no path. It looks at
-/// every row, and takes no memory.
+/// The first cell in cell order, other than this one, whose row has the path; none where there is no path. It takes no
+/// memory.
 /// <https://api.drupal.org/api/drupal/core%21modules%21path_alias%21src%21Plugin%21Validation%21Constraint%21UniquePathAliasConstraint.php/class/UniquePathAliasConstraint/10>
 pub fn path_holder<'a>(state: &'a State, cell: &Cell, path: &Option<Text>) -> Option<&'a Cell>
     ensures { option_copied result ≡ path_holder state.now.rows cell.now path.now }
@@ -32,11 +34,11 @@ pub fn path_holder<'a>(state: &'a State, cell: &Cell, path: &Option<Text>) -> Op
     }
 }
 
-/// Whether an entry is of another cell and its row has the text.
-fn is_other_with(cell: &Cell, what: Unique, text: &Text, other: &Cell, row: &Row) -> bool
-    ensures { result ≡ is_other_with cell.now what text.now (other.now, row.now) }
+/// Whether two cells differ.
+fn is_other(cell: &Cell, other: &Cell) -> bool
+    ensures { result ≡ not (is_eq (cell_cmp other.now cell.now)) }
 {
-    other.order(cell).is_ne() && has_text(what, row, text)
+    other.order(cell).is_ne()
 }
 
 /// Whether a node has the type. It looks at every row, and takes no memory.
@@ -44,7 +46,7 @@ fn is_other_with(cell: &Cell, what: Unique, text: &Text, other: &Cell, row: &Row
 pub fn is_used(state: &State, node_type: Name) -> bool
     ensures { result ≡ is_used state.now.rows node_type }
 {
-    'rows: for (_, row) in state.rows().iter() {
+    'rows: for (_, row) in state.rows().each() {
         if is_node_of(node_type, row) {
             return true;
         }

@@ -7,4 +7,4 @@ use Rattle.edit_machine.proofs.sessions.first_user.Given as goal
 abbrev pub invariant-rows : goal.invariant-rows
 invariant-rows l =
     find (λ e. is_user_with l.name l.pass e.1) (users_of l.cell-iterator)
-    ≡ find (λ e. is_user_with l.name l.pass e.1) (users_of l.rows)
+    ≡ find (λ e. is_user_with l.name l.pass e.1) (users_of l.fn.state.rows)

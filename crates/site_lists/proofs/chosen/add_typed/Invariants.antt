@@ -1,0 +1,17 @@
+use Rattle.std.proofs.Common.{◌≡◌, ◌+◌, fold, map, length}
+use Rattle.std.specs.BTreeSet.{insert_key}
+use Rattle.std.specs.List.{filter}
+use Rattle.content_state.specs.Ranked.{published_of}
+use Rattle.site_lists.specs.Chosen.{passes}
+use Rattle.site_lists.specs.Listed.{rank_cmp}
+use Rattle.site_lists.proofs.chosen.add_typed.Given as goal
+
+-- with those that are left, all are there, and all are read
+abbrev pub invariant-keys : goal.invariant-keys
+invariant-keys g l =
+    let rows = l.asked.state.now.rows in
+    let p = passes rows l.asked.listing.now l.asked.moment in
+    record {
+      ranks : fold (insert_key rank_cmp) l.ranks.keys (filter p (map (λ k. k.rank) l.key-iterator)) ≡ fold (insert_key rank_cmp) l.fn.ranks.keys (filter p (map (λ k. k.rank) (published_of rows l.fn.node_type)));
+      reads : l.reads + length l.key-iterator ≡ l.fn.reads + length (published_of rows l.fn.node_type);
+    }

@@ -1,0 +1,39 @@
+-- Among which nodes a listing's are sought, by the indexes of a state.
+use Rattle.std.specs.Prelude.{ℕ, List, [], ◌∷◌, Bool, false, ◌==◌, ◌&&◌, Option, Some, None, map, length}
+use Rattle.std.specs.List.{filter, flat_map, list_any, sum_by}
+use Rattle.std.specs.Str.{bytes_eq}
+use Rattle.content_rows.specs.declared.cell.Cell.{Cell}
+use Rattle.content_rows.specs.declared.row.Row.{Row}
+use Rattle.content_rows.specs.declared.row.Node.{Node}
+use Rattle.content_rows.specs.declared.row.Listing.{Listing}
+use Rattle.row_keys.specs.declared.rank.NodeRank.{NodeRank}
+use Rattle.content_state.specs.Rows.{node_of, nodes_of}
+use Rattle.content_state.specs.Ranked.{published, published_of, published_with}
+use Rattle.site_lists.specs.Listed.{is_listed}
+
+-- whether a listing has the node of a rank, if it is there
+abbrev pub has_node : Listing → ℕ → Option Node → Bool
+has_node listing moment None = false
+has_node listing moment (Some node) = is_listed listing moment node
+
+abbrev pub passes : List (Cell × Row) → Listing → ℕ → NodeRank → Bool
+passes rows listing moment rank = has_node listing moment (node_of rows rank.id.0)
+
+-- the ranks of the published nodes with a term, and of those of a type
+abbrev pub ranks_with : List (Cell × Row) → ℕ → List NodeRank
+ranks_with rows term = map (λ k. k.rank) (published_with rows term)
+
+abbrev pub ranks_typed : List (Cell × Row) → List ℕ → List NodeRank
+ranks_typed rows type = map (λ k. k.rank) (published_of rows type)
+
+-- the least that the indexes give: the nodes with its term, else those of its types, else all
+abbrev pub ranks_among : List (Cell × Row) → Option ℕ → List (List ℕ) → List NodeRank
+ranks_among rows (Some term) types = ranks_with rows term
+ranks_among rows None [] = published rows
+ranks_among rows None (t ∷ ts) = flat_map (ranks_typed rows) (t ∷ ts)
+
+-- how many published nodes have its term, else are of its types, by the sum over these, else are there
+abbrev pub published_count : List (Cell × Row) → Option ℕ → List (List ℕ) → ℕ
+published_count rows (Some term) types = length (filter (λ e. e.1.status && list_any (λ t. t == term) e.1.terms) (nodes_of rows))
+published_count rows None [] = length (filter (λ e. e.1.status) (nodes_of rows))
+published_count rows None (t ∷ ts) = sum_by (λ type. length (filter (λ e. e.1.status && bytes_eq e.1.node_type type) (nodes_of rows))) (t ∷ ts)

@@ -1,0 +1,160 @@
+//! The nodes of a listing, sought in the least fitting index.
+ghost use Rattle.std.specs.Prelude.{◌≡◌, ◌+◌, ◌≤◌, IfOk, OnOk, cond, fold, length};
+ghost use Rattle.std.specs.BTreeSet.{insert_key};
+ghost use Rattle.std.specs.List.{filter, flat_map};
+ghost use Rattle.content_state.specs.Ranked.{published};
+ghost use Rattle.site_lists.specs.Chosen.{passes, ranks_with, ranks_typed, ranks_among};
+ghost use Rattle.site_lists.specs.Listed.{in_order, rank_cmp};
+
+use crate::listed::is_listed;
+use cacheability::Name;
+use content_rows::Listing;
+use content_state::{NodeReads, State};
+use row_keys::NodeRank;
+use std::alloc::{AllocError, Global};
+use std::collections::BTreeSet;
+use std::sync::ledger::Ledger;
+
+/// A listing, asked for on a state at a moment.
+pub struct Asked<'a> {
+    pub state: &'a State,
+    pub listing: &'a Listing,
+    pub moment: u64,
+}
+
+impl<'a> Drop for Asked<'a> {
+    fn drop(self) {
+        let Asked {
+            state: _,
+            listing: _,
+            moment: _,
+        } = self;
+    }
+}
+
+/// What places the nodes that the listing has, in their order. Nodes are read with its term alone, where it has one, else of
+/// its types alone, where it has any.
+pub fn chosen<L: Ledger>(
+    alloc: Global,
+    asked: &Asked<'_>,
+    reads: &mut NodeReads<L>,
+) -> Result<BTreeSet<NodeRank>, AllocError>
+    ensures ranks { IfOk result (λ ranks. ranks.keys ≡ in_order rank_cmp (filter (passes asked.now.state.now.rows asked.now.listing.now asked.now.moment) (ranks_among asked.now.state.now.rows asked.now.listing.now.term asked.now.listing.now.types))) }
+    ensures reads { reads.new ≤ reads.old + length (ranks_among asked.now.state.now.rows asked.now.listing.now.term asked.now.listing.now.types) }
+{
+    let mut ranks = BTreeSet::new(alloc);
+    add_among(&mut ranks, asked, reads)?;
+    Ok(ranks)
+}
+
+/// Adds the nodes with the listing's term, where it has one, else those of its types, where it has any, else all.
+fn add_among<L: Ledger>(
+    ranks: &mut BTreeSet<NodeRank>,
+    asked: &Asked<'_>,
+    reads: &mut NodeReads<L>,
+) -> Result<(), AllocError>
+    ensures ranks { OnOk result (ranks.new.keys ≡ fold (insert_key rank_cmp) ranks.old.keys (filter (passes asked.now.state.now.rows asked.now.listing.now asked.now.moment) (ranks_among asked.now.state.now.rows asked.now.listing.now.term asked.now.listing.now.types))) }
+    ensures reads { reads.new ≤ reads.old + length (ranks_among asked.now.state.now.rows asked.now.listing.now.term asked.now.listing.now.types) }
+{
+    match asked.listing.term {
+        Some(term) => add_with(ranks, asked, term, reads),
+        None => match asked.listing.types.as_slice() {
+            [] => add_all(ranks, asked, reads),
+            [_, ..] => add_of(ranks, asked, asked.listing.types.as_slice(), reads),
+        },
+    }
+}
+
+/// Adds the node of a rank, where the listing has it.
+fn add_rank<L: Ledger>(
+    ranks: &mut BTreeSet<NodeRank>,
+    asked: &Asked<'_>,
+    rank: &NodeRank,
+    reads: &mut NodeReads<L>,
+) -> Result<(), AllocError>
+    ensures ranks { OnOk result (ranks.new.keys ≡ cond (passes asked.now.state.now.rows asked.now.listing.now asked.now.moment rank.now) (insert_key rank_cmp ranks.old.keys rank.now) ranks.old.keys) }
+    ensures reads { reads.new ≡ reads.old + 1 }
+{
+    if !is_there(asked, rank, reads) {
+        return Ok(());
+    }
+    ranks.insert(*rank)?;
+    Ok(())
+}
+
+/// Whether the listing has the node of a rank, which is read.
+fn is_there<L: Ledger>(asked: &Asked<'_>, rank: &NodeRank, reads: &mut NodeReads<L>) -> bool
+    ensures there { result ≡ passes asked.now.state.now.rows asked.now.listing.now asked.now.moment rank.now }
+    ensures reads { reads.new ≡ reads.old + 1 }
+{
+    match asked.state.node_counted(rank.id.0, reads) {
+        Some(node) => is_listed(asked.listing, asked.moment, node),
+        None => false,
+    }
+}
+
+/// Adds the nodes with a term.
+#[tactic(auto, using(crate::proofs::ChosenLaws::one_more))]
+fn add_with<L: Ledger>(
+    ranks: &mut BTreeSet<NodeRank>,
+    asked: &Asked<'_>,
+    term: u32,
+    reads: &mut NodeReads<L>,
+) -> Result<(), AllocError>
+    ensures ranks { OnOk result (ranks.new.keys ≡ fold (insert_key rank_cmp) ranks.old.keys (filter (passes asked.now.state.now.rows asked.now.listing.now asked.now.moment) (ranks_with asked.now.state.now.rows term))) }
+    ensures reads { reads.new ≤ reads.old + length (ranks_with asked.now.state.now.rows term) }
+{
+    'keys: for key in asked.state.published_with(term) {
+        add_rank(ranks, asked, &key.rank, reads)?;
+    }
+    Ok(())
+}
+
+/// Adds all nodes.
+#[tactic(auto, using(crate::proofs::ChosenLaws::one_more))]
+fn add_all<L: Ledger>(
+    ranks: &mut BTreeSet<NodeRank>,
+    asked: &Asked<'_>,
+    reads: &mut NodeReads<L>,
+) -> Result<(), AllocError>
+    ensures ranks { OnOk result (ranks.new.keys ≡ fold (insert_key rank_cmp) ranks.old.keys (filter (passes asked.now.state.now.rows asked.now.listing.now asked.now.moment) (published asked.now.state.now.rows))) }
+    ensures reads { reads.new ≤ reads.old + length (published asked.now.state.now.rows) }
+{
+    'keys: for rank in asked.state.published() {
+        add_rank(ranks, asked, rank, reads)?;
+    }
+    Ok(())
+}
+
+/// Adds the nodes of a type.
+#[tactic(auto, using(crate::proofs::ChosenLaws::one_more))]
+fn add_typed<L: Ledger>(
+    ranks: &mut BTreeSet<NodeRank>,
+    asked: &Asked<'_>,
+    node_type: Name,
+    reads: &mut NodeReads<L>,
+) -> Result<(), AllocError>
+    ensures ranks { OnOk result (ranks.new.keys ≡ fold (insert_key rank_cmp) ranks.old.keys (filter (passes asked.now.state.now.rows asked.now.listing.now asked.now.moment) (ranks_typed asked.now.state.now.rows node_type))) }
+    ensures reads { reads.new ≤ reads.old + length (ranks_typed asked.now.state.now.rows node_type) }
+{
+    'keys: for key in asked.state.published_of(node_type) {
+        add_rank(ranks, asked, &key.rank, reads)?;
+    }
+    Ok(())
+}
+
+/// Adds the nodes of some types.
+fn add_of<L: Ledger>(
+    ranks: &mut BTreeSet<NodeRank>,
+    asked: &Asked<'_>,
+    types: &[Name],
+    reads: &mut NodeReads<L>,
+) -> Result<(), AllocError>
+    ensures ranks { OnOk result (ranks.new.keys ≡ fold (insert_key rank_cmp) ranks.old.keys (filter (passes asked.now.state.now.rows asked.now.listing.now asked.now.moment) (flat_map (ranks_typed asked.now.state.now.rows) types.now))) }
+    ensures reads { reads.new ≤ reads.old + length (flat_map (ranks_typed asked.now.state.now.rows) types.now) }
+{
+    'types: for node_type in types {
+        add_typed(ranks, asked, *node_type, reads)?;
+    }
+    Ok(())
+}
