@@ -7,5 +7,5 @@ mod naming;
 mod records;
 
 pub use grants::grants_of;
-pub use naming::granted;
+pub use naming::{granted, granted_to};
 pub use records::records_of;

@@ -24,12 +24,10 @@ use Rattle.site_access.specs.Terms.{term_access}
 use Rattle.site_access.specs.Users.{user_access}
 use Rattle.site_dates.specs.Dates.{date_text_of}
 use Rattle.render_canvas.specs.Decision.{is_allowed}
+unfoldable pub use Rattle.render_canvas.specs.Reads.{may_view_node}
 use Rattle.render_array.specs.Pieces as pieces
 
--- whether the viewer may view a node, a field of a node of that type, a term, a user
-unfoldable pub may_view_node : ℕ → Plan Bool
-may_view_node n = node_access op.View n >>= λ access. Done (is_allowed access)
-
+-- whether the viewer may view a field of a node of that type, a term, a user
 unfoldable pub may_view_field : ℕ → List ℕ → List ℕ → Plan Bool
 may_view_field n type name = field_access op.View n type name >>= λ access. Done (is_allowed access)
 

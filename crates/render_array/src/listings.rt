@@ -1,8 +1,7 @@
 //! Listings: each builder writes what the plan of the same name shows.
-ghost use Rattle.std.specs.Prelude.{◌≡◌, ◌≤◌, ◌<◌, ◌&&◌, [], length, All, IsSome};
-ghost use Rattle.content_state.specs.Rows.{node_of};
-ghost use Rattle.content_state.specs.Plan.{each, folded};
-ghost use Rattle.site_lists.specs.ListingPlan.{with_viewable, listing_rows};
+ghost use Rattle.std.specs.Prelude.{◌≡◌, ◌≤◌, ◌<◌, ◌&&◌, length};
+ghost use Rattle.content_state.specs.Plan.{each};
+ghost use Rattle.site_lists.specs.ListingPlan.{listing_rows};
 ghost use Rattle.render_canvas.specs.Canvas.{Renders};
 ghost use Rattle.render_array.specs.Nodes.{may_view_node};
 ghost use Rattle.render_array.specs.Listings.{
@@ -21,8 +20,6 @@ ghost use Rattle.render_array.specs.Listings.{
   term_listing_shown,
 };
 
-use crate::nodes::may_view_node;
-use crate::terms::gather;
 use cacheability::Name;
 use content_rows::Listing;
 use content_state::{Fragment, Hole, Library, Mode, Placing};
@@ -141,35 +138,13 @@ fn page_of_nodes(canvas: &mut Canvas, placing: Placing, ids: &[u32], page: &Page
     pager_in(canvas, placing, page);
 }
 
-/// One more node that is there, where it may be viewed.
-fn with_viewable(canvas: &mut Canvas, found: &mut Vec<u32>, n: u32)
-    requires { IsSome (node_of canvas.old.visit.rows n) }
-    ensures { Renders (with_viewable may_view_node found.old.items n) canvas.old found.new.items canvas.new }
-{
-    if may_view_node(canvas, n) {
-        gather(canvas, found, n);
-    }
-}
-
-/// Those of the nodes, which are there, that may be viewed.
-fn viewable(canvas: &mut Canvas, ids: &[u32]) -> Vec<u32>
-    requires { All (λ n. IsSome (node_of canvas.old.visit.rows n)) ids.now }
-    ensures { Renders (folded (with_viewable may_view_node) [] ids.now) canvas.old result.items canvas.new }
-{
-    let mut found = Vec::new(canvas.allocator());
-    for n in ids {
-        with_viewable(canvas, &mut found, *n);
-    }
-    found
-}
-
 /// The nodes that a listing shows the viewer on all its pages.
 fn listing_rows(canvas: &mut Canvas, listing: &Listing) -> Vec<u32>
     ensures { Renders (listing_rows may_view_node listing.now) canvas.old result.items canvas.new }
 {
     let moment = canvas.moment_within(listing.age);
     let ids = canvas.candidates(listing, moment);
-    viewable(canvas, ids.as_slice())
+    canvas.viewable(ids.as_slice())
 }
 
 /// A listing: the nodes that the viewer may view, ten a page.

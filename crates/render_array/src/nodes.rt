@@ -69,7 +69,7 @@ fn field_shown(canvas: &mut Canvas, label: &[u8], value: &[u8])
 }
 
 /// Whether the viewer may view a node.
-pub(crate) fn may_view_node(canvas: &mut Canvas, n: u32) -> bool
+fn may_view_node(canvas: &mut Canvas, n: u32) -> bool
     requires { IsSome (node_of canvas.old.visit.rows n) }
     ensures { Renders (may_view_node n) canvas.old result canvas.new }
 {

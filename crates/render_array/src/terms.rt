@@ -17,7 +17,7 @@ fn may_view_term(canvas: &mut Canvas, t: u32) -> bool
 }
 
 /// One more number among those that were gathered.
-pub(crate) fn gather(canvas: &mut Canvas, found: &mut Vec<u32>, n: u32)
+fn gather(canvas: &mut Canvas, found: &mut Vec<u32>, n: u32)
     ensures { Renders (Done (found.old.items ++ n ∷ [])) canvas.old found.new.items canvas.new }
 {
     if found.push(n).is_err() {

@@ -56,6 +56,7 @@ impl Board {
     pub fn write(&mut self, text: &[u8]) -> Result<(), AllocError>
         ensures { OnOk result (self.new ≡ self.old ++ bytes text.now) }
     {
+        self.make_room()?;
         self.text.extend_from_slice(text)?;
         Ok(())
     }
@@ -64,7 +65,19 @@ impl Board {
     pub fn escaped(&mut self, text: &[u8]) -> Result<(), AllocError>
         ensures { OnOk result (self.new ≡ self.old ++ bytes (escaped text.now)) }
     {
+        self.make_room()?;
         escape(&mut self.text, text)?;
+        Ok(())
+    }
+
+    /// Room for the bytes of a short piece, where there is none yet: a list that grows from nothing asks for memory at each
+    /// doubling. `Err` only where memory is wanting.
+    fn make_room(&mut self) -> Result<(), AllocError>
+        ensures { self.new ≡ self.old }
+    {
+        if self.text.capacity() == 0 {
+            self.text.reserve(128)?;
+        }
         Ok(())
     }
 

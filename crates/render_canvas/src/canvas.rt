@@ -6,7 +6,7 @@ ghost use Rattle.content_state.specs.Rows.{type_of, node_of};
 ghost use Rattle.content_state.specs.Read.{SiteRow, TypeRow, NodeRow, PathRoute};
 ghost use Rattle.content_state.specs.There.{IsThere};
 ghost use Rattle.content_state.specs.Plan.{write, escaped, attach, part, reading, clock};
-ghost use Rattle.render_canvas.specs.Canvas.{Renders, AddsTags, AddsContext, RestsOn, Fails, blank};
+ghost use Rattle.render_canvas.specs.Canvas.{Renders, AddsTags, AddsContext, Fails, blank};
 
 use crate::board::Board;
 use crate::built::Built;
@@ -29,7 +29,7 @@ pub struct Canvas<'a> {
     pub(crate) moment: u64,
     board: Board,
     libraries: Vec<Library>,
-    cacheability: Cacheability,
+    pub(crate) cacheability: Cacheability,
     last: u64,
     whole: bool,
 }
@@ -193,15 +193,6 @@ impl<'a> Canvas<'a> {
                 self.fail();
                 Route::Nothing
             }
-        }
-    }
-
-    /// Says that what is shown depends on what a decision rests on.
-    pub(crate) fn rests_on(&mut self, cacheability: &Cacheability)
-        ensures { RestsOn self.old self.new cacheability.now.tags cacheability.now.contexts cacheability.now.max_age }
-    {
-        if self.cacheability.merge(self.alloc, cacheability).is_err() {
-            self.whole = false;
         }
     }
 

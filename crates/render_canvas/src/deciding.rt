@@ -1,22 +1,22 @@
 //! Access, as builders ask for it through a canvas.
-ghost use Rattle.std.specs.Prelude.{◌≡◌, [], Some, IsSome, unwrap_or};
-ghost use Rattle.access_result.specs.declared.reason.Reason.TheVariants as reason_is;
+ghost use Rattle.std.specs.Prelude.{◌≡◌, [], Some, IsSome, All};
 ghost use Rattle.content_state.specs.Rows.{type_of, node_of, term_of, user_of};
 ghost use Rattle.content_state.specs.There.{IsThere};
-ghost use Rattle.site_access.specs.Depends.{answer_of};
+ghost use Rattle.content_state.specs.Plan.{folded};
 ghost use Rattle.site_access.specs.Plans.{node_access, field_access};
 ghost use Rattle.site_access.specs.Terms.{term_access};
 ghost use Rattle.site_access.specs.Users.{user_access};
 ghost use Rattle.site_access.specs.Routes.{route_access};
-ghost use Rattle.render_canvas.specs.Decision.{decision_of, HasField, TakesIn};
-ghost use Rattle.render_canvas.specs.Canvas.{Renders};
+ghost use Rattle.site_lists.specs.ListingPlan.{with_viewable};
+ghost use Rattle.render_canvas.specs.Reads.{may_view_node};
+ghost use Rattle.render_canvas.specs.Decision.{decision_of, HasField};
+ghost use Rattle.render_canvas.specs.Canvas.{Renders, Fails};
 
 use crate::canvas::Canvas;
-use access_result::{AccessResult, PermissionText, Reason, Verdict};
+use access_result::Reason;
 use cacheability::{Name, Op};
 use content_rows::Node;
 use content_state::Route;
-use std::alloc::{AllocError, Global};
 
 impl<'a> Canvas<'a> {
     /// Whether the viewer may do something to a node that is there, or else why not. Where memory is wanting it is denied
@@ -25,8 +25,13 @@ impl<'a> Canvas<'a> {
         requires { IsSome (node_of self.old.visit.rows n) }
         ensures { Renders (node_access op n) self.old (decision_of result) self.new }
     {
-        let found = self.account.node_access(self.alloc, self.state, op, n);
-        self.decided(found)
+        match self
+            .account
+            .note_node(self.alloc, self.state, op, n, &mut self.cacheability)
+        {
+            Ok(decision) => decision,
+            Err(_) => self.denied_in_vain(),
+        }
     }
 
     /// The same of a field of a node that is there and whose type has the field.
@@ -35,10 +40,17 @@ impl<'a> Canvas<'a> {
         requires has_field { HasField (type_of self.old.visit.rows node.now.node_type) field.now }
         ensures { Renders (field_access op n node.now.node_type field.now) self.old (decision_of result) self.new }
     {
-        let found = self
-            .account
-            .field_access(self.alloc, self.state, op, n, field);
-        self.decided(found)
+        match self.account.note_field(
+            self.alloc,
+            self.state,
+            op,
+            n,
+            field,
+            &mut self.cacheability,
+        ) {
+            Ok(decision) => decision,
+            Err(_) => self.denied_in_vain(),
+        }
     }
 
     /// Whether the viewer may view a term that is there, or else why not.
@@ -46,8 +58,13 @@ impl<'a> Canvas<'a> {
         requires { IsSome (term_of self.old.visit.rows tid) }
         ensures { Renders (term_access tid) self.old (decision_of result) self.new }
     {
-        let found = self.account.term_access(self.alloc, self.state, tid);
-        self.decided(found)
+        match self
+            .account
+            .note_term(self.alloc, self.state, tid, &mut self.cacheability)
+        {
+            Ok(decision) => decision,
+            Err(_) => self.denied_in_vain(),
+        }
     }
 
     /// The same of a user that is there.
@@ -55,8 +72,13 @@ impl<'a> Canvas<'a> {
         requires { IsSome (user_of self.old.visit.rows uid) }
         ensures { Renders (user_access uid) self.old (decision_of result) self.new }
     {
-        let found = self.account.user_access(self.alloc, self.state, uid);
-        self.decided(found)
+        match self
+            .account
+            .note_user(self.alloc, self.state, uid, &mut self.cacheability)
+        {
+            Ok(decision) => decision,
+            Err(_) => self.denied_in_vain(),
+        }
     }
 
     /// The same of what a route leads to, which is there.
@@ -64,50 +86,42 @@ impl<'a> Canvas<'a> {
         requires { IsThere self.old.visit.rows to.now }
         ensures { Renders (route_access to.now) self.old (decision_of result) self.new }
     {
-        let found = self.account.route_access(self.alloc, self.state, to);
-        self.decided(found)
+        match self
+            .account
+            .note_route(self.alloc, self.state, to, &mut self.cacheability)
+        {
+            Ok(decision) => decision,
+            Err(_) => self.denied_in_vain(),
+        }
     }
 
-    /// What was found about access, as it is handed on; what is shown depends on what it depends on. Where memory was
-    /// wanting it is denied in vain.
-    fn decided(&mut self, found: Result<AccessResult, AllocError>) -> Result<(), Reason>
-        ensures { TakesIn self.old found (decision_of result) self.new }
+    /// Those of the nodes, which are there, that the viewer may view, in their order: the account is asked of all of them
+    /// at once. Where memory is wanting, some of them in vain.
+    pub fn viewable(&mut self, ids: &[u32]) -> Vec<u32>
+        requires { All (λ n. IsSome (node_of self.old.visit.rows n)) ids.now }
+        ensures { Renders (folded (with_viewable may_view_node) [] ids.now) self.old result.items self.new }
     {
-        match found {
-            Ok(found) => {
-                let AccessResult {
-                    verdict,
-                    reason,
-                    cacheability,
-                } = found;
-                self.rests_on(&cacheability);
-                decision(self.alloc, verdict, reason)
-            }
+        let mut found = Vec::new(self.alloc);
+        match self.account.note_viewable(
+            self.alloc,
+            self.state,
+            ids,
+            &mut found,
+            &mut self.cacheability,
+        ) {
+            Ok(()) => found,
             Err(_) => {
                 self.fail();
-                Err(Reason::NoSession)
+                found
             }
         }
     }
-}
 
-/// What a verdict decides: allowed, or why not.
-fn decision(alloc: Global, verdict: Verdict, reason: Option<Reason>) -> Result<(), Reason>
-    ensures { decision_of result ≡ answer_of verdict reason }
-{
-    match verdict {
-        Verdict::Allowed => Ok(()),
-        Verdict::Neutral => Err(told(alloc, reason)),
-        Verdict::Forbidden => Err(told(alloc, reason)),
-    }
-}
-
-/// The reason; where none is told, that a permission without a name is missing.
-fn told(alloc: Global, reason: Option<Reason>) -> Reason
-    ensures { result ≡ unwrap_or reason (reason_is.Permission []) }
-{
-    match reason {
-        Some(reason) => reason,
-        None => Reason::Permission(PermissionText::from_vec(Vec::new(alloc))),
+    /// A denial for want of memory.
+    fn denied_in_vain(&mut self) -> Result<(), Reason>
+        ensures { Fails self.old self.new }
+    {
+        self.fail();
+        Err(Reason::NoSession)
     }
 }

@@ -1,4 +1,5 @@
 pub mod SilentPlans
+pub mod NotedNodes
 pub mod PlansDecide
 pub mod WholeResults
 pub mod RoutePlans

@@ -8,3 +8,5 @@ pub mod Exact
 pub mod Terms
 pub mod Users
 pub mod Routes
+pub mod Noting
+pub mod Viewing

@@ -25,6 +25,10 @@ pub struct Account {
     pub viewer: Viewer,
     /// What the viewer is permitted.
     pub permissions: Shared<Permissions>,
+    /// Whether that is to bypass access to nodes, which each decision about a node asks.
+    pub bypasses: bool,
+    /// Whether that is to access content, which such a decision asks next.
+    pub accesses: bool,
     /// The grants by which the viewer may view nodes.
     pub grants: Shared<ViewGrants>,
 }
@@ -38,9 +42,12 @@ impl Account {
         let roles = present_roles(alloc, state, viewer)?;
         let permissions = permissions_of(alloc, viewer.uid, roles.as_slice())?;
         let bypasses = has(&permissions, permission::bypass_node_access());
+        let accesses = has(&permissions, permission::access_content());
         let grants = grants_with(alloc, bypasses, user, roles.as_slice())?;
         Ok(Account {
             viewer: *viewer,
+            bypasses,
+            accesses,
             permissions: Shared::new(alloc, permissions)?,
             grants: Shared::new(alloc, grants)?,
         })

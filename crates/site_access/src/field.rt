@@ -97,7 +97,7 @@ impl Account {
 }
 
 /// The permission that viewing a field takes, or editing it, if any.
-fn field_permission(op: Op, field: &FieldRow) -> Option<&Text>
+pub(crate) fn field_permission(op: Op, field: &FieldRow) -> Option<&Text>
     ensures { option_copied result ≡ permission_of op field.now }
 {
     match op {

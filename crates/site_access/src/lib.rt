@@ -7,12 +7,14 @@ mod depends;
 mod field;
 mod laws;
 mod node;
+mod noting;
 mod permission;
 mod route;
 mod shared;
 mod term;
 mod user;
 mod viewer;
+mod viewing;
 
 pub use access::{create_access, field_access, node_access};
 pub use account::Account;

@@ -17,7 +17,7 @@ use access_result::{AccessResult, Reason};
 use cacheability::{Name, Op};
 use content_rows::{Node, ViewGrants};
 use content_state::State;
-use node_grants::{granted, records_of};
+use node_grants::granted_to;
 use std::alloc::{AllocError, Global};
 
 impl Account {
@@ -53,10 +53,10 @@ impl Account {
         requires there { IsSome (node_of state.now.rows n) }
         ensures { IfOk result (λ r. r ≡ told (access_to_node state.now.rows self.now.viewer op n) (node_depends state.now.rows self.now.viewer op n)) }
     {
-        if self.may(permission::bypass_node_access()) {
+        if self.bypasses {
             return Ok(allowed_by(by_permissions(alloc)?));
         }
-        if !self.may(permission::access_content()) {
+        if !self.accesses {
             return lacking(alloc, permission::access_content(), by_permissions(alloc)?);
         }
         match state.node(n) {
@@ -122,7 +122,7 @@ impl Account {
     /// Whether the rules of the node itself allow this: its owner may view an unpublished one, with a
     /// permission for it; a permission for the type allows a change to all, or to the owner. `Err`
     /// only where memory is wanting.
-    fn rules_allow(&self, alloc: Global, op: Op, node: &Node) -> Result<bool, AllocError>
+    pub(crate) fn rules_allow(&self, alloc: Global, op: Op, node: &Node) -> Result<bool, AllocError>
         ensures { IfOk result (λ allowed. OnRows self.now (λ rows. allowed ≡ by_rules rows self.now.viewer op node.now)) }
     {
         match op {
@@ -154,19 +154,23 @@ impl Account {
         ensures { IfOk result (λ r. r ≡ vote_of (grants_allow op node.now self.now.grants) (Some (reason_is.Grant op n)) (depend_of_grants n)) }
     {
         let depends = grants_depend(alloc, n)?;
-        let allowed = match self.grants.get() {
-            ViewGrants::All => true,
-            ViewGrants::These(held) => {
-                let records = records_of(alloc, node)?;
-                granted(op, records.as_slice(), held.as_slice())
-            }
-        };
+        let allowed = self.grants_allow(op, node);
         Ok(vote(allowed, Some(Reason::Grant(op, n)), depends))
+    }
+
+    /// Whether the grants of a node allow this.
+    pub(crate) fn grants_allow(&self, op: Op, node: &Node) -> bool
+        ensures { result ≡ grants_allow op node.now self.now.grants }
+    {
+        match self.grants.get() {
+            ViewGrants::All => true,
+            ViewGrants::These(held) => granted_to(op, node, held.as_slice()),
+        }
     }
 }
 
 /// Whether the rules of a node ask who the viewer is.
-fn asks_owner(op: Op, node: &Node) -> bool
+pub(crate) fn asks_owner(op: Op, node: &Node) -> bool
     ensures { result ≡ is_owner_asked op node.now }
 {
     match op {

@@ -91,7 +91,7 @@ fn term_depends(alloc: Global, t: u32) -> Result<Cacheability, AllocError>
 
 /// `administer taxonomy`.
 #[tactic(auto, unfolding(crate::specs::Terms::administer_taxonomy))]
-fn administer_taxonomy() -> &'static [u8]
+pub(crate) fn administer_taxonomy() -> &'static [u8]
     ensures { result.now ≡ administer_text }
 {
     b"administer taxonomy"

@@ -92,7 +92,7 @@ fn profile_depends(alloc: Global, u: u32, permitted: bool) -> Result<Cacheabilit
 
 /// `access user profiles`.
 #[tactic(auto, unfolding(crate::specs::Users::access_user_profiles))]
-fn access_user_profiles() -> &'static [u8]
+pub(crate) fn access_user_profiles() -> &'static [u8]
     ensures { result.now ≡ profiles_text }
 {
     b"access user profiles"
@@ -100,7 +100,7 @@ fn access_user_profiles() -> &'static [u8]
 
 /// `administer users`.
 #[tactic(auto, unfolding(crate::specs::Users::administer_users))]
-fn administer_users() -> &'static [u8]
+pub(crate) fn administer_users() -> &'static [u8]
     ensures { result.now ≡ administer_text }
 {
     b"administer users"

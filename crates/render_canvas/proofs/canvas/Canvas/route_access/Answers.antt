@@ -1,12 +1,15 @@
-use Rattle.site_access.specs.Routes.{route_access}
-use Rattle.site_access.proofs.SilentPlans.{reads_exactly}
+use Rattle.std.proofs.Common.{arith}
+use Rattle.site_access.specs.Routes.{access_to_route, route_access, route_depends}
 use Rattle.site_access.proofs.RoutePlans.{route_read}
-use Rattle.render_canvas.proofs.Taken.{route_lasts, decided}
+use Rattle.content_state.specs.Context.{Visit}
+use Rattle.render_canvas.proofs.Taken.{noted}
 use Rattle.render_canvas.proofs.canvas.Canvas.route_access.Goals as goal
 
-pub returns : goal.returns
-returns c =
+pub returns-in-Ok : goal.returns-in-Ok
+returns-in-Ok c =
+    let rows = c.self.inside.state.now.rows in
+    let viewer = c.self.inside.account.now.viewer in
+    let v : Visit = record { rows = rows; viewer = viewer; ask = c.self.inside.ask.now; moment = c.self.inside.moment } in
     rw (← c.self.view_is)
-    (decided (route_access c.args.to.now) _ _ _ _ _ _ (route_lasts c.self.inside.state.now.rows c.self.inside.account.now.viewer c.args.to.now)
-    (reads_exactly _ _ _ _ (route_read c.args.to.now _)) c.route_access-found.ensures.covered c.route_access-found.ensures.depends
-    (rw c.self.view_is c.decided.ensures))
+    (noted v c.self.inside.board c.self.inside.libraries.items c.self.inside.last c.self.inside.whole (grind arith) (route_access c.args.to.now) c.self.inside.cacheability _
+    (route_depends rows viewer c.args.to.now) (access_to_route rows viewer c.args.to.now) _ (route_read c.args.to.now v) c.in-Ok.ensures.answer c.in-Ok.ensures.depends)
