@@ -1,13 +1,14 @@
 //! Sources and sinks over readers and writers of the standard library, which tell what those tell.
-ghost use Rattle.std.specs.Prelude.{◌≡◌, ◌≤◌, [], OnErr, OnOk};
+ghost use Rattle.std.specs.Prelude.{◌≡◌, ◌≤◌, ◌<◌, [], IfOk, OnErr, OnOk, length, take};
 ghost use Rattle.site_io.specs.Memory.{up};
-ghost use Rattle.site_io.specs.Told.{Rose};
+ghost use Rattle.site_io.specs.Told.{after, Rose};
 ghost use Rattle.site_io.specs.Adapters.{FlushedAtLast};
 
 use crate::device::{Failed, Sink, Source};
 use crate::retry::{flush_retrying, read_retrying, write_retrying};
 use http_server::Log;
-use std::io::{Read, Write};
+use std::io;
+use std::io::{ErrorKind, Read, Write};
 use std::marker::Model;
 
 /// A source over a reader of the standard library, as standard input, a file or a TCP stream.
@@ -103,6 +104,28 @@ impl<W: Write + Drop> Writing<W> {
         }
     }
 
+    // A write whose first call failed: it is made again where a signal interrupted it.
+    #[cold]
+    #[inline(never)]
+    fn write_again(&mut self, piece: &[u8], error: io::Error) -> Result<usize, Failed>
+        ensures fits { IfOk result (λ n. n ≤ length piece.now) }
+        ensures some { IfOk result (λ n. 0 < length piece.now → 0 < n) }
+        ensures told { IfOk result (λ n. self.new.written ≡ after self.old.written (take n piece.now)) }
+        ensures failed { OnErr result (self.new.written ≡ self.old.written) }
+        ensures cause { OnErr result (Rose self.old.faults self.new.faults) }
+        ensures once { OnErr result (self.new.faults ≡ up self.old.faults) }
+        ensures steady { OnOk result (self.new.faults ≡ self.old.faults) }
+        ensures never_falls { self.old.faults ≤ self.new.faults }
+    {
+        if error.kind() != ErrorKind::Interrupted {
+            return Err(self.fault());
+        }
+        match write_retrying(&mut self.writer, piece) {
+            Ok(n) if n > 0 || piece.is_empty() => Ok(n),
+            _ => Err(self.fault()),
+        }
+    }
+
     // Counts a fault.
     fn fault(&mut self) -> Failed
         ensures written { self.new.written ≡ self.old.written }
@@ -122,9 +145,10 @@ impl<W: Write + Drop> Sink for Writing<W> {
     ghost faults = { λ w. w.faults };
 
     fn write(&mut self, piece: &[u8]) -> Result<usize, Failed> {
-        match write_retrying(&mut self.writer, piece) {
+        match self.writer.write(piece) {
             Ok(n) if n > 0 || piece.is_empty() => Ok(n),
-            _ => Err(self.fault()),
+            Ok(_) => Err(self.fault()),
+            Err(error) => self.write_again(piece, error),
         }
     }
 
