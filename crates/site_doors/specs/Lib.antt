@@ -1,5 +1,5 @@
-pub mod Gives
-pub mod Limits
+pub use Rattle.request_framing.specs.Gives
+pub use Rattle.request_framing.specs.Limits
 pub mod Wire
 pub mod Steps
 pub mod Charge

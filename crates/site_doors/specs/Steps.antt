@@ -1,9 +1,9 @@
 -- What becomes of a socket that its door goes on with, and of the bytes that came there.
 use Rattle.std.specs.Prelude.{ℕ, List, ◌≡◌, ◌++◌}
-use Rattle.site_doors.specs.declared.framing.Extent.{Extent}
+use Rattle.request_framing.specs.declared.framing.Extent.{Extent}
 use Rattle.site_doors.specs.declared.guest.Step.{Step}
 use Rattle.site_doors.specs.declared.guest.Step.TheVariants.{Give, Again, Stay, NoMemory, Close}
-use Rattle.site_doors.specs.Gives.{Gives}
+use Rattle.request_framing.specs.Gives.{Gives}
 
 -- of what waited and of a piece that came something is given
 pub record GivesOf (reaches : List ℕ → Extent → Type 0) (old given new : List ℕ) : Type 0 where

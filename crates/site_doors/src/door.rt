@@ -3,10 +3,9 @@ ghost use Rattle.std.specs.Prelude.{◌≡◌, ◌≤◌, true, false, None, IfO
 ghost use Rattle.site_io.specs.Told.{Rose};
 
 use crate::balance::Balance;
-use crate::framing::Framing;
 use crate::lobby::Lobby;
-use crate::parcel::Parcel;
 use crate::reply::Outgoing;
+use request_framing::{Framing, Parcel};
 use site_io::{Door, Ended, Failed};
 use std::alloc::Global;
 use std::io;

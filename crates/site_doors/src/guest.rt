@@ -2,13 +2,11 @@
 ghost use Rattle.std.specs.Prelude.{◌≡◌, ◌≤◌, ◌<◌, false, length, IfSome};
 ghost use Rattle.site_doors.specs.Steps.{IsRest, Kept, Steps};
 
-use crate::bytes::Bytes;
-use crate::framing::Framing;
-use crate::limits::{GATHERED_BYTES, LINGER_BYTES, Stage, is_over};
-use crate::parcel::Parcel;
-use crate::waiting::{Came, Waiting};
 use crate::wire::{Moved, read_from, write_to};
 use mio::net::TcpStream;
+use request_framing::{
+    Bytes, Came, Framing, GATHERED_BYTES, LINGER_BYTES, Parcel, Stage, Waiting, is_over,
+};
 use std::alloc::{AllocError, Global};
 use std::mem;
 use std::net::Shutdown;

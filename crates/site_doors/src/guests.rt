@@ -1,11 +1,11 @@
 //! The sockets that a door has charge of.
 ghost use Rattle.std.specs.Prelude.{◌≡◌, ◌<◌, ◌+◌, false, true, IfNone, OnSome};
 ghost use Rattle.site_doors.specs.Charge.{IsClosed, IsParked, IsTaken};
-ghost use Rattle.site_doors.specs.Limits.{sockets};
+ghost use Rattle.request_framing.specs.Limits.{sockets};
 
 use crate::balance::Balance;
 use crate::guest::Guest;
-use crate::limits::{HELD_BYTES, SOCKETS};
+use request_framing::{HELD_BYTES, SOCKETS};
 use slab::Slab;
 use std::alloc::Global;
 use std::marker::Model;
@@ -26,7 +26,7 @@ impl Model for Guests {
     ghost use Rattle.std.specs.Prelude.{◌≡◌, ◌≤◌, ◌+◌};
     ghost use Rattle.slab.specs.Slab.{slab_len};
     ghost use Rattle.site_doors.specs.Charge.{Charge};
-    ghost use Rattle.site_doors.specs.Limits.{sockets, held_bytes};
+    ghost use Rattle.request_framing.specs.Limits.{sockets, held_bytes};
 
     ghost Value = { Charge };
 

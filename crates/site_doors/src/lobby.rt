@@ -2,15 +2,12 @@
 ghost use Rattle.std.specs.Prelude.{◌≡◌, IfNone, IfOk, OnOk, OnErr, OnSome};
 
 use crate::balance::Balance;
-use crate::bytes::Bytes;
-use crate::framing::Framing;
 use crate::guest::{Guest, Step};
 use crate::guests::Guests;
-use crate::limits::{GATHERED_BYTES, HEAD_BYTES, PATIENCE_MILLIS};
-use crate::parcel::Parcel;
 use crate::reply::Outgoing;
 use mio::net::{TcpListener, TcpStream};
 use mio::{Events, Interest, Poll, Token};
+use request_framing::{Bytes, Framing, GATHERED_BYTES, HEAD_BYTES, PATIENCE_MILLIS, Parcel};
 use site_io::Ended;
 use std::alloc::Global;
 use std::collections::VecDeque;

@@ -1,7 +1,7 @@
 -- How far the bytes of a socket reach, by what they begin with as HTTP.
 use Rattle.std.specs.Prelude.{ℕ, List}
-use Rattle.site_doors.specs.declared.framing.Extent.{Extent}
-use Rattle.site_doors.specs.declared.framing.Extent.TheVariants.{Whole, Head, Body, Refused}
+use Rattle.request_framing.specs.declared.framing.Extent.{Extent}
+use Rattle.request_framing.specs.declared.framing.Extent.TheVariants.{Whole, Head, Body, Refused}
 use Rattle.http_heads.specs.declared.extent.Extent.TheVariants as http
 use Rattle.http_heads.specs.Extents.{Reaches}
 

@@ -1,7 +1,7 @@
 //! Where requests of HTTP end.
 
 use http_heads::{HeadRoom, extent_in};
-use site_doors::{Extent, Framing};
+use request_framing::{Extent, Framing};
 use std::alloc::{AllocError, Global};
 
 /// Where requests of HTTP end, with room for the places of a head's fields.

@@ -1,7 +1,8 @@
 //! A door whose requests are lines.
 ghost use Rattle.std.specs.Prelude.{◌≡◌, false, IfOk};
 
-use site_doors::{Balance, Extent, Framing, LobbyDoor};
+use request_framing::{Extent, Framing};
+use site_doors::{Balance, LobbyDoor};
 use site_io::{Door, Ended, Sink, Source, write_whole};
 use std::io;
 use std::net::{SocketAddr, TcpListener};

@@ -1,7 +1,7 @@
 //! Clients that are idle, slow or deaf, or are refused, beside one that asks.
 
 use crate::lines::{is_answered, opened};
-use site_doors::HEAD_BYTES;
+use request_framing::HEAD_BYTES;
 use site_io::Ended;
 use std::io;
 use std::io::{Read, Write};

@@ -1,7 +1,7 @@
 -- For how long a socket may be at what it is at.
 use Rattle.std.specs.Prelude.{ℕ, ◌+◌, ◌/◌}
-use Rattle.site_doors.specs.declared.limits.Stage.{Stage}
-use Rattle.site_doors.specs.declared.limits.Stage.TheVariants.{Idle, Asks, Takes, Lingers}
+use Rattle.request_framing.specs.declared.limits.Stage.{Stage}
+use Rattle.request_framing.specs.declared.limits.Stage.TheVariants.{Idle, Asks, Takes, Lingers}
 
 -- 60 seconds between two requests; 15 for a request, and one more for each 16,384 bytes of its body that came; 15 for a reply; 5 for
 -- what is read away

@@ -1,5 +1,5 @@
 //! Where requests end.
-ghost use Rattle.site_doors.specs.Gives.{Fits};
+ghost use Rattle.request_framing.specs.Gives.{Fits};
 
 /// How far what the bytes of a socket begin with reaches.
 #[derive(Clone, Copy, Debug, PartialEq, Eq)]
@@ -17,7 +17,7 @@ pub enum Extent {
 /// What tells where requests end.
 pub trait Framing {
     ghost use Rattle.std.specs.Prelude.{ℕ, List};
-    ghost use Rattle.site_doors.specs.declared.framing.Extent.{Extent};
+    ghost use Rattle.request_framing.specs.declared.framing.Extent.{Extent};
 
     /// That bytes reach so far.
     ghost reaches: { List ℕ → Extent → Type 0 };

@@ -1,6 +1,6 @@
 //! What came on a socket and was not given yet.
-ghost use Rattle.std.specs.Prelude.{◌≡◌, ◌≤◌, ◌++◌, [], length, take, drop, IfSome};
-ghost use Rattle.site_doors.specs.Gives.{Comes, IsKept};
+ghost use Rattle.std.specs.Prelude.{◌≡◌, ◌≤◌, ◌<◌, ◌++◌, [], true, length, take, drop, IfSome};
+ghost use Rattle.request_framing.specs.Gives.{Comes, IsKept};
 
 use crate::bytes::Bytes;
 use crate::framing::{Extent, Framing};
@@ -16,7 +16,7 @@ const LOOKS: u32 = 128;
 
 /// What comes of bytes.
 #[derive(Drop)]
-pub(crate) enum Came {
+pub enum Came {
     /// One request, or what is refused.
     Request(Parcel),
     /// No whole request is there.
@@ -27,7 +27,7 @@ pub(crate) enum Came {
 
 /// Bytes that came on a socket and were not given yet. Contracts see just them.
 #[derive(Drop)]
-pub(crate) struct Waiting {
+pub struct Waiting {
     bytes: Bytes,
     /// Nothing is looked at before so many are there.
     wanted: usize,
@@ -45,7 +45,7 @@ impl Model for Waiting {
 
 impl Waiting {
     /// Nothing came yet.
-    pub(crate) fn new(alloc: Global) -> Waiting
+    pub fn new(alloc: Global) -> Waiting
         ensures { result ≡ [] }
     {
         Waiting {
@@ -56,29 +56,33 @@ impl Waiting {
     }
 
     /// How many bytes there are.
-    pub(crate) fn len(&self) -> usize
+    pub fn len(&self) -> usize
         ensures { result ≡ length self.now }
     {
         self.bytes.len()
     }
 
     /// How many bytes of memory they take.
-    pub(crate) fn capacity(&self) -> usize {
+    pub fn capacity(&self) -> usize {
         self.bytes.capacity()
     }
 
     /// How many there are of a request whose head is whole, else none.
-    pub(crate) fn of_body(&self) -> usize {
+    pub fn of_body(&self) -> usize
+        ensures { result ≤ length self.now }
+    {
         if self.wanted > 0 { self.bytes.len() } else { 0 }
     }
 
     /// Whether there are bytes that nobody looked at.
-    pub(crate) fn is_unseen(&self) -> bool {
+    pub fn is_unseen(&self) -> bool
+        ensures { result ≡ true → 0 < length self.now }
+    {
         self.looks == 0 && self.bytes.len() > 0
     }
 
     /// Drops all.
-    pub(crate) fn forget(&mut self, alloc: Global)
+    pub fn forget(&mut self, alloc: Global)
         ensures { self.new ≡ [] }
     {
         self.bytes = Bytes::new(alloc);
@@ -109,12 +113,7 @@ impl Waiting {
     }
 
     /// Looks at them, and gives a request, if one is there.
-    pub(crate) fn look<F: Framing>(
-        &mut self,
-        alloc: Global,
-        room: &mut Vec<u8>,
-        framing: &mut F,
-    ) -> Came
+    pub fn look<F: Framing>(&mut self, alloc: Global, room: &mut Vec<u8>, framing: &mut F) -> Came
         ensures { Comes F.reaches self.old result self.new }
     {
         self.looks = self.looks.saturating_add(1);
@@ -211,7 +210,7 @@ impl Waiting {
     }
 
     /// What comes of so many bytes that were read into the room. It goes with what is given.
-    pub(crate) fn arrived<F: Framing>(
+    pub fn arrived<F: Framing>(
         &mut self,
         alloc: Global,
         room: &mut Vec<u8>,

@@ -1,6 +1,6 @@
 //! What bounds how long and how much peers may hold.
 ghost use Rattle.std.specs.Prelude.{◌≡◌, ◌≤◌, ◌<◌, ◌+◌, ◌/◌, IsTrue, nat_lt};
-ghost use Rattle.site_doors.specs.Limits.{allowed_seconds};
+ghost use Rattle.request_framing.specs.Limits.{allowed_seconds};
 
 /// How many seconds a socket may be without a byte before its first request or between two. Browsers keep a connection for about
 /// that long after a page, and a parked socket costs a door some 200 bytes.
@@ -44,7 +44,7 @@ pub const PATIENCE_MILLIS: u64 = 5;
 
 /// What a socket is at.
 #[derive(Clone, Copy, Debug, PartialEq, Eq)]
-pub(crate) enum Stage {
+pub enum Stage {
     /// It is between two requests, or before the first.
     Idle,
     /// Some of a request came, so many bytes of it with its head, or none of its body.
@@ -69,7 +69,7 @@ fn allowed_seconds(stage: Stage) -> u64
 }
 
 /// Whether its time is over after so many seconds.
-pub(crate) fn is_over(stage: Stage, age: u64) -> bool
+pub fn is_over(stage: Stage, age: u64) -> bool
     ensures { result ≡ nat_lt (allowed_seconds stage) age }
 {
     allowed_seconds(stage) < age

@@ -8,7 +8,7 @@ use std::mem;
 
 /// Bytes in order. Contracts see those that were not taken yet.
 #[derive(Drop)]
-pub(crate) struct Bytes {
+pub struct Bytes {
     bytes: Vec<u8>,
     /// Those before this place were taken.
     start: usize,
@@ -26,7 +26,7 @@ impl Model for Bytes {
 
 impl Bytes {
     /// None, for which no memory is taken.
-    pub(crate) fn new(alloc: Global) -> Bytes
+    pub fn new(alloc: Global) -> Bytes
         ensures { result ≡ [] }
     {
         Bytes {
@@ -36,37 +36,39 @@ impl Bytes {
     }
 
     /// How many there are.
-    pub(crate) fn len(&self) -> usize
+    pub fn len(&self) -> usize
         ensures { result ≡ length self.now }
     {
         self.bytes.len() - self.start
     }
 
     /// The bytes.
-    pub(crate) fn as_slice(&self) -> &[u8]
+    pub fn as_slice(&self) -> &[u8]
         ensures { result.now ≡ self.now }
     {
         self.bytes.split_at(self.start).1
     }
 
     /// How many bytes of memory they take.
-    pub(crate) fn capacity(&self) -> usize {
+    pub fn capacity(&self) -> usize {
         self.bytes.capacity()
     }
 
     /// Adds a piece at their end. `Err` only where memory is wanting, and then nothing changed.
-    pub(crate) fn add(&mut self, piece: &[u8]) -> Result<(), AllocError>
+    pub fn add(&mut self, piece: &[u8]) -> Result<(), AllocError>
         ensures added { OnOk result (self.new ≡ self.old ++ piece.now) }
         ensures same { OnErr result (self.new ≡ self.old) }
     {
-        drop(self.bytes.drain(..self.start));
-        self.start = 0;
+        if self.start > 0 {
+            drop(self.bytes.drain(..self.start));
+            self.start = 0;
+        }
         self.bytes.extend_from_slice(piece)?;
         Ok(())
     }
 
     /// Takes so many of the first.
-    pub(crate) fn pass(&mut self, n: usize)
+    pub fn pass(&mut self, n: usize)
         requires { n ≤ length self.old }
         ensures { self.new ≡ drop n self.old }
     {
@@ -74,7 +76,7 @@ impl Bytes {
     }
 
     /// Takes all, and keeps their room for later ones.
-    pub(crate) fn clear(&mut self)
+    pub fn clear(&mut self)
         ensures { self.new ≡ [] }
     {
         self.bytes.clear();
@@ -82,7 +84,7 @@ impl Bytes {
     }
 
     /// Takes all as they lie in memory, and leaves no room.
-    pub(crate) fn take_all(&mut self, alloc: Global) -> Parcel
+    pub fn take_all(&mut self, alloc: Global) -> Parcel
         ensures given { result ≡ self.old }
         ensures none { self.new ≡ [] }
     {

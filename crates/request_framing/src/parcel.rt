@@ -1,8 +1,8 @@
 //! The bytes that a door gives with a connection.
-ghost use Rattle.std.specs.Prelude.{◌≡◌, ◌≤◌, ◌<◌, [], Some, IfOk, OnErr, OnOk, length, take, drop};
+ghost use Rattle.std.specs.Prelude.{◌≡◌, ◌≤◌, ◌<◌, [], true, false, Some, IfOk, OnErr, OnOk, length, take, drop};
 ghost use Rattle.site_io.specs.Told.{before, Rose};
 ghost use Rattle.site_io.specs.Memory.{up};
-ghost use Rattle.site_doors.specs.Gives.{no_faults};
+ghost use Rattle.request_framing.specs.Gives.{no_faults};
 
 use site_io::{Failed, Source};
 use std::marker::Model;
@@ -29,7 +29,7 @@ impl Model for Parcel {
 
 impl Parcel {
     /// The bytes between two places.
-    pub(crate) fn new(bytes: Vec<u8>, start: usize, end: usize) -> Parcel
+    pub fn new(bytes: Vec<u8>, start: usize, end: usize) -> Parcel
         requires { (start ≤ end) × (end ≤ length bytes.items) }
         ensures { result ≡ drop start (take end bytes.items) }
     {
@@ -37,12 +37,15 @@ impl Parcel {
     }
 
     /// Whether all of it was read.
-    pub(crate) fn is_read(&self) -> bool {
+    pub fn is_read(&self) -> bool
+        ensures read { result ≡ true → self.now ≡ [] }
+        ensures left { result ≡ false → 0 < length self.now }
+    {
         self.start == self.end
     }
 
     /// The memory that it lies in.
-    pub(crate) fn into_room(self) -> Vec<u8> {
+    pub fn into_room(self) -> Vec<u8> {
         let Parcel {
             bytes,
             start: _,

@@ -1,9 +1,9 @@
 -- What a door may give of the bytes that came on a socket, and what stays with the socket.
 use Rattle.std.specs.Prelude.{ℕ, List, [], ◌≡◌, ◌≤◌, ◌++◌, length, take, drop}
-use Rattle.site_doors.specs.declared.framing.Extent.{Extent}
-use Rattle.site_doors.specs.declared.framing.Extent.TheVariants.{Whole, Head, Body, Refused}
-use Rattle.site_doors.specs.declared.waiting.Came.{Came}
-use Rattle.site_doors.specs.declared.waiting.Came.TheVariants as came
+use Rattle.request_framing.specs.declared.framing.Extent.{Extent}
+use Rattle.request_framing.specs.declared.framing.Extent.TheVariants.{Whole, Head, Body, Refused}
+use Rattle.request_framing.specs.declared.waiting.Came.{Came}
+use Rattle.request_framing.specs.declared.waiting.Came.TheVariants as came
 
 -- what is given never fails
 abbrev pub no_faults : ℕ
