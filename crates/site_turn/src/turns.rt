@@ -11,6 +11,7 @@ use crate::kinds::{Deed, Finds, Hands, Keeps, Kind, Looks, Quiet};
 use crate::rules::{Following, Giving, Marking, Place, Room, Taking};
 use atomic_table::Badge;
 use site_keeper::Keeper;
+use std::hint::spin_loop;
 use std::sync::Wait;
 use turn_rule::Note;
 
@@ -19,6 +20,9 @@ const TAKEN: u64 = 1;
 
 /// The gate where one has, and another may wait for it: only then is anybody woken when it comes back.
 const AWAITED: u64 = 2;
+
+/// How often a seat that finds the hall out tries again before it parks. Most turns take less time than to park and to be woken.
+const TRIES: u32 = 64;
 
 /// Takes the hall out, where nobody has it, and leaves this in the gate.
 fn try_take<K: Keeper>(room: &Room<K>, seat: &mut Place<K>, gate: u64) -> Option<Home<K>>
@@ -58,9 +62,15 @@ pub(crate) fn take_out<K: Keeper, R: Wait>(rt: &R, room: &Room<K>, seat: &mut Pl
     ensures knows { All (Knows (noted result)) seat.old.me.0.passes }
 {
     let mut gate = TAKEN;
+    let mut tries = TRIES;
     'tries: for _ in rt.forever() {
         if let Some(hall) = try_take(room, seat, gate) {
             return hall;
+        }
+        if tries > 0 {
+            tries -= 1;
+            spin_loop();
+            continue;
         }
         gate = AWAITED;
         mark(room, seat);
