@@ -10,8 +10,8 @@ use crate::bucket::{Again, Bucket, Placed};
 use crate::steps::Steps;
 use crate::walk::Walk;
 use std::alloc::{AllocError, Global};
-use std::marker::{Brand, Model};
-use std::sync::ledger::{Blank, Ledger};
+use std::marker::Model;
+use std::sync::ledger::Ledger;
 
 /// How many buckets a map has.
 const BUCKETS: usize = 1_024;
@@ -165,14 +165,6 @@ impl<K: Placed, V: Again> BucketMap<K, V> {
         Ok(())
     }
 
-    /// As `put`, for who counts no steps.
-    pub fn set(&mut self, key: &K, value: &V) -> Result<(), AllocError>
-        ensures ok { OnOk result (self.new ≡ insert_entry K.cmp self.old key.now value.now) }
-        ensures err { OnErr result (self.new ≡ self.old) }
-    {
-        put_from::<Brand, K, V>(self, key, value, Blank::new(1))
-    }
-
     /// Removes a key. `Err` only where memory is wanting, and then the map is as it was. It takes at most as many steps as
     /// the key's bucket has entries.
     pub fn remove<L: Ledger>(&mut self, key: &K, steps: &mut Steps<L>) -> Result<(), AllocError>
@@ -188,14 +180,6 @@ impl<K: Placed, V: Again> BucketMap<K, V> {
             self.size = size;
         }
         Ok(())
-    }
-
-    /// As `remove`, for who counts no steps.
-    pub fn unset(&mut self, key: &K) -> Result<(), AllocError>
-        ensures ok { OnOk result (self.new ≡ remove_entry (is_at (K.cmp key.now)) self.old) }
-        ensures err { OnErr result (self.new ≡ self.old) }
-    {
-        remove_from::<Brand, K, V>(self, key, Blank::new(1))
     }
 }
 
@@ -241,37 +225,4 @@ fn add_keys<K: Placed, V: Again>(keys: &mut Vec<K>, entries: &[(K, V)]) -> Resul
         keys.push(*key)?;
     }
     Ok(())
-}
-
-/// Sets the value of a key, with a count of steps of its own.
-fn put_from<L: Ledger, K: Placed, V: Again>(
-    map: &mut BucketMap<K, V>,
-    key: &K,
-    value: &V,
-    blank: Blank,
-) -> Result<(), AllocError>
-    requires name { blank.name ≡ L.name }
-    requires parts { blank.parts ≡ L.parts }
-    requires some { 0 < L.parts }
-    ensures ok { OnOk result (map.new ≡ insert_entry K.cmp map.old key.now value.now) }
-    ensures err { OnErr result (map.new ≡ map.old) }
-{
-    let mut steps = Steps::<L>::new(blank);
-    map.put(key, value, &mut steps)
-}
-
-/// Removes a key, with a count of steps of its own.
-fn remove_from<L: Ledger, K: Placed, V: Again>(
-    map: &mut BucketMap<K, V>,
-    key: &K,
-    blank: Blank,
-) -> Result<(), AllocError>
-    requires name { blank.name ≡ L.name }
-    requires parts { blank.parts ≡ L.parts }
-    requires some { 0 < L.parts }
-    ensures ok { OnOk result (map.new ≡ remove_entry (is_at (K.cmp key.now)) map.old) }
-    ensures err { OnErr result (map.new ≡ map.old) }
-{
-    let mut steps = Steps::<L>::new(blank);
-    map.remove(key, &mut steps)
 }

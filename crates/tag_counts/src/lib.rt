@@ -1,8 +1,9 @@
 //! How often each cache tag was invalidated.
 #![tactic(auto)]
 
-ghost use Rattle.std.specs.Prelude.{◌≡◌, ◌≢◌, ◌↔◌, ◌≤◌, ◌+◌, [], length, IfOk, OnOk, OnErr, IsErrOf, IfErr, IfSome, IfNone, IsTrue};
+ghost use Rattle.std.specs.Prelude.{◌≡◌, ◌≢◌, ◌↔◌, ◌≤◌, ◌<◌, ◌+◌, [], length, IfOk, OnOk, OnErr, IsErrOf, IfErr, IfSome, IfNone, IsTrue};
 ghost use Rattle.bucket_map.specs.Buckets.{bucket_size};
+ghost use Rattle.tag_counts.specs.Counts.{with_count};
 ghost use Rattle.tag_counts.specs.Key.{tag_place};
 ghost use Rattle.tag_counts.specs.declared.BumpFault.TheVariants as bump_fault;
 
@@ -12,8 +13,8 @@ use bucket_map::{BucketMap, Steps};
 use cacheability::Tag;
 use key::Key;
 use std::alloc::{AllocError, AllocFailed, Global};
-use std::marker::Model;
-use std::sync::ledger::Ledger;
+use std::marker::{Brand, Model};
+use std::sync::ledger::{Blank, Ledger};
 
 /// The count of this tag is 18,446,744,073,709,551,615 and cannot be raised.
 #[derive(Clone, Copy, Debug)]
@@ -68,7 +69,7 @@ impl Model for Counts {
 }
 
 impl Counts {
-    ghost use Rattle.tag_counts.specs.Counts.{count_of, sum_of, bumped, with_count, IsInOrder};
+    ghost use Rattle.tag_counts.specs.Counts.{count_of, sum_of, bumped, IsInOrder};
     ghost use Rattle.cacheability.specs.declared.tag.Tag.{Tag as TagValue};
 
     /// No tag was invalidated.
@@ -170,7 +171,7 @@ impl Counts {
         ensures err { OnErr result (self.new ≡ self.old) }
     {
         self.table.stands_in_order();
-        self.table.set(&Key(*tag), &count)
+        put_from::<Brand>(&mut self.table, &Key(*tag), &count, Blank::new(1))
     }
 
     /// The same counts again, which share all that they have. `Err` only where memory is wanting.
@@ -183,4 +184,21 @@ impl Counts {
             table: self.table.share()?,
         })
     }
+}
+
+/// Sets the count of a tag, with a count of steps of its own.
+fn put_from<L: Ledger>(
+    table: &mut BucketMap<Key, u64>,
+    key: &Key,
+    count: &u64,
+    blank: Blank,
+) -> Result<(), AllocError>
+    requires name { blank.name ≡ L.name }
+    requires parts { blank.parts ≡ L.parts }
+    requires some { 0 < L.parts }
+    ensures ok { OnOk result (table.new ≡ with_count table.old key.now count.now) }
+    ensures err { OnErr result (table.new ≡ table.old) }
+{
+    let mut steps = Steps::<L>::new(blank);
+    table.put(key, count, &mut steps)
 }

@@ -1,4 +1,0 @@
-use Rattle.bucket_map.proofs.map.BucketMap.unset.Given as goal
-
-abbrev pub ghosts-remove_from : goal.ghosts-remove_from
-ghosts-remove_from g a = record { name = a.blank.name; parts = a.blank.parts }

@@ -1,0 +1,4 @@
+use Rattle.tag_counts.proofs.Counts.set.Given as goal
+
+abbrev pub ghosts-put_from : goal.ghosts-put_from
+ghosts-put_from a = record { name = a.blank.name; parts = a.blank.parts }
