@@ -15,12 +15,12 @@ use Rattle.json_keys.specs.declared.shape.Entry.TheVariants as entry
 use Rattle.json_keys.specs.declared.shape.Form.TheVariants as form
 use Rattle.json_keys.specs.declared.shape.Plain.TheVariants as plain
 use Rattle.json_keys.specs.declared.shape.Shape.TheVariants as shape
-use Rattle.row_kinds.specs.Look.{flag_in, text_in, option_in, items_in, list_in, texts_in, text_data, option_data, name_or_blank, OrNone, IsNameText, IsTypedText}
+use Rattle.row_kinds.specs.Look.{flag_in, small_in, text_in, option_in, items_in, list_in, texts_in, whole_data, text_data, option_data, name_or_blank, OrNone, IsNameText, IsTypedText}
 use Rattle.row_kinds.specs.Rows.{IsTypedGrant, IsTypedGrantRow}
 use Rattle.row_kinds.proofs.Codec.{Codec, Between}
 use Rattle.row_kinds.proofs.ContentLaws.{grant_rows}
 use Rattle.row_kinds.proofs.Fields.{AreTexts, fields}
-use Rattle.row_kinds.proofs.Keys.{zero_least, below_top, moment, next_id, owner_id, maybe_path, ids, names}
+use Rattle.row_kinds.proofs.Keys.{zero_least, below_top, moment, next_id, owner_id, maybe_path, maybe_id, ids, names}
 use Rattle.row_kinds.proofs.Lists.{IsListOf, of_each, of_some_passes, of_for_some}
 use Rattle.row_kinds.proofs.Numbers.{flag}
 use Rattle.row_kinds.proofs.PeopleLaws.{grants}
@@ -61,31 +61,39 @@ set_flag_back {fault} Good c false g = left_out fault flag_in false refl
 
 -- ---- terms
 
+a_parent_back : (v : Option ℕ) → ForSome v IsId → ReadBack (entry_fault (entry.NullOr (plain.Whole 1 4294967294))) (option_in small_in) (option_map whole_data v) v
+a_parent_back None h = left_out (entry_fault (entry.NullOr (plain.Whole 1 4294967294))) (option_in small_in) None refl
+a_parent_back (Some id) h = whole_back maybe_id (Some id) (h id refl)
+
 pub new_term_back : (new : NewTerm) → IsRightNewTerm new → ComesBack new_term_in new_term_keys (new_term_said new) new
 new_term_back new right =
     let said = new_term_said new in
     let description_back = some_text_back (Passes is_text) body new.description right.description in
     let name_back = whole_back (line 255) new.name right.name in
+    let parent_back = a_parent_back new.parent right.parent in
     let status_back = sent_back flag new.status (no_word new.status) in
     let uuid_back = whole_back uuid new.uuid right.uuid in
     let description_is = read_is said (codes "description") _ _ refl description_back in
     let name_is = read_is said (codes "name") _ _ refl name_back in
+    let parent_is = read_is said (codes "parent") _ _ refl parent_back in
     let status_is = sent_is said (codes "status") _ _ refl status_back in
     let uuid_is = read_is said (codes "uuid") _ _ refl uuid_back in
-    comes_back new_term_in new_term_keys said new (description_back.fine, (name_back.fine, (status_back.fine, (uuid_back.fine, tt)))) refl
-    (λ i. record { description = description_is i; name = name_is i; status = status_is i; uuid = uuid_is i })
+    comes_back new_term_in new_term_keys said new (description_back.fine, (name_back.fine, (parent_back.fine, (status_back.fine, (uuid_back.fine, tt))))) refl
+    (λ i. record { description = description_is i; name = name_is i; parent = parent_is i; status = status_is i; uuid = uuid_is i })
 
 pub term_patch_back : (patch : TermPatch) → IsRightTermPatch patch → ComesBack term_patch_in term_patch_keys (term_patch_said patch) patch
 term_patch_back patch right =
     let said = term_patch_said patch in
     let description_back = sent_back body patch.description (of_for_some (Passes is_text) (Passes is_text) (λ t g. g) patch.description right.description) in
     let name_back = sent_back (line 255) patch.name (of_for_some (Passes (is_line 255)) (Passes (is_line 255)) (λ t g. g) patch.name right.name) in
+    let parent_back = sent_back maybe_id patch.parent (of_for_some (λ v. ForSome v IsId) (OrNone (Between 1 4294967294)) (of_for_some IsId (Between 1 4294967294) (λ n g. g)) patch.parent right.parent) in
     let status_back = sent_back flag patch.status (no_word patch.status) in
     let description_is = sent_is said (codes "description") _ _ refl description_back in
     let name_is = sent_is said (codes "name") _ _ refl name_back in
+    let parent_is = sent_is said (codes "parent") _ _ refl parent_back in
     let status_is = sent_is said (codes "status") _ _ refl status_back in
-    comes_back term_patch_in term_patch_keys said patch (description_back.fine, (name_back.fine, (status_back.fine, tt))) refl
-    (λ i. record { description = description_is i; name = name_is i; status = status_is i })
+    comes_back term_patch_in term_patch_keys said patch (description_back.fine, (name_back.fine, (parent_back.fine, (status_back.fine, tt)))) refl
+    (λ i. record { description = description_is i; name = name_is i; parent = parent_is i; status = status_is i })
 
 -- ---- users
 

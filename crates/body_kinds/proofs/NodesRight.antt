@@ -18,13 +18,13 @@ use Rattle.row_kinds.proofs.ContentLaws.{grant_rows}
 use Rattle.row_kinds.proofs.Fields.{AreTexts, fields, pair_right}
 use Rattle.row_kinds.proofs.Keys.{moment, next_id, owner_id, maybe_path, ids}
 use Rattle.row_kinds.proofs.Lists.{IsListOf, each_of, some_passes, for_some}
-use Rattle.row_kinds.proofs.Objects.{IsPassed, held, good}
+use Rattle.row_kinds.proofs.Objects.{IsPassed, held, good, read_right}
 use Rattle.row_kinds.proofs.Strings.{Passes, line, uuid, name_same}
 use Rattle.site_commands.specs.Right.{OfBody, IsRightNewNode, IsRightNodePatch}
 use Rattle.site_commands.specs.declared.body.FieldChange.{FieldChange}
 use Rattle.body_kinds.specs.Bodies.{changes_in, new_node_in, node_patch_in}
 use Rattle.body_kinds.specs.Tables.{new_node_keys, node_patch_keys}
-use Rattle.body_kinds.proofs.Said.{sent_right, read_right, checked_right}
+use Rattle.body_kinds.proofs.Said.{sent_right, checked_right}
 
 -- ---- fields
 

@@ -1,22 +1,24 @@
 -- Terms and users: what is let through is right.
 use Rattle.std.proofs.Common.{◌≡◌, ◌≤◌, [], length, true, refl, codes, lit≤}
 use Rattle.serde_json.specs.Data.{Data}
-use Rattle.content_rows.specs.Kinds.{is_line, is_text, is_uuid_byte}
+use Rattle.std.specs.Option.{ForSome}
+use Rattle.content_rows.specs.Kinds.{IsId, is_line, is_text, is_uuid_byte}
 use Rattle.json_keys.specs.Checked.{read_checked}
 use Rattle.json_keys.specs.Fault.{ask_fault, is_wanted}
 use Rattle.json_keys.specs.Order.{AllInOrder}
-use Rattle.row_kinds.specs.Look.{text_in, name_in, items_in, list_in, IsNameText}
+use Rattle.row_kinds.specs.Look.{small_in, text_in, name_in, option_in, items_in, list_in, OrNone, IsNameText}
 use Rattle.row_kinds.specs.Rows.{grant_in, IsTypedGrant}
-use Rattle.row_kinds.proofs.Keys.{names}
+use Rattle.row_kinds.proofs.Codec.{Between}
+use Rattle.row_kinds.proofs.Keys.{maybe_id, names}
 use Rattle.row_kinds.proofs.Lists.{IsListOf, for_some}
-use Rattle.row_kinds.proofs.Objects.{IsPassed, held, good}
+use Rattle.row_kinds.proofs.Objects.{IsPassed, held, good, read_right}
 use Rattle.row_kinds.proofs.PeopleLaws.{grants}
 use Rattle.row_kinds.proofs.Strings.{Passes, line, body, uuid}
 use Rattle.row_kinds.proofs.Utf8.{ascii_utf8, uuid_byte}
 use Rattle.site_commands.specs.Right.{OfBody, IsRightNewTerm, IsRightTermPatch, IsRightNewUser, IsRightUserPatch}
 use Rattle.body_kinds.specs.Bodies.{new_term_in, term_patch_in, new_user_in, user_patch_in}
 use Rattle.body_kinds.specs.Tables.{new_term_keys, term_patch_keys, new_user_keys, user_patch_keys}
-use Rattle.body_kinds.proofs.Said.{sent_right, read_right, checked_right}
+use Rattle.body_kinds.proofs.Said.{sent_right, checked_right}
 
 -- ---- terms
 
@@ -27,8 +29,14 @@ new_term : (d : Data) → IsPassed ask_fault is_wanted new_term_keys d → IsRig
 new_term d p =
     let description_is = read_right text_in (Passes is_text) p (codes "description") _ refl body.right empty_text in
     let name_is = good (held p) (codes "name") _ refl refl (line 255) in
+    let parent_is = read_right (option_in small_in) (OrNone (Between 1 4294967294)) p (codes "parent") _ refl maybe_id.right tt in
     let uuid_is = good (held p) (codes "uuid") _ refl refl uuid in
-    record { description = description_is; name = name_is; uuid = uuid_is }
+    record {
+      description = description_is;
+      name = name_is;
+      parent = for_some (Between 1 4294967294) IsId (λ n g. g) (new_term_in d).parent parent_is;
+      uuid = uuid_is;
+    }
 
 pub new_term_right : (d : Data) → AllInOrder d → OfBody IsRightNewTerm (read_checked new_term_in new_term_keys d)
 new_term_right d o = checked_right new_term_in new_term_keys IsRightNewTerm d o (new_term d)
@@ -37,9 +45,11 @@ term_patch : (d : Data) → IsPassed ask_fault is_wanted term_patch_keys d → I
 term_patch d p =
     let description_is = sent_right p (codes "description") _ refl body in
     let name_is = sent_right p (codes "name") _ refl (line 255) in
+    let parent_is = sent_right p (codes "parent") _ refl maybe_id in
     record {
       description = for_some (Passes is_text) (Passes is_text) (λ t g. g) (term_patch_in d).description description_is;
       name = for_some (Passes (is_line 255)) (Passes (is_line 255)) (λ t g. g) (term_patch_in d).name name_is;
+      parent = for_some (OrNone (Between 1 4294967294)) (λ parent. ForSome parent IsId) (for_some (Between 1 4294967294) IsId (λ n g. g)) (term_patch_in d).parent parent_is;
     }
 
 pub term_patch_right : (d : Data) → AllInOrder d → OfBody IsRightTermPatch (read_checked term_patch_in term_patch_keys d)

@@ -1,27 +1,19 @@
 -- What a table that lets a body through says of what is read of each key that may be left out.
-use Rattle.std.proofs.Common.{◌≡◌, ℕ, List, Option, None, Some, refl, unwrap_or, option_map}
-use Rattle.serde_json.specs.Data.{Data, null}
+use Rattle.std.proofs.Common.{◌≡◌, ℕ, List, Option, None, Some, refl, option_map}
+use Rattle.serde_json.specs.Data.{Data}
 use Rattle.serde_json.specs.Find.{get}
 use Rattle.json_keys.specs.Checked.{read_checked, unless_faulty}
 use Rattle.json_keys.specs.Fault.{named, ask_fault, is_wanted, first_fault}
 use Rattle.json_keys.specs.Order.{AllInOrder}
 use Rattle.json_keys.specs.declared.rule.Rule.{Rule}
 use Rattle.json_keys.specs.declared.shape.Ask.{Ask}
-use Rattle.json_keys.proofs.Held.{may}
-use Rattle.row_kinds.specs.Look.{value_at, OrNone}
+use Rattle.row_kinds.specs.Look.{OrNone}
 use Rattle.row_kinds.proofs.Codec.{Codec}
-use Rattle.row_kinds.proofs.Objects.{IsPassed, inside}
+use Rattle.row_kinds.proofs.Objects.{IsPassed, IsLet, let_through}
 use Rattle.site_commands.specs.Right.{OfBody}
 use Rattle.body_kinds.specs.Bodies.{sent}
 
 -- ---- a key that may be left out
-
--- a value that may be there is in order and let through
-abbrev IsLet : (Data → Option Rule) → Option Data → Type 0
-IsLet fault o = (v : Data) → o ≡ Some v → AllInOrder v × (fault v ≡ None)
-
-let_through : {ks : List (List ℕ × Ask)} {d : Data} → IsPassed ask_fault is_wanted ks d → (k : List ℕ) (a : Ask) → named ks k ≡ Some a → IsLet (ask_fault a) (get k d)
-let_through {ks} {d} p k a n v is = (inside d k v p.order is, may ask_fault is_wanted ks k a d v p.passed n is)
 
 sent_at : {X : Type 0} (fault : Data → Option Rule) (of : Data → X) (shown : X → Data) (Good : X → Type 0) → Codec X fault of shown Good → (o : Option Data) → IsLet fault o → OrNone Good (option_map of o)
 sent_at fault of shown Good c None h = tt
@@ -31,16 +23,6 @@ sent_at fault of shown Good c (Some v) h = let is = h v refl in c.right v is.0 i
 pub sent_right : {X : Type 0} {of : Data → X} {shown : X → Data} {Good : X → Type 0} {ks : List (List ℕ × Ask)} {d : Data} → IsPassed ask_fault is_wanted ks d → (k : List ℕ) (a : Ask)
     → named ks k ≡ Some a → Codec X (ask_fault a) of shown Good → OrNone Good (sent of k d)
 sent_right {X} {of} {shown} {Good} {ks} {d} p k a n c = sent_at (ask_fault a) of shown Good c (get k d) (let_through p k a n)
-
-read_at : {X : Type 0} (fault : Data → Option Rule) (of : Data → X) (Good : X → Type 0) → ((v : Data) → AllInOrder v → fault v ≡ None → Good (of v)) → (o : Option Data) → IsLet fault o → Good (of null)
-    → Good (of (unwrap_or o null))
-read_at fault of Good right None h none = none
-read_at fault of Good right (Some v) h none = let is = h v refl in right v is.0 is.1
-
--- what is read at a key is good, where what its absence says is
-pub read_right : {X : Type 0} {ks : List (List ℕ × Ask)} {d : Data} (of : Data → X) (Good : X → Type 0) → IsPassed ask_fault is_wanted ks d → (k : List ℕ) (a : Ask) → named ks k ≡ Some a
-    → ((v : Data) → AllInOrder v → ask_fault a v ≡ None → Good (of v)) → Good (of null) → Good (of (value_at k d))
-read_right {X} {ks} {d} of Good p k a n right none = read_at (ask_fault a) of Good right (get k d) (let_through p k a n) none
 
 -- ---- a whole body
 

@@ -62,6 +62,7 @@ abbrev pub new_term_in : Data → NewTerm
 new_term_in d = record {
   description = text_in (value_at (codes "description") d);
   name = text_in (value_at (codes "name") d);
+  parent = option_in small_in (value_at (codes "parent") d);
   status = sent flag_in (codes "status") d;
   uuid = text_in (value_at (codes "uuid") d);
 }
@@ -70,6 +71,7 @@ abbrev pub term_patch_in : Data → TermPatch
 term_patch_in d = record {
   description = sent text_in (codes "description") d;
   name = sent text_in (codes "name") d;
+  parent = sent (option_in small_in) (codes "parent") d;
   status = sent flag_in (codes "status") d;
 }
 

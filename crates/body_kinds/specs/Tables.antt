@@ -39,6 +39,9 @@ a_name = shape.Of (entry.One (plain.Text form.Name))
 abbrev pub path_or_null : Shape
 path_or_null = shape.Of (entry.NullOr (plain.Text form.Path))
 
+abbrev pub id_or_null : Shape
+id_or_null = shape.Of (entry.NullOr (plain.Whole 1 4294967294))
+
 abbrev pub ids : ℕ → Shape
 ids most = shape.Each most (entry.One (plain.Whole 1 4294967294))
 
@@ -85,14 +88,17 @@ abbrev pub new_term_keys : List (List ℕ × Ask)
 new_term_keys =
     (codes "description", ask.May a_text)
     ∷ (codes "name", ask.Must (a_line 255))
+    ∷ (codes "parent", ask.May id_or_null)
     ∷ (codes "status", ask.May a_flag)
     ∷ (codes "uuid", ask.Must a_uuid)
     ∷ []
 
+-- null takes the parent away
 abbrev pub term_patch_keys : List (List ℕ × Ask)
 term_patch_keys =
     (codes "description", ask.May a_text)
     ∷ (codes "name", ask.May (a_line 255))
+    ∷ (codes "parent", ask.May id_or_null)
     ∷ (codes "status", ask.May a_flag)
     ∷ []
 

@@ -109,6 +109,7 @@ abbrev pub new_term_said : NewTerm → Said
 new_term_said new =
     (codes "description", some_text new.description)
     ∷ (codes "name", Some (text_data new.name))
+    ∷ (codes "parent", option_map whole_data new.parent)
     ∷ (codes "status", option_map boolean new.status)
     ∷ (codes "uuid", Some (text_data new.uuid))
     ∷ []
@@ -117,6 +118,7 @@ abbrev pub term_patch_said : TermPatch → Said
 term_patch_said patch =
     (codes "description", option_map text_data patch.description)
     ∷ (codes "name", option_map text_data patch.name)
+    ∷ (codes "parent", option_map (option_data whole_data) patch.parent)
     ∷ (codes "status", option_map boolean patch.status)
     ∷ []
 

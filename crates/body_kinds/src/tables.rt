@@ -27,6 +27,8 @@ const PASSWORD: Shape = Shape::Of(Entry::One(Plain::Text(Form::Line(128))));
 
 const PATH: Shape = Shape::Of(Entry::NullOr(Plain::Text(Form::Path)));
 
+const PARENT: Shape = Shape::Of(Entry::NullOr(Plain::Whole(1, 4_294_967_294)));
+
 const RECORDS: Shape = Shape::Table(64, Columns::GrantRow);
 
 const GRANTS: Shape = Shape::Table(64, Columns::Grant);
@@ -71,17 +73,19 @@ pub(crate) const NODE_PATCH: [Key; 12] = [
 ];
 
 /// The keys of a term to be made.
-pub(crate) const NEW_TERM: [Key; 4] = [
+pub(crate) const NEW_TERM: [Key; 5] = [
     ("description", Ask::May(TEXT)),
     ("name", Ask::Must(TITLE)),
+    ("parent", Ask::May(PARENT)),
     ("status", Ask::May(FLAG)),
     ("uuid", Ask::Must(UUID)),
 ];
 
-/// The keys of a change of a term.
-pub(crate) const TERM_PATCH: [Key; 3] = [
+/// The keys of a change of a term: `null` takes its parent away.
+pub(crate) const TERM_PATCH: [Key; 4] = [
     ("description", Ask::May(TEXT)),
     ("name", Ask::May(TITLE)),
+    ("parent", Ask::May(PARENT)),
     ("status", Ask::May(FLAG)),
 ];
 

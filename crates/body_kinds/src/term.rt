@@ -14,6 +14,7 @@ impl ReadBody for NewTerm {
         Ok(NewTerm {
             description: read_at(alloc, value, "description")?,
             name: read_at(alloc, value, "name")?,
+            parent: read_at(alloc, value, "parent")?,
             status: sent(alloc, value, "status")?,
             uuid: read_at(alloc, value, "uuid")?,
         })
@@ -27,6 +28,7 @@ impl ReadBody for TermPatch {
         Ok(TermPatch {
             description: sent(alloc, value, "description")?,
             name: sent(alloc, value, "name")?,
+            parent: sent(alloc, value, "parent")?,
             status: sent(alloc, value, "status")?,
         })
     }

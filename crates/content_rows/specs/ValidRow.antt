@@ -69,6 +69,7 @@ pub record IsValidUser (r : User) : Type 0 where
 pub record IsValidTerm (r : Term) : Type 0 where
   pub description : IsTrue (is_text r.description)
   pub name : IsTrue (is_line 255 r.name)
+  pub parent : ForSome r.parent IsId
   pub uuid : IsTrue (is_uuid r.uuid)
 
 -- the values of fields are a map: by the bytes of their names, each name once

@@ -152,6 +152,7 @@ impl Duplicate for Term {
         Ok(Term {
             description: self.description.duplicate(alloc)?,
             name: self.name.duplicate(alloc)?,
+            parent: self.parent,
             status: self.status,
             uuid: self.uuid.duplicate(alloc)?,
         })

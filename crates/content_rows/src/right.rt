@@ -177,6 +177,7 @@ fn is_right_term(term: &Term) -> bool
 {
     is_text(term.description.as_slice())
         && is_line(255, term.name.as_slice())
+        && is_id_if_any(term.parent)
         && is_uuid(term.uuid.as_slice())
 }
 

@@ -179,6 +179,8 @@ pub struct Term {
     pub description: Text,
     /// Its name, a line of at most 255 bytes.
     pub name: Text,
+    /// The id of the term that it stands under; none at the top.
+    pub parent: Option<u32>,
     /// Whether it is published.
     pub status: bool,
     /// Its universal id.
@@ -190,6 +192,7 @@ impl Drop for Term {
         let Term {
             description: _,
             name: _,
+            parent: _,
             status: _,
             uuid: _,
         } = self;

@@ -1,4 +1,4 @@
--- What is read of an object is right, and is written as that object.
+-- What is read of an object is right, and is written as that object where all keys are there.
 use Rattle.std.proofs.Common.{◌≡◌, ℕ, List, ◌∷◌, Option, Some, None, refl, sym, ap, subst, ◌∙◌, codes, unwrap_or}
 use Rattle.serde_json.specs.Data.{Data, null, boolean, number, string, array, object}
 use Rattle.serde_json.specs.Find.{get}
@@ -26,7 +26,7 @@ use Rattle.row_kinds.proofs.ContentLaws.{type_right, type_kept, term_right, term
 use Rattle.row_kinds.proofs.PeopleLaws.{role_right, role_kept, user_right, user_kept, session_right, session_kept}
 use Rattle.row_kinds.proofs.StructureLaws.{site_right, site_kept, seq_right, seq_kept, menu_right, menu_kept, listing_right, listing_kept, block_right, block_kept}
 use Rattle.row_json.specs.Cells.{cell_of}
-use Rattle.row_json.specs.Reading.{known_cell, cell_in, of_kind, row_in, row_data, reading, written}
+use Rattle.row_json.specs.Reading.{known_cell, cell_in, of_kind, row_in, row_data, reading, written, HasAllKeys}
 use Rattle.row_json.specs.Whole.{whole_fault}
 use Rattle.row_json.proofs.CellTexts.{IsSound, cell_told, cell_utf8}
 use Rattle.row_json.proofs.Wholes.{type_whole, menu_whole, listing_whole, block_whole}
@@ -69,60 +69,60 @@ kind_known make of keys d r h =
 keys_held : {keys : List (List ℕ × Ask)} {d : Data} → IsPassed ask_fault is_wanted ((codes "cell", ask.Must shape.Any) ∷ keys) d → named keys (codes "cell") ≡ None → IsHeld ask_fault is_wanted keys d
 keys_held {keys} {d} p none = held_later (codes "cell") (ask.Must shape.Any) p none
 
--- right for its cell, and written as it was
+-- right for its cell, and written as it was where all keys are there
 abbrev IsKept : Cell → Data → Row → Type 0
-IsKept c d r = IsValidRow c r × (with_cell (value_at (codes "cell") d) row_data r ≡ d)
+IsKept c d r = IsValidRow c r × (HasAllKeys c d → with_cell (value_at (codes "cell") d) row_data r ≡ d)
 
 kind_kept : (c : Cell) (d : Data) (r : Row) → AllInOrder d → row_in d c ≡ checked.Right r → whole_fault r ≡ None → IsSound c → IsKept c d r
 kind_kept cell.Site d r o h w s =
     let k = kind_known row.Site site_in site_row d r h in
     let p : IsPassed ask_fault is_wanted site_row d = record { order = o; passed = k.0 } in
-    subst (IsKept cell.Site d) k.1 (site_right d (keys_held p refl), site_kept d p)
+    subst (IsKept cell.Site d) k.1 (site_right d (keys_held p refl), λ all. site_kept d p)
 kind_kept cell.Seq d r o h w s =
     let k = kind_known row.Seq seq_in seq_row d r h in
     let p : IsPassed ask_fault is_wanted seq_row d = record { order = o; passed = k.0 } in
-    subst (IsKept cell.Seq d) k.1 ((seq_right d (keys_held p refl)).0, seq_kept d p)
+    subst (IsKept cell.Seq d) k.1 ((seq_right d (keys_held p refl)).0, λ all. seq_kept d p)
 kind_kept (cell.NodeType name) d r o h w s =
     let k = kind_known row.NodeType type_in type_row d r h in
     let p : IsPassed ask_fault is_wanted type_row d = record { order = o; passed = k.0 } in
-    subst (IsKept (cell.NodeType name) d) k.1 ((type_right d (keys_held p refl) (type_whole (type_in d) (ap whole_fault k.1 ∙ w))).0, type_kept d p)
+    subst (IsKept (cell.NodeType name) d) k.1 ((type_right d (keys_held p refl) (type_whole (type_in d) (ap whole_fault k.1 ∙ w))).0, λ all. type_kept d p)
 kind_kept (cell.Role name) d r o h w s =
     let k = kind_known row.Role role_in role_row d r h in
     let p : IsPassed ask_fault is_wanted role_row d = record { order = o; passed = k.0 } in
-    subst (IsKept (cell.Role name) d) k.1 ((role_right d (keys_held p refl)).0, role_kept d p)
+    subst (IsKept (cell.Role name) d) k.1 ((role_right d (keys_held p refl)).0, λ all. role_kept d p)
 kind_kept (cell.User id) d r o h w s =
     let k = kind_known row.User user_in user_row d r h in
     let p : IsPassed ask_fault is_wanted user_row d = record { order = o; passed = k.0 } in
-    subst (IsKept (cell.User id) d) k.1 ((s, (user_right d (keys_held p refl)).0), user_kept d p)
+    subst (IsKept (cell.User id) d) k.1 ((s, (user_right d (keys_held p refl)).0), λ all. user_kept d p)
 kind_kept (cell.Term id) d r o h w s =
     let k = kind_known row.Term term_in term_row d r h in
     let p : IsPassed ask_fault is_wanted term_row d = record { order = o; passed = k.0 } in
-    subst (IsKept (cell.Term id) d) k.1 ((s, term_right d (keys_held p refl)), term_kept d p)
+    subst (IsKept (cell.Term id) d) k.1 ((s, term_right d p), λ all. term_kept d p all)
 kind_kept (cell.Node id) d r o h w s =
     let k = kind_known row.Node node_in node_row d r h in
     let p : IsPassed ask_fault is_wanted node_row d = record { order = o; passed = k.0 } in
-    subst (IsKept (cell.Node id) d) k.1 ((s, (node_right d (keys_held p refl)).0), node_kept d p)
+    subst (IsKept (cell.Node id) d) k.1 ((s, (node_right d (keys_held p refl)).0), λ all. node_kept d p)
 kind_kept (cell.Menu name) d r o h w s =
     let k = kind_known row.Menu menu_in menu_row d r h in
     let p : IsPassed ask_fault is_wanted menu_row d = record { order = o; passed = k.0 } in
-    subst (IsKept (cell.Menu name) d) k.1 ((menu_right d (keys_held p refl) (menu_whole (menu_in d) (ap whole_fault k.1 ∙ w))).0, menu_kept d p)
+    subst (IsKept (cell.Menu name) d) k.1 ((menu_right d (keys_held p refl) (menu_whole (menu_in d) (ap whole_fault k.1 ∙ w))).0, λ all. menu_kept d p)
 kind_kept (cell.Listing name) d r o h w s =
     let k = kind_known row.Listing listing_in listing_row d r h in
     let p : IsPassed ask_fault is_wanted listing_row d = record { order = o; passed = k.0 } in
-    subst (IsKept (cell.Listing name) d) k.1 ((listing_right d (keys_held p refl) (listing_whole (listing_in d) (ap whole_fault k.1 ∙ w))).0, listing_kept d p)
+    subst (IsKept (cell.Listing name) d) k.1 ((listing_right d (keys_held p refl) (listing_whole (listing_in d) (ap whole_fault k.1 ∙ w))).0, λ all. listing_kept d p)
 kind_kept (cell.Block name) d r o h w s =
     let k = kind_known row.Block block_in block_row d r h in
     let p : IsPassed ask_fault is_wanted block_row d = record { order = o; passed = k.0 } in
-    subst (IsKept (cell.Block name) d) k.1 ((block_right d (keys_held p refl) (block_whole (block_in d) (ap whole_fault k.1 ∙ w))).0, block_kept d p)
+    subst (IsKept (cell.Block name) d) k.1 ((block_right d (keys_held p refl) (block_whole (block_in d) (ap whole_fault k.1 ∙ w))).0, λ all. block_kept d p)
 kind_kept (cell.Session name) d r o h w s =
     let k = kind_known row.Session session_in session_row d r h in
     let p : IsPassed ask_fault is_wanted session_row d = record { order = o; passed = k.0 } in
-    subst (IsKept (cell.Session name) d) k.1 (session_right d (keys_held p refl), session_kept d p)
+    subst (IsKept (cell.Session name) d) k.1 (session_right d (keys_held p refl), λ all. session_kept d p)
 kind_kept cell.Head d r o h w s = absurd s
 
 -- ---- the whole
 
-pub told : (d : Data) (c : Cell) (r : Row) → AllInOrder d → reading d ≡ checked.Right (c, r) → IsValidRow c r × (written c r ≡ d)
+pub told : (d : Data) (c : Cell) (r : Row) → AllInOrder d → reading d ≡ checked.Right (c, r) → IsValidRow c r × (HasAllKeys c d → written c r ≡ d)
 told d c r o h =
     let (k, cell_read, rest) = gone_on (λ c. go_on (λ r. unless_faulty (c, r) (whole_fault r)) (row_in d c)) (cell_in (get (codes "cell") d)) (c, r) h in
     let (s, row_read, last) = gone_on (λ r. unless_faulty (k, r) (whole_fault r)) (row_in d k) (c, r) rest in
@@ -132,4 +132,4 @@ told d c r o h =
     let kept = kind_kept k d s o row_read whole.0 cell_is.sound in
     let text : text_data (cell_text k) ≡ value_at (codes "cell") d =
     text_written (cell_text k) (cell_utf8 k cell_is.sound) ∙ ap string cell_is.text ∙ sym (ap (λ o. unwrap_or o null) found) in
-    subst (λ (p : Cell × Row). IsValidRow p.0 p.1 × (written p.0 p.1 ≡ d)) whole.1 (kept.0, ap (λ x. with_cell x row_data s) text ∙ kept.1)
+    subst (λ (p : Cell × Row). IsValidRow p.0 p.1 × (HasAllKeys p.0 d → written p.0 p.1 ≡ d)) whole.1 (kept.0, λ all. ap (λ x. with_cell x row_data s) text ∙ kept.1 all)

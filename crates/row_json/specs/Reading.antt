@@ -1,5 +1,5 @@
 -- What an object says as a row with its cell, or the first rule that it breaks, and what is written of a row.
-use Rattle.std.specs.Prelude.{ℕ, List, ◌≡◌, Option, None, Some, codes}
+use Rattle.std.specs.Prelude.{ℕ, List, ◌≡◌, Option, None, Some, is_some, codes, IsTrue}
 use Rattle.serde_json.specs.Data.{Data, string}
 use Rattle.serde_json.specs.Find.{get}
 use Rattle.std.specs.declared.alloc.AllocError.{AllocError}
@@ -15,7 +15,7 @@ use Rattle.json_keys.specs.declared.checked.Checked.TheVariants as checked
 use Rattle.json_keys.specs.declared.rule.Rule.TheVariants as rule
 use Rattle.json_keys.specs.declared.shape.Ask.{Ask}
 use Rattle.row_kinds.specs.Look.{text_data, with_cell}
-use Rattle.row_kinds.specs.Rows.{site_in, site_data, seq_in, seq_data, type_in, type_data, role_in, role_data, user_in, user_data, term_in, term_data, node_in, node_data, menu_in, menu_data, listing_in, listing_data, block_in, block_data, session_in, session_data, IsTypedSeq, IsTypedType, IsTypedRole, IsTypedUser, IsTypedNode, IsTypedMenu, IsTypedListing, IsTypedBlock}
+use Rattle.row_kinds.specs.Rows.{site_in, site_data, seq_in, seq_data, type_in, type_data, role_in, role_data, user_in, user_data, term_in, term_data, old_term_data, node_in, node_data, menu_in, menu_data, listing_in, listing_data, block_in, block_data, session_in, session_data, IsTypedSeq, IsTypedType, IsTypedRole, IsTypedUser, IsTypedNode, IsTypedMenu, IsTypedListing, IsTypedBlock}
 use Rattle.row_kinds.specs.Tables.{site_row, seq_row, type_row, role_row, user_row, term_row, node_row, menu_row, listing_row, block_row, session_row}
 use Rattle.row_json.specs.Cells.{cell_of, IsTypedCell}
 use Rattle.row_json.specs.Whole.{whole_fault}
@@ -76,6 +76,16 @@ row_data (row.Session r) = session_data r
 abbrev pub written : Cell → Row → Data
 written c r = with_cell (text_data (cell_text c)) row_data r
 
+-- the keys that a row may be read without are there too
+abbrev pub HasAllKeys : Cell → Data → Type 0
+HasAllKeys (cell.Term id) d = IsTrue (is_some (get (codes "parent") d))
+HasAllKeys _ d = Unit {0}
+
+-- one object: a term at the top as it was written before terms had parents
+abbrev pub WasWritten : Cell → Row → Data → Type 0
+WasWritten (cell.Term id) (row.Term r) d = (r.parent ≡ None) × (with_cell (text_data (cell_text (cell.Term id))) old_term_data r ≡ d)
+WasWritten _ _ d = ⊥
+
 -- ---- faults
 
 abbrev pub out_of_memory : AllocError → RowFault → Type 0
@@ -101,9 +111,9 @@ IsTypedRow (row.Listing r) = IsTypedListing r
 IsTypedRow (row.Block r) = IsTypedBlock r
 IsTypedRow (row.Session r) = Unit {0}
 
--- no right row is written so
+-- no right row is or was written so
 abbrev pub IsNoRow : Data → Type 0
-IsNoRow d = (c : Cell) (r : Row) → IsTypedCell c → IsTypedRow r → IsValidRow c r → ¬ (written c r ≡ d)
+IsNoRow d = (c : Cell) (r : Row) → IsTypedCell c → IsTypedRow r → IsValidRow c r → ¬ (written c r ≡ d) × ¬ (WasWritten c r d)
 
 -- an object that breaks a rule is no row; want of memory says nothing
 abbrev pub IsRefused : Data → RowFault → Type 0

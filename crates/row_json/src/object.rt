@@ -8,7 +8,7 @@ ghost use Rattle.json_keys.specs.Fault.{seen, members_in};
 ghost use Rattle.json_keys.specs.declared.checked.Checked.TheVariants as checked;
 ghost use Rattle.row_json.specs.Cells.{IsTypedCell};
 ghost use Rattle.row_json.specs.Whole.{whole_fault};
-ghost use Rattle.row_json.specs.Reading.{cell_in, of_kind, row_in, reading, row_data, written, IsFaultOf, IsRefused, IsTypedRow};
+ghost use Rattle.row_json.specs.Reading.{cell_in, of_kind, row_in, reading, row_data, written, HasAllKeys, IsFaultOf, IsRefused, IsTypedRow};
 
 use crate::cell::{cell_of, has_its_name};
 use crate::fault::RowFault;
@@ -107,12 +107,13 @@ pub fn reading(alloc: Global, value: &Value) -> Result<Checked<(Cell, Row)>, All
 
 /// The row with its cell that an object says; `Rule` exactly where it breaks one, the first of
 /// them, and `OutOfMemory` where memory is wanting. A row that was read is right for its cell,
-/// and is written as the object that it was read of; no right row is written as an object that
-/// was refused.
+/// and is written as the object that it was read of, where that has all keys: of a term's,
+/// `parent` may be missing, and is read as null. No right row is written, or was before terms had
+/// parents, as an object that was refused.
 pub fn row_from_json(alloc: Global, value: &Value) -> Result<(Cell, Row), RowFault>
     ensures told { IfOk result (λ row. reading (view value.now) ≡ checked.Right row) }
     ensures right { IfOk result (λ row. IsValidRow row.0 row.1) }
-    ensures same { IfOk result (λ row. written row.0 row.1 ≡ view value.now) }
+    ensures same { IfOk result (λ row. HasAllKeys row.0 (view value.now) → written row.0 row.1 ≡ view value.now) }
     ensures fault { IfErr result (IsFaultOf (view value.now)) }
     ensures refused { IfErr result (IsRefused (view value.now)) }
 {

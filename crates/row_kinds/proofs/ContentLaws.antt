@@ -1,23 +1,24 @@
 -- Content types, terms and nodes: what is let through is right, what is right comes back, and what is let through is
 -- written again as it was.
-use Rattle.std.proofs.Common.{◌≡◌, List, None, option_map, map, refl, ap, codes}
+use Rattle.std.proofs.Common.{◌≡◌, List, true, None, is_some, option_map, map, refl, sym, ap, codes}
 use Rattle.std.specs.List.{IsDistinct}
 use Rattle.std.specs.Str.{bytes_eq}
 use Rattle.serde_json.specs.Data.{Data, array}
+use Rattle.serde_json.specs.Find.{get}
 use Rattle.content_rows.specs.Kinds.{IsId, is_permission, is_path}
 use Rattle.content_rows.specs.ValidRow.{IsValidField, IsValidNodeType, IsValidTerm, IsValidNode}
 use Rattle.json_keys.specs.Fault.{ask_fault, is_wanted, entry_fault, always, row_fault, columns_of, shape_fault, members_in}
 use Rattle.json_keys.specs.Order.{AllInOrder}
 use Rattle.json_keys.proofs.Held.{object_fine}
-use Rattle.row_kinds.specs.Look.{value_at, with_cell, list_in, items_in, items_data}
-use Rattle.row_kinds.specs.Rows.{grant_row_in, grant_row_data, field_in, field_data, type_in, type_data, term_in, term_data, node_in, node_data, IsTypedField, IsTypedGrantRow, IsTypedNode, IsTypedType}
-use Rattle.row_kinds.specs.Tables.{type_row, term_row, node_row, type_keys, term_keys, node_keys}
-use Rattle.row_kinds.proofs.Codec.{Codec, Back, any, ComesBack}
+use Rattle.row_kinds.specs.Look.{value_at, with_cell, small_in, option_in, list_in, items_in, items_data, OrNone}
+use Rattle.row_kinds.specs.Rows.{grant_row_in, grant_row_data, field_in, field_data, type_in, type_data, term_in, term_data, old_term_data, node_in, node_data, IsTypedField, IsTypedGrantRow, IsTypedNode, IsTypedType}
+use Rattle.row_kinds.specs.Tables.{type_row, term_row, node_row, type_keys, node_keys}
+use Rattle.row_kinds.proofs.Codec.{Codec, Back, any, Between, ComesBack}
 use Rattle.row_kinds.proofs.Fields.{fields}
-use Rattle.row_kinds.proofs.Keys.{zero_least, below_top, below_next, gid, next_id, owner_id, moment, maybe_line, maybe_path, ids}
-use Rattle.row_kinds.proofs.Lists.{table, IsListOf, each_of, of_each, both_of, weaker, some_passes, of_some_passes}
+use Rattle.row_kinds.proofs.Keys.{zero_least, below_top, below_next, gid, next_id, owner_id, moment, maybe_line, maybe_path, maybe_id, ids}
+use Rattle.row_kinds.proofs.Lists.{table, IsListOf, each_of, of_each, both_of, weaker, some_passes, of_some_passes, for_some, of_for_some}
 use Rattle.row_kinds.proofs.Numbers.{flag}
-use Rattle.row_kinds.proofs.Objects.{good, keeps, rebuilt, columns_passed, held, IsHeld, IsPassed}
+use Rattle.row_kinds.proofs.Objects.{good, keeps, keeps_sent, read_right, rebuilt, columns_passed, held, IsHeld, IsPassed}
 use Rattle.row_kinds.proofs.Strings.{line, body, uuid, name}
 use Rattle.content_rows.specs.declared.row.GrantRow.{GrantRow}
 use Rattle.content_rows.specs.declared.row.FieldRow.{FieldRow}
@@ -117,14 +118,17 @@ type_kept d p =
       ),
     )
 
-pub term_right : (d : Data) → IsHeld ask_fault is_wanted term_keys d → IsValidTerm (term_in d)
+pub term_right : (d : Data) → IsPassed ask_fault is_wanted term_row d → IsValidTerm (term_in d)
 term_right d p =
-    let description_is = good p (codes "description") _ refl refl body in
-    let name_is = good p (codes "name") _ refl refl (line 255) in
-    let uuid_is = good p (codes "uuid") _ refl refl uuid in
+    let there = held p in
+    let description_is = good there (codes "description") _ refl refl body in
+    let name_is = good there (codes "name") _ refl refl (line 255) in
+    let parent_is = read_right (option_in small_in) (OrNone (Between 1 4294967294)) p (codes "parent") _ refl maybe_id.right tt in
+    let uuid_is = good there (codes "uuid") _ refl refl uuid in
     record {
       description = description_is;
       name = name_is;
+      parent = for_some (Between 1 4294967294) IsId (λ n g. g) (term_in d).parent parent_is;
       uuid = uuid_is;
     }
 
@@ -132,18 +136,37 @@ pub term_back : (cell : Data) (x : Term) → IsValidTerm x → ComesBack term_ro
 term_back cell x v =
     let description_back = body.back x.description v.description in
     let name_back = (line 255).back x.name v.name in
+    let parent_back = maybe_id.back x.parent (of_for_some IsId (Between 1 4294967294) (λ n g. g) x.parent v.parent) in
     let uuid_back = uuid.back x.uuid v.uuid in (
-      object_fine ask_fault is_wanted term_row (members_in (with_cell cell term_data x)) (refl, (description_back.0, (name_back.0, (refl, (uuid_back.0, tt))))) refl,
+      object_fine ask_fault is_wanted term_row (members_in (with_cell cell term_data x)) (refl, (description_back.0, (name_back.0, (parent_back.0, (refl, (uuid_back.0, tt)))))) refl,
       λ i. record {
         description = description_back.1 i;
         name = name_back.1 i;
+        parent = parent_back.1 i;
         status = x.status;
         uuid = uuid_back.1 i;
       },
     )
 
-pub term_kept : (d : Data) → IsPassed ask_fault is_wanted term_row d → with_cell (value_at (codes "cell") d) term_data (term_in d) ≡ d
-term_kept d p =
+-- a term at the top comes back also where it was written before terms had parents
+pub old_term_back : (cell : Data) (x : Term) → IsValidTerm x → x.parent ≡ None → ComesBack term_row term_in (with_cell cell old_term_data) x
+old_term_back cell x v top =
+    let description_back = body.back x.description v.description in
+    let name_back = (line 255).back x.name v.name in
+    let uuid_back = uuid.back x.uuid v.uuid in (
+      object_fine ask_fault is_wanted term_row (members_in (with_cell cell old_term_data x)) (refl, (description_back.0, (name_back.0, (refl, (uuid_back.0, tt))))) refl,
+      λ i. record {
+        description = description_back.1 i;
+        name = name_back.1 i;
+        parent = sym top i;
+        status = x.status;
+        uuid = uuid_back.1 i;
+      },
+    )
+
+-- where the key `parent` is there
+pub term_kept : (d : Data) → IsPassed ask_fault is_wanted term_row d → is_some (get (codes "parent") d) ≡ true → with_cell (value_at (codes "cell") d) term_data (term_in d) ≡ d
+term_kept d p there =
     rebuilt p (codes "cell") _ refl refl (members_in (with_cell (value_at (codes "cell") d) term_data (term_in d))) refl refl (
       keeps p (codes "cell") _ refl refl any,
       (
@@ -151,8 +174,11 @@ term_kept d p =
         (
           keeps p (codes "name") _ refl refl (line 255),
           (
-            keeps p (codes "status") _ refl refl flag,
-            (keeps p (codes "uuid") _ refl refl uuid, tt),
+            keeps_sent p (codes "parent") _ refl there maybe_id,
+            (
+              keeps p (codes "status") _ refl refl flag,
+              (keeps p (codes "uuid") _ refl refl uuid, tt),
+            ),
           ),
         ),
       ),

@@ -1,5 +1,5 @@
 -- What a table that lets an object through says of what is read of each of its keys.
-use Rattle.std.proofs.Common.{◌≡◌, ℕ, List, ◌∷◌, Bool, true, false, cond, Option, Some, None, refl, sym, ap, subst, ◌∙◌, option_map}
+use Rattle.std.proofs.Common.{◌≡◌, ℕ, List, ◌∷◌, Bool, true, false, cond, Option, Some, None, is_some, unwrap_or, refl, sym, ap, subst, ◌∙◌, option_map}
 use Rattle.std.specs.Cmp.Lexicographic.{slice_cmp}
 use Rattle.std.specs.List.Sorted.{IsStrictlySortedBy}
 use Rattle.std.specs.Ordering.{nat_cmp, match_ordering}
@@ -9,12 +9,13 @@ use Rattle.std.specs.Str.{bytes_eq}
 use Rattle.std.proofs.lemmas.Slice.Eq.{bytes_eq-Decides}
 use Rattle.serde_json.specs.Data.{Data, null, boolean, number, string, array, object, Members, no_members, member}
 use Rattle.serde_json.specs.Find.{get, get_member}
-use Rattle.json_keys.specs.Fault.{named, members_in, members_fault, missing_key, object_fault, row_fault, columns_of, entry_fault, always}
+use Rattle.json_keys.specs.Fault.{named, members_in, members_fault, missing_key, object_fault, row_fault, columns_of, entry_fault, always, ask_fault, is_wanted}
 use Rattle.json_keys.specs.Order.{AllInOrder, MembersInOrder, IsInOrder}
 use Rattle.json_keys.specs.declared.rule.Rule.{Rule}
+use Rattle.json_keys.specs.declared.shape.Ask.{Ask}
 use Rattle.json_keys.specs.declared.shape.Columns.{Columns}
 use Rattle.json_keys.proofs.Agree.{is_ascending, all_named, AgreesOn, same_by_table}
-use Rattle.json_keys.proofs.Held.{neither, some_same, get_in, present, must}
+use Rattle.json_keys.proofs.Held.{neither, some_same, get_in, present, may, must}
 use Rattle.row_kinds.specs.Look.{value_at}
 use Rattle.row_kinds.proofs.Codec.{Codec}
 
@@ -96,6 +97,39 @@ pub keeps : {A X : Type 0} {of : Data → X} {shown : X → Data} {Good : X → 
 keeps {A} {X} {of} {shown} {Good} {fault} {wanted} {ks} {d} p k a n w c =
     let there = present fault wanted ks k a d p.passed n w in
     ap Some (c.kept (value_at k d) (inside d k (value_at k d) p.order there) (must fault wanted ks k a d p.passed n w)) ∙ sym there ∙ get_in k d
+
+-- ---- a key that may be missing
+
+-- a value that may be there is in order and let through
+abbrev pub IsLet : (Data → Option Rule) → Option Data → Type 0
+IsLet fault o = (v : Data) → o ≡ Some v → AllInOrder v × (fault v ≡ None)
+
+pub let_through : {ks : List (List ℕ × Ask)} {d : Data} → IsPassed ask_fault is_wanted ks d → (k : List ℕ) (a : Ask) → named ks k ≡ Some a → IsLet (ask_fault a) (get k d)
+let_through {ks} {d} p k a n v is = (inside d k v p.order is, may ask_fault is_wanted ks k a d v p.passed n is)
+
+read_at : {X : Type 0} (fault : Data → Option Rule) (of : Data → X) (Good : X → Type 0) → ((v : Data) → AllInOrder v → fault v ≡ None → Good (of v)) → (o : Option Data) → IsLet fault o → Good (of null)
+    → Good (of (unwrap_or o null))
+read_at fault of Good right None h none = none
+read_at fault of Good right (Some v) h none = let is = h v refl in right v is.0 is.1
+
+-- what is read at a key is good, where what its absence says is
+pub read_right : {X : Type 0} {ks : List (List ℕ × Ask)} {d : Data} (of : Data → X) (Good : X → Type 0) → IsPassed ask_fault is_wanted ks d → (k : List ℕ) (a : Ask) → named ks k ≡ Some a
+    → ((v : Data) → AllInOrder v → ask_fault a v ≡ None → Good (of v)) → Good (of null) → Good (of (value_at k d))
+read_right {X} {ks} {d} of Good p k a n right none = read_at (ask_fault a) of Good right (get k d) (let_through p k a n) none
+
+is_value : (o : Option Data) → is_some o ≡ true → o ≡ Some (unwrap_or o null)
+is_value None h = absurd cc
+is_value (Some d) h = refl
+
+-- where the key is there, what is written of what is read at it is what is there
+pub keeps_sent : {X : Type 0} {of : Data → X} {shown : X → Data} {Good : X → Type 0} {ks : List (List ℕ × Ask)} {d : Data} → IsPassed ask_fault is_wanted ks d → (k : List ℕ) (a : Ask)
+    → named ks k ≡ Some a → is_some (get k d) ≡ true → Codec X (ask_fault a) of shown Good → Some (shown (of (value_at k d))) ≡ get_member k (members_in d)
+keeps_sent {X} {of} {shown} {Good} {ks} {d} p k a n is c =
+    let there = is_value (get k d) is in
+    let one = let_through p k a n (value_at k d) there in
+    ap Some (c.kept (value_at k d) one.0 one.1) ∙ sym there ∙ get_in k d
+
+-- ---- all keys
 
 -- members that stand in the code, in order and with the keys of the table, are all that is there, where they agree with
 -- what is there

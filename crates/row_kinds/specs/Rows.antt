@@ -189,12 +189,22 @@ abbrev pub term_in : Data → Term
 term_in d = record {
   description = text_in (value_at (codes "description") d);
   name = text_in (value_at (codes "name") d);
+  parent = option_in small_in (value_at (codes "parent") d);
   status = flag_in (value_at (codes "status") d);
   uuid = text_in (value_at (codes "uuid") d);
 }
 
 abbrev pub term_data : Term → Data
 term_data x = object
+    (member (codes "description") (text_data x.description)
+    (member (codes "name") (text_data x.name)
+    (member (codes "parent") (option_data whole_data x.parent)
+    (member (codes "status") (boolean x.status)
+    (member (codes "uuid") (text_data x.uuid) no_members)))))
+
+-- a term as it was written before terms had parents
+abbrev pub old_term_data : Term → Data
+old_term_data x = object
     (member (codes "description") (text_data x.description)
     (member (codes "name") (text_data x.name)
     (member (codes "status") (boolean x.status)

@@ -53,9 +53,6 @@ role_keys = drop 1 role_row
 abbrev pub user_keys : List (List ℕ × Ask)
 user_keys = drop 1 user_row
 
-abbrev pub term_keys : List (List ℕ × Ask)
-term_keys = drop 1 term_row
-
 abbrev pub node_keys : List (List ℕ × Ask)
 node_keys = drop 1 node_row
 

@@ -132,6 +132,7 @@ impl Read for Term {
         Ok(Term {
             description,
             name,
+            parent: read_at(alloc, value, "parent")?,
             status,
             uuid,
         })
@@ -147,6 +148,7 @@ impl Write for Term {
         let map = no_keys(alloc);
         let map = with_key(alloc, map, "description", &self.description);
         let map = with_key(alloc, map, "name", &self.name);
+        let map = with_key(alloc, map, "parent", &self.parent);
         let map = with_key(alloc, map, "status", &self.status);
         let map = with_key(alloc, map, "uuid", &self.uuid);
         object_of(map)

@@ -89,7 +89,7 @@ pub const USER: [Key; 9] = [
 ];
 
 /// The keys of a taxonomy term.
-pub const TERM: [Key; 5] = [
+pub const TERM: [Key; 6] = [
     ("cell", Ask::Must(Shape::Any)),
     (
         "description",
@@ -98,6 +98,11 @@ pub const TERM: [Key; 5] = [
     (
         "name",
         Ask::Must(Shape::Of(Entry::One(Plain::Text(Form::Line(255))))),
+    ),
+    // rows of before terms had parents don't have it
+    (
+        "parent",
+        Ask::May(Shape::Of(Entry::NullOr(Plain::Whole(1, 4_294_967_294)))),
     ),
     ("status", Ask::Must(Shape::Of(Entry::One(Plain::Flag)))),
     (
