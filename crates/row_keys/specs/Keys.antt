@@ -9,6 +9,7 @@ use Rattle.content_rows.specs.declared.row.Region.TheVariants as region
 use Rattle.row_keys.specs.declared.rank.NodeRank.{NodeRank}
 use Rattle.row_keys.specs.declared.rank.TypeKey.{TypeKey}
 use Rattle.row_keys.specs.declared.rank.TermKey.{TermKey}
+use Rattle.row_keys.specs.declared.rank.ParentKey.{ParentKey}
 use Rattle.row_keys.specs.declared.rank.BlockKey.{BlockKey}
 use Rattle.row_keys.specs.Ranks.{rank_of, block_rank}
 
@@ -27,6 +28,11 @@ term_keys_of rank terms = map (λ t. record { term = t; rank = rank }) terms
 abbrev pub term_keys : Cell × Row → List TermKey
 term_keys (cell.Node n, row.Node r) = cond r.status (term_keys_of (rank_of (n, r)) r.terms) []
 term_keys _ = []
+
+-- a term gives its id, with that of the term above it, if there is one
+abbrev pub parent_keys : Cell × Row → List ParentKey
+parent_keys (cell.Term n, row.Term r) = record { parent = r.parent; id = n } ∷ []
+parent_keys _ = []
 
 -- a block gives its region and what places it there
 abbrev pub region_place : Region → ℕ

@@ -1,12 +1,14 @@
--- What places nodes and blocks among others.
+-- What places nodes, blocks and terms among others.
 use Rattle.std.specs.Prelude.{ℕ, List}
 use Rattle.std.specs.declared.cmp.Ordering.{Ordering}
 use Rattle.content_rows.specs.declared.row.Node.{Node}
 use Rattle.content_rows.specs.declared.row.Block.{Block}
 use Rattle.row_keys.specs.declared.rank.NodeRank.{NodeRank}
 use Rattle.row_keys.specs.declared.rank.BlockRank.{BlockRank}
+use Rattle.row_keys.specs.declared.rank.ParentKey.{ParentKey}
 use Rattle.row_keys.specs.contracts.rank.NodeRankOrd.TheImpl as node_ranks
 use Rattle.row_keys.specs.contracts.rank.BlockRankOrd.TheImpl as block_ranks
+use Rattle.row_keys.specs.contracts.rank.ParentKeyOrd.TheImpl as parent_keys
 
 -- sticky nodes come first, then those made later, then those of greater ids
 abbrev pub rank_of : (ℕ × Node) → NodeRank
@@ -21,3 +23,7 @@ block_rank e = record { weight = e.1.weight; name = e.0 }
 
 abbrev pub block_cmp : BlockRank → BlockRank → Ordering
 block_cmp = block_ranks.ghosts.cmp
+
+-- terms under none come first, then those under terms of lesser ids, and under one term those of lesser ids
+abbrev pub parent_cmp : ParentKey → ParentKey → Ordering
+parent_cmp = parent_keys.ghosts.cmp

@@ -40,6 +40,15 @@ pub struct TermKey {
     pub rank: NodeRank,
 }
 
+/// A term under the one above it, if there is one.
+#[derive(Clone, Copy, Debug, PartialEq, Eq, PartialOrd, Ord)]
+pub struct ParentKey {
+    /// The id of the term above it.
+    pub parent: Option<u32>,
+    /// Its own id.
+    pub id: u32,
+}
+
 /// A block in its region.
 #[derive(Clone, Copy, Debug, PartialEq, Eq, PartialOrd, Ord)]
 pub struct BlockKey {

@@ -1,0 +1,4 @@
+pub mod CellsFound
+pub mod RightRows
+pub mod IndexLaws
+pub mod WriteCost

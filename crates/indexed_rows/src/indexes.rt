@@ -1,0 +1,135 @@
+//! The indexes of a state's rows: the keys that its rows give, in order.
+ghost use Rattle.std.specs.Prelude.{◌≡◌, IfOk, OnOk};
+ghost use Rattle.std.specs.Option.{option_copied};
+ghost use Rattle.index_law.specs.Index.{index_of, keys_at};
+ghost use Rattle.indexed_rows.specs.Indexes.{AreIndexes};
+ghost use Rattle.indexed_rows.specs.Write.{written};
+
+use crate::rows::Rows;
+use crate::text_mark::TextKey;
+use crate::write::Write;
+use content_rows::{Cell, Row};
+use row_keys::{BlockKey, Key, NodeRank, ParentKey, TermKey, TypeKey};
+use shared_set::SharedSet;
+use std::alloc::{AllocError, Global};
+
+/// The indexes of some rows.
+pub struct Indexes {
+    /// The published nodes, in the order of listings.
+    pub nodes: SharedSet<NodeRank>,
+    /// The same, by their types.
+    pub types: SharedSet<TypeKey>,
+    /// The same, by their terms.
+    pub terms: SharedSet<TermKey>,
+    /// The terms, by the terms above them.
+    pub parents: SharedSet<ParentKey>,
+    /// The blocks, by their regions.
+    pub blocks: SharedSet<BlockKey>,
+    /// The texts that no two rows may have in common.
+    pub texts: SharedSet<TextKey>,
+}
+
+impl Drop for Indexes {
+    fn drop(self) {
+        let Indexes {
+            nodes: _,
+            types: _,
+            terms: _,
+            parents: _,
+            blocks: _,
+            texts: _,
+        } = self;
+    }
+}
+
+impl Indexes {
+    /// The indexes of some rows. `Err` only where memory is wanting.
+    pub fn of(alloc: Global, rows: &Rows) -> Result<Indexes, AllocError>
+        ensures { IfOk result (λ indexes. AreIndexes rows.now indexes) }
+    {
+        Ok(Indexes {
+            nodes: set_of(alloc, rows)?,
+            types: set_of(alloc, rows)?,
+            terms: set_of(alloc, rows)?,
+            parents: set_of(alloc, rows)?,
+            blocks: set_of(alloc, rows)?,
+            texts: set_of(alloc, rows)?,
+        })
+    }
+
+    /// The same indexes, shared. `Err` only where memory is wanting.
+    pub fn share(&self) -> Result<Indexes, AllocError>
+        ensures { IfOk result (λ indexes. indexes ≡ self.now) }
+    {
+        Ok(Indexes {
+            nodes: self.nodes.share()?,
+            types: self.types.share()?,
+            terms: self.terms.share()?,
+            parents: self.parents.share()?,
+            blocks: self.blocks.share()?,
+            texts: self.texts.share()?,
+        })
+    }
+
+    /// Keeps the indexes of some rows through a write to these, which is still to be made. An index that the write does not
+    /// touch stays shared. `Err` only where memory is wanting; then some of them may be those of the rows after it.
+    pub fn follow(&mut self, alloc: Global, rows: &Rows, write: &Write) -> Result<(), AllocError>
+        requires { AreIndexes rows.now self.old }
+        ensures { OnOk result (AreIndexes (written rows.now write.now) self.new) }
+    {
+        follow(alloc, &mut self.nodes, rows, write)?;
+        follow(alloc, &mut self.types, rows, write)?;
+        follow(alloc, &mut self.terms, rows, write)?;
+        follow(alloc, &mut self.parents, rows, write)?;
+        follow(alloc, &mut self.blocks, rows, write)?;
+        follow(alloc, &mut self.texts, rows, write)
+    }
+}
+
+/// The index of some rows.
+fn set_of<K: Key>(alloc: Global, rows: &Rows) -> Result<SharedSet<K>, AllocError>
+    ensures { IfOk result (λ set. set ≡ index_of K.cmp K.keys rows.now) }
+{
+    let mut keys = Vec::new(alloc);
+    'rows: for (cell, row) in rows.each() {
+        K::add(&mut keys, cell, row)?;
+    }
+    SharedSet::gathered(alloc, keys.as_slice())
+}
+
+/// Keeps an index of some rows through a write.
+fn follow<K: Key>(
+    alloc: Global,
+    set: &mut SharedSet<K>,
+    rows: &Rows,
+    write: &Write,
+) -> Result<(), AllocError>
+    requires { set.old ≡ index_of K.cmp K.keys rows.now }
+    ensures { OnOk result (set.new ≡ index_of K.cmp K.keys (written rows.now write.now)) }
+{
+    rows.stands_in_order();
+    let old = keys_of(alloc, &write.cell, rows.get(write.cell))?;
+    let new = new_keys(alloc, write)?;
+    set.exchange(old.as_slice(), new.as_slice())
+}
+
+/// The keys that a cell gives after a write.
+fn new_keys<K: Key>(alloc: Global, write: &Write) -> Result<Vec<K>, AllocError>
+    ensures { IfOk result (λ keys. keys.items ≡ keys_at K.keys write.now.cell write.now.row) }
+{
+    match &write.row {
+        Some(row) => keys_of(alloc, &write.cell, Some(row.as_ref())),
+        None => Ok(Vec::new(alloc)),
+    }
+}
+
+/// The keys that a cell gives, by its row, if it has one.
+fn keys_of<K: Key>(alloc: Global, cell: &Cell, row: Option<&Row>) -> Result<Vec<K>, AllocError>
+    ensures { IfOk result (λ keys. keys.items ≡ keys_at K.keys cell.now (option_copied row.entry)) }
+{
+    let mut keys = Vec::new(alloc);
+    if let Some(row) = row {
+        K::add(&mut keys, cell, row)?;
+    }
+    Ok(keys)
+}
