@@ -7,7 +7,7 @@ use Rattle.matchit.proofs.route.Route.TheSendSync as routes_go
 use Rattle.matchit.proofs.tree.Node.TheLaws.TheKnot.{send-Node, sync-Node}
 use Rattle.tag_counts.proofs.Counts.TheSendSync as counts_go
 use Rattle.content_state.proofs.forms.Form.TheSendSync as form_goes
-use Rattle.content_state.proofs.indexed.IndexedRows.TheSendSync as rows_go
+use Rattle.indexed_rows.proofs.indexed.IndexedRows.TheSendSync as rows_go
 use Rattle.content_state.specs.contracts.forms.Forms as forms
 use Rattle.content_state.specs.contracts.state.State as state
 

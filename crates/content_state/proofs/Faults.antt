@@ -22,7 +22,7 @@ use Rattle.content_state.specs.declared.site_rules.SiteRule.TheVariants as rule
 use Rattle.content_state.specs.declared.site_rules.SiteField.{SiteField}
 use Rattle.content_state.specs.declared.site_rules.SiteField.TheVariants as field
 use Rattle.content_state.specs.declared.site_rules.NotASite.{NotASite}
-use Rattle.content_state.specs.Rows.{row_at, as_user, as_term, as_node, as_listing, as_session, role_of}
+use Rattle.indexed_rows.specs.Rows.{row_at, as_user, as_term, as_node, as_listing, as_session, role_of}
 use Rattle.content_state.specs.SiteRules.{cell_fault, user_fault, term_fault, node_fault, listing_fault, session_fault, first_broken, MeetsSiteRules, IsFirstFault}
 use Rattle.content_state.specs.FirstFault.{fault_at, first_among, required}
 
@@ -141,7 +141,7 @@ absent_is_right rows cell.Seq h = inl (inr (inl refl))
 absent_is_right rows (cell.NodeType name) h = inr refl
 absent_is_right rows (cell.Role name) h = role_required rows name
 absent_is_right rows (cell.User id) h = inr (ap (λ (r : Option Row). user_fault rows (cell.User id) (option_and_then as_user r)) h)
-absent_is_right rows (cell.Term id) h = inr (ap (λ (r : Option Row). term_fault rows (cell.Term id) (option_and_then as_term r)) h)
+absent_is_right rows (cell.Term id) h = inr (ap (λ (r : Option Row). term_fault rows (cell.Term id) id (option_and_then as_term r)) h)
 absent_is_right rows (cell.Node id) h = inr (ap (λ (r : Option Row). node_fault rows (cell.Node id) (option_and_then as_node r)) h)
 absent_is_right rows (cell.Menu name) h = inr refl
 absent_is_right rows (cell.Listing name) h = inr (ap (λ (r : Option Row). listing_fault rows (cell.Listing name) (option_and_then as_listing r)) h)

@@ -1,3 +1,4 @@
+pub mod Chains
 pub mod Crossing
 pub mod Faults
 pub mod Filled
@@ -8,11 +9,8 @@ pub mod Matched
 pub mod Meets
 pub mod Named
 pub mod Placed
-pub mod CellsFound
-pub mod RightRows
 pub mod SeenRows
 pub mod There
-pub mod IndexLaws
 pub mod TextsFound
 pub mod RankedLaws
-pub mod WriteCost
+pub mod TermsPlaced

@@ -36,15 +36,15 @@ use Rattle.row_keys.specs.contracts.rank.BlockKeyOrd.TheImpl.Laws as block_laws
 use Rattle.row_keys.specs.Keys.{node_keys, type_keys, term_keys, term_keys_of, block_keys, region_place}
 use Rattle.row_keys.specs.Ranks.{rank_of, rank_cmp, block_rank, block_cmp}
 use Rattle.row_keys.specs.Exact.{type_exact, term_exact, block_exact}
-use Rattle.content_state.specs.TextLaws.{nat_exact}
-use Rattle.content_state.specs.Rows.{node_entry, block_entry, nodes_of, blocks_of}
+use Rattle.indexed_rows.specs.TextLaws.{nat_exact}
+use Rattle.indexed_rows.specs.Rows.{node_entry, block_entry, nodes_of, blocks_of}
 use Rattle.content_state.specs.Ranked.{ranks_in_order, published, published_of, published_with, blocks_within}
 
-all_kept : {A : Type 0} (xs : List A) → filter (λ x. true) xs ≡ xs
+pub all_kept : {A : Type 0} (xs : List A) → filter (λ x. true) xs ≡ xs
 all_kept [] = refl
 all_kept (x ∷ xs) = ap (λ ys. x ∷ ys) (all_kept xs)
 
-level : (a b : ℕ) → (a == b) ≡ true → a ≡ b
+pub level : (a b : ℕ) → (a == b) ≡ true → a ≡ b
 level a b h = nat_exact a b ((Equal-is (nat_cmp a b)).0 (unsigned_tied a b ∙ h))
 
 -- ---- all published nodes

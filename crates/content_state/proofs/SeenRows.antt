@@ -20,11 +20,13 @@ use Rattle.content_rows.specs.declared.cell.Cell.{Cell}
 use Rattle.content_rows.specs.declared.row.Row.{Row}
 use Rattle.content_state.specs.declared.seen.Held.{Held}
 use Rattle.content_state.specs.declared.site_rules.NotASite.{NotASite}
-use Rattle.content_state.specs.declared.site_rules.Unique.{Unique}
-use Rattle.content_state.specs.declared.site_rules.Unique.TheVariants as unique
-use Rattle.content_state.specs.contracts.site_rules.UniqueOrd.TheImpl as order_of_kinds
+use Rattle.indexed_rows.specs.declared.unique.Unique.{Unique}
+use Rattle.indexed_rows.specs.declared.unique.Unique.TheVariants as unique
+use Rattle.indexed_rows.specs.contracts.unique.UniqueOrd.TheImpl as order_of_kinds
 use Rattle.content_state.specs.FirstFault.{fault_at, first_among}
-use Rattle.content_state.specs.SiteRules.{InOrder, text_of, is_text, cell_fault}
+use Rattle.indexed_rows.specs.Rows.{InOrder}
+use Rattle.indexed_rows.specs.Texts.{text_of, is_text}
+use Rattle.content_state.specs.SiteRules.{cell_fault}
 use Rattle.content_state.specs.Seen.{held_cmp, is_seen, is_kind, IsSeenBefore, AddsRow}
 
 abbrev kind_cmp : Unique → Unique → Ordering

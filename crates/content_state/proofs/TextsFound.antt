@@ -21,18 +21,18 @@ use Rattle.content_rows.proofs.CellLemmas.{cell_cmp_total}
 use Rattle.shared_set.specs.Keys.{is_in}
 use Rattle.index_law.specs.Index.{in_order, index_of}
 use Rattle.index_law.proofs.Orders.{filter_in_order, ordered_stays}
-use Rattle.content_state.specs.declared.site_rules.Unique.{Unique}
-use Rattle.content_state.specs.declared.site_rules.Unique.TheVariants as unique
-use Rattle.content_state.specs.declared.text_mark.TextMark.{TextMark}
-use Rattle.content_state.specs.declared.text_mark.TextKey.{TextKey}
-use Rattle.content_state.specs.contracts.text_mark.TextKeyOrd.TheImpl as key_order
-use Rattle.content_state.specs.contracts.text_mark.TextKeyOrd.TheImpl.Laws as laws
-use Rattle.content_state.specs.Rows.{row_at}
-use Rattle.content_state.specs.SiteRules.{InOrder, is_text, text_of}
+use Rattle.indexed_rows.specs.declared.unique.Unique.{Unique}
+use Rattle.indexed_rows.specs.declared.unique.Unique.TheVariants as unique
+use Rattle.indexed_rows.specs.declared.text_mark.TextMark.{TextMark}
+use Rattle.indexed_rows.specs.declared.text_mark.TextKey.{TextKey}
+use Rattle.indexed_rows.specs.contracts.text_mark.TextKeyOrd.TheImpl as key_order
+use Rattle.indexed_rows.specs.contracts.text_mark.TextKeyOrd.TheImpl.Laws as laws
+use Rattle.indexed_rows.specs.Rows.{row_at, InOrder}
+use Rattle.indexed_rows.specs.Texts.{is_text, text_of}
 use Rattle.content_state.specs.Having.{having}
 use Rattle.content_state.specs.FoundTexts.{found_with, found_at}
-use Rattle.content_state.specs.TextKeys.{digest, mark_of, mark_cmp, key_of, text_key, text_keys}
-use Rattle.content_state.specs.TextLaws.{nat_exact, text_exact, mark_total}
+use Rattle.indexed_rows.specs.TextKeys.{digest, mark_of, mark_cmp, key_of, text_key, text_keys}
+use Rattle.indexed_rows.specs.TextLaws.{nat_exact, text_exact, mark_total}
 
 is_level : (a b : ℕ) → is_eq (nat_cmp a b) ≡ true → a ≡ b
 is_level a b h = nat_exact a b ((Equal-is (nat_cmp a b)).0 h)

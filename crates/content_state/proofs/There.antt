@@ -7,7 +7,7 @@ use Rattle.content_rows.specs.declared.cell.Cell.TheVariants as cell
 use Rattle.content_rows.specs.declared.row.Row.{Row}
 use Rattle.content_state.specs.declared.route.Route.{Route}
 use Rattle.content_state.specs.declared.route.Route.TheVariants as route
-use Rattle.content_state.specs.Rows.{node_of, term_of, user_of, listing_of}
+use Rattle.indexed_rows.specs.Rows.{node_of, term_of, user_of, listing_of}
 use Rattle.content_state.specs.Route.{id_after, node_front, term_front, user_front, login_path, meant, node_route, term_route, user_route, listing_route, cell_route, cell_with, found_route, led_to, route_of}
 use Rattle.content_state.specs.There.{IsThere}
 

@@ -19,7 +19,7 @@ use Rattle.content_rows.specs.declared.permission.Permissions.{Permissions}
 use Rattle.content_rows.specs.declared.permission.ViewGrants.{ViewGrants}
 use Rattle.content_state.specs.declared.ask.Ask.{Ask}
 use Rattle.content_state.specs.declared.ask.Viewer.{Viewer}
-use Rattle.content_state.specs.Rows.{menu_of}
+use Rattle.indexed_rows.specs.Rows.{menu_of}
 use Rattle.content_state.specs.Route.{root_path, front_path, meant}
 use Rattle.content_state.specs.Viewer.{roles_of, viewer_permissions, view_grants_of}
 

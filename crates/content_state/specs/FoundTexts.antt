@@ -3,10 +3,10 @@ use Rattle.std.specs.Prelude.{ℕ, List, cond, Option, Some, None, option_and_th
 use Rattle.std.specs.List.{filter_map}
 use Rattle.content_rows.specs.declared.cell.Cell.{Cell}
 use Rattle.content_rows.specs.declared.row.Row.{Row}
-use Rattle.content_state.specs.Rows.{row_at}
-use Rattle.content_state.specs.SiteRules.{is_text, text_of}
-use Rattle.content_state.specs.declared.site_rules.Unique.{Unique}
-use Rattle.content_state.specs.declared.text_mark.TextKey.{TextKey}
+use Rattle.indexed_rows.specs.Rows.{row_at}
+use Rattle.indexed_rows.specs.Texts.{is_text, text_of}
+use Rattle.indexed_rows.specs.declared.unique.Unique.{Unique}
+use Rattle.indexed_rows.specs.declared.text_mark.TextKey.{TextKey}
 
 -- the row of a cell, where it has the text
 abbrev pub row_with : List (Cell × Row) → Unique → List ℕ → Cell → Option Row

@@ -1,6 +1,4 @@
 pub mod State
-pub mod Write
-pub mod Rows
 pub mod Ask
 pub mod Route
 pub mod Forms
@@ -12,13 +10,11 @@ pub mod Plan
 pub mod Met
 pub mod Places
 pub mod Replay
+pub mod Chain
+pub mod Moves
 pub mod SiteRules
 pub mod FirstFault
 pub mod Seen
 pub mod Having
-pub mod TextKeys
-pub mod Indexes
 pub mod FoundTexts
 pub mod Ranked
-pub mod TextLaws
-pub mod Cells

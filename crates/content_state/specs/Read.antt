@@ -15,10 +15,10 @@ use Rattle.content_rows.specs.declared.row.Menu.{Menu}
 use Rattle.content_rows.specs.declared.row.Listing.{Listing}
 use Rattle.content_rows.specs.declared.row.Block.{Block}
 use Rattle.content_state.specs.declared.route.Route.{Route}
-use Rattle.content_state.specs.Rows.{site_of, type_of, role_of, user_of, term_of, node_of, menu_of, listing_of, block_of, nodes_of, nodes_of_type, blocks_of}
+use Rattle.indexed_rows.specs.Rows.{site_of, type_of, role_of, user_of, term_of, node_of, menu_of, listing_of, block_of, nodes_of, nodes_of_type, terms_of, blocks_of}
 use Rattle.content_state.specs.Route.{route_of, path_tags}
 
--- one row of a kind; all nodes, or those of a type; all blocks; what a path leads to. The ids that are next and
+-- one row of a kind; all nodes, or those of a type; all terms; all blocks; what a path leads to. The ids that are next and
 -- the sessions are read by no page but through contexts.
 pub data Read : Type 0 where
   SiteRow : Read
@@ -32,6 +32,7 @@ pub data Read : Type 0 where
   BlockRow : List ℕ → Read
   AllNodes : Read
   NodesOfType : List ℕ → Read
+  AllTerms : Read
   AllBlocks : Read
   PathRoute : List ℕ → Read
 
@@ -48,6 +49,7 @@ Answer (ListingRow l) = Option Listing
 Answer (BlockRow b) = Option Block
 Answer AllNodes = List (ℕ × Node)
 Answer (NodesOfType t) = List (ℕ × Node)
+Answer AllTerms = List (ℕ × Term)
 Answer AllBlocks = List (List ℕ × Block)
 Answer (PathRoute p) = Route
 
@@ -63,6 +65,7 @@ answer rows (ListingRow l) = listing_of rows l
 answer rows (BlockRow b) = block_of rows b
 answer rows AllNodes = nodes_of rows
 answer rows (NodesOfType t) = nodes_of_type rows t
+answer rows AllTerms = terms_of rows
 answer rows AllBlocks = blocks_of rows
 answer rows (PathRoute p) = route_of rows p
 
@@ -79,5 +82,6 @@ cover rows (ListingRow l) = tag.Listing l ∷ []
 cover rows (BlockRow b) = tag.Block b ∷ []
 cover rows AllNodes = tag.NodeList ∷ []
 cover rows (NodesOfType t) = tag.NodeListOf t ∷ []
+cover rows AllTerms = tag.TermList ∷ []
 cover rows AllBlocks = tag.BlockList ∷ []
 cover rows (PathRoute p) = path_tags rows p

@@ -14,9 +14,9 @@ use Rattle.content_rows.specs.declared.cell.Cell.TheVariants as cell
 use Rattle.content_rows.specs.declared.row.Row.{Row}
 use Rattle.content_rows.specs.declared.row.Row.TheVariants as row
 use Rattle.content_state.specs.State.{State}
-use Rattle.content_state.specs.Write.{Write}
+use Rattle.indexed_rows.specs.Write.{Write, written}
 use Rattle.content_state.specs.declared.commit.Commit.{Commit}
-use Rattle.content_state.specs.Rows.{row_at, with_row, without_row}
+use Rattle.indexed_rows.specs.Rows.{row_at}
 
 -- that something is now there that was absent
 abbrev pub if_absent : Option Row → List Tag
@@ -51,14 +51,6 @@ tags_of_write rows write = bumps write.cell (row_at rows write.cell) write.row
 -- the tags that an edit invalidates: those of its writes and its own, each once, in the order of their texts
 abbrev pub tags_of_commit : List (Cell × Row) → Commit → List Tag
 tags_of_commit rows commit = fold (insert_key tag_cmp) [] (flat_map (tags_of_write rows) commit.writes ++ commit.extra)
-
--- the rows after a write: a row is set, or none stands there
-abbrev pub with_row_or_none : List (Cell × Row) → Cell → Option Row → List (Cell × Row)
-with_row_or_none rows c None = without_row rows c
-with_row_or_none rows c (Some row) = with_row rows c row
-
-abbrev pub written : List (Cell × Row) → Write → List (Cell × Row)
-written rows write = with_row_or_none rows write.cell write.row
 
 -- The writes of an edit are to distinct cells: so what it does, and the tags that it invalidates, do not hang on the
 -- order of its writes, and the row that a write finds is the one that stood before the edit.

@@ -15,9 +15,9 @@ use Rattle.content_rows.specs.declared.row.Site.{Site}
 use Rattle.content_rows.specs.IdText.{id_of}
 use Rattle.content_state.specs.declared.route.Route.{Route}
 use Rattle.content_state.specs.declared.route.Route.TheVariants as route
-use Rattle.content_state.specs.Rows.{site_of, node_of, term_of, user_of, listing_of}
-use Rattle.content_state.specs.SiteRules.{text_of, is_text}
-use Rattle.content_state.specs.declared.site_rules.Unique.TheVariants as unique
+use Rattle.indexed_rows.specs.Rows.{site_of, node_of, term_of, user_of, listing_of}
+use Rattle.indexed_rows.specs.Texts.{text_of, is_text}
+use Rattle.indexed_rows.specs.declared.unique.Unique.TheVariants as unique
 
 -- the id that follows a front
 abbrev pub id_after : List ℕ → List ℕ → Option ℕ

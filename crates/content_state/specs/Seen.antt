@@ -4,10 +4,11 @@ use Rattle.std.specs.BTreeSet.{BTreeSet, contains}
 use Rattle.std.specs.declared.cmp.Ordering.{Ordering}
 use Rattle.content_rows.specs.declared.cell.Cell.{Cell}
 use Rattle.content_rows.specs.declared.row.Row.{Row}
-use Rattle.content_state.specs.SiteRules.{text_of, is_text, taken}
+use Rattle.indexed_rows.specs.Texts.{text_of, is_text}
+use Rattle.content_state.specs.SiteRules.{taken}
 use Rattle.content_state.specs.declared.seen.Held.{Held}
-use Rattle.content_state.specs.declared.site_rules.Unique.{Unique}
-use Rattle.content_state.specs.declared.site_rules.Unique.TheVariants as unique
+use Rattle.indexed_rows.specs.declared.unique.Unique.{Unique}
+use Rattle.indexed_rows.specs.declared.unique.Unique.TheVariants as unique
 use Rattle.content_state.specs.contracts.seen.HeldOrd.TheImpl as order
 
 -- the order of the set: by the kinds as the variants stand, then by the bytes of the texts

@@ -1,15 +1,13 @@
 -- The rules that the rows of a site keep together: which rows are there, that ids to come are free, that what a row
--- names is there, and that no two rows have one universal id, name or path.
-use Rattle.std.specs.Prelude.{ℕ, List, [], ◌∷◌, ◌≡◌, ◌<◌, ◌^◌, ◌⊎◌, ◌==◌, Bool, false, not, ◌&&◌, ◌||◌, nat_le, Option, Some, None, is_none, All, if◌then◌else◌}
+-- names is there, that terms stand in trees of nine levels at most, and that no two rows have one universal id, name or
+-- path.
+use Rattle.std.specs.Prelude.{ℕ, List, [], ◌∷◌, ◌≡◌, ◌<◌, ◌^◌, ◌⊎◌, ◌==◌, Bool, false, not, ◌&&◌, ◌||◌, nat_le, Option, Some, None, is_none, length, if◌then◌else◌}
 use Rattle.std.specs.List.{list_any}
 use Rattle.std.specs.Ordering.{is_lt}
-use Rattle.std.specs.List.Sorted.{IsStrictlySortedBy}
-use Rattle.std.specs.Map.{keys_of}
 use Rattle.std.specs.Str.{bytes_eq}
 use Rattle.std.specs.declared.cmp.Ordering.TheVariants.{Less}
 use Rattle.content_rows.specs.CellOrder.{cell_cmp}
 use Rattle.content_rows.specs.Permission.{anonymous, authenticated}
-use Rattle.content_rows.specs.ValidRow.{IsValidRow}
 use Rattle.content_rows.specs.declared.cell.Cell.{Cell}
 use Rattle.content_rows.specs.declared.cell.Cell.TheVariants as cell
 use Rattle.content_rows.specs.declared.row.Row.{Row}
@@ -21,7 +19,9 @@ use Rattle.content_rows.specs.declared.row.Node.{Node}
 use Rattle.content_rows.specs.declared.row.Listing.{Listing}
 use Rattle.content_rows.specs.declared.row.Session.{Session}
 use Rattle.tag_counts.specs.Counts.{IsInOrder}
-use Rattle.content_state.specs.Rows.{site_of, seq_of, type_of, role_of, user_of, term_of, node_of, listing_of, session_of}
+use Rattle.indexed_rows.specs.Texts.{text_of, is_text}
+use Rattle.indexed_rows.specs.Rows.{InOrder, AreValidRows, site_of, seq_of, type_of, role_of, user_of, term_of, node_of, listing_of, session_of}
+use Rattle.content_state.specs.Chain.{is_longer, comes_back, parent_in}
 use Rattle.content_state.specs.declared.site_rules.SiteRule.{SiteRule}
 use Rattle.content_state.specs.declared.site_rules.SiteRule.TheVariants as rule
 use Rattle.content_state.specs.declared.site_rules.SiteField.{SiteField}
@@ -31,8 +31,8 @@ use Rattle.content_state.specs.declared.site_rules.Refusal.{Refusal}
 use Rattle.content_state.specs.declared.site_rules.Refusal.TheVariants as refusal
 use Rattle.content_state.specs.declared.site_rules.Numbered.{Numbered}
 use Rattle.content_state.specs.declared.site_rules.Numbered.TheVariants as numbered
-use Rattle.content_state.specs.declared.site_rules.Unique.{Unique}
-use Rattle.content_state.specs.declared.site_rules.Unique.TheVariants as unique
+use Rattle.indexed_rows.specs.declared.unique.Unique.{Unique}
+use Rattle.indexed_rows.specs.declared.unique.Unique.TheVariants as unique
 use Rattle.content_state.specs.State.{State}
 
 -- the first of some rules that is broken, with the field that breaks it
@@ -50,24 +50,15 @@ is_id_from _ next _ = false
 abbrev pub has_id_from : List (Cell × Row) → Numbered → ℕ → Bool
 has_id_from rows kind next = list_any (λ e. is_id_from kind next e.0) rows
 
--- what a row has that no other row may have
-abbrev pub text_of : Unique → Row → Option (List ℕ)
-text_of unique.NodeUuid (row.Node r) = Some r.uuid
-text_of unique.TermUuid (row.Term r) = Some r.uuid
-text_of unique.UserUuid (row.User r) = Some r.uuid
-text_of unique.UserName (row.User r) = Some r.name
-text_of unique.Path (row.Node r) = r.path
-text_of unique.Path (row.Listing r) = r.path
-text_of _ _ = None
-
-abbrev pub is_text : List ℕ → Option (List ℕ) → Bool
-is_text text None = false
-is_text text (Some own) = bytes_eq own text
-
 -- whether a row that stands before a cell has the text already
 abbrev pub taken : List (Cell × Row) → Cell → Unique → Option (List ℕ) → Bool
 taken rows c what None = false
 taken rows c what (Some text) = list_any (λ e. is_lt (cell_cmp e.0 c) && is_text text (text_of what e.1)) rows
+
+-- whether what a row names is not there, where it names any
+abbrev pub is_absent : {A : Type 0} → (ℕ → Option A) → Option ℕ → Bool
+is_absent of None = false
+is_absent of (Some id) = is_none (of id)
 
 -- The tests of a row, in the order in which they are told of: each with the rule that is broken where it is true, and
 -- what of the row breaks it.
@@ -87,8 +78,15 @@ user_tests rows c user =
     ∷ (taken rows c unique.UserName (Some user.name), rule.Taken, field.Name)
     ∷ []
 
-abbrev pub term_tests : List (Cell × Row) → Cell → Term → List (Bool × SiteRule × SiteField)
-term_tests rows c term = (taken rows c unique.TermUuid (Some term.uuid), rule.Taken, field.Uuid) ∷ []
+-- its parent is none or there, its chain of parents doesn't come back to itself and has nine terms at most, and the uuid
+-- is its own
+abbrev pub term_tests : List (Cell × Row) → Cell → ℕ → Term → List (Bool × SiteRule × SiteField)
+term_tests rows c id term =
+    (is_absent (term_of rows) term.parent, rule.Absent, field.Parent)
+    ∷ (comes_back (parent_in rows) (length rows) id, rule.Cycle, field.Parent)
+    ∷ (is_longer (parent_in rows) 9 id, rule.Deep, field.Parent)
+    ∷ (taken rows c unique.TermUuid (Some term.uuid), rule.Taken, field.Uuid)
+    ∷ []
 
 -- its type is there, its user is 0 or there, and the uuid and the path are its own
 abbrev pub node_tests : List (Cell × Row) → Cell → Node → List (Bool × SiteRule × SiteField)
@@ -115,9 +113,9 @@ abbrev pub user_fault : List (Cell × Row) → Cell → Option User → Option (
 user_fault rows c None = None
 user_fault rows c (Some user) = first_broken (user_tests rows c user)
 
-abbrev pub term_fault : List (Cell × Row) → Cell → Option Term → Option (SiteRule × SiteField)
-term_fault rows c None = None
-term_fault rows c (Some term) = first_broken (term_tests rows c term)
+abbrev pub term_fault : List (Cell × Row) → Cell → ℕ → Option Term → Option (SiteRule × SiteField)
+term_fault rows c id None = None
+term_fault rows c id (Some term) = first_broken (term_tests rows c id term)
 
 abbrev pub node_fault : List (Cell × Row) → Cell → Option Node → Option (SiteRule × SiteField)
 node_fault rows c None = None
@@ -141,7 +139,7 @@ cell_fault rows (cell.Role name) = first_broken (
     ((bytes_eq name anonymous || bytes_eq name authenticated) && is_none (role_of rows name), rule.Missing, field.Cell)
     ∷ [])
 cell_fault rows (cell.User id) = user_fault rows (cell.User id) (user_of rows id)
-cell_fault rows (cell.Term id) = term_fault rows (cell.Term id) (term_of rows id)
+cell_fault rows (cell.Term id) = term_fault rows (cell.Term id) id (term_of rows id)
 cell_fault rows (cell.Node id) = node_fault rows (cell.Node id) (node_of rows id)
 cell_fault rows (cell.Menu name) = None
 cell_fault rows (cell.Listing name) = listing_fault rows (cell.Listing name) (listing_of rows name)
@@ -152,14 +150,6 @@ cell_fault rows cell.Head = None
 -- no cell breaks a rule
 abbrev pub MeetsSiteRules : List (Cell × Row) → Type 0
 MeetsSiteRules rows = (c : Cell) → cell_fault rows c ≡ None
-
--- each row is right, by itself
-abbrev pub AreValidRows : List (Cell × Row) → Type 0
-AreValidRows rows = All (λ e. IsValidRow e.0 e.1) rows
-
--- each cell has one row at most, and they stand in the order of the cells
-abbrev pub InOrder : List (Cell × Row) → Type 0
-InOrder rows = IsStrictlySortedBy cell_cmp (keys_of rows)
 
 -- The rows are a finite map in cell order and the counts one in the order of the tags, each row is right by itself, and
 -- all of them are together.

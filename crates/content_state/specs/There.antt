@@ -5,7 +5,7 @@ use Rattle.content_rows.specs.declared.cell.Cell.{Cell}
 use Rattle.content_rows.specs.declared.row.Row.{Row}
 use Rattle.content_state.specs.declared.route.Route.{Route}
 use Rattle.content_state.specs.declared.route.Route.TheVariants as route
-use Rattle.content_state.specs.Rows.{node_of, term_of, user_of, listing_of}
+use Rattle.indexed_rows.specs.Rows.{node_of, term_of, user_of, listing_of}
 use Rattle.content_state.specs.Route.{route_of}
 
 -- what the route leads to is there

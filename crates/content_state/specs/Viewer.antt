@@ -11,7 +11,7 @@ use Rattle.content_rows.specs.declared.permission.ViewGrants.{ViewGrants}
 use Rattle.content_rows.specs.declared.permission.ViewGrants.TheVariants as view_grants
 use Rattle.content_rows.specs.Permission.{role_names, permissions_of, has, session_live, grants_of}
 use Rattle.content_state.specs.declared.ask.Viewer.{Viewer}
-use Rattle.content_state.specs.Rows.{role_of, user_of, session_of}
+use Rattle.indexed_rows.specs.Rows.{role_of, user_of, session_of}
 
 -- the viewer without a session
 abbrev pub nobody : Viewer

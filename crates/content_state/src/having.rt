@@ -4,15 +4,12 @@ ghost use Rattle.std.specs.Option.{option_copied};
 ghost use Rattle.std.specs.Iterator.{YieldsFirstBy, item_count};
 ghost use Rattle.content_state.specs.FoundTexts.{found_with, row_with};
 ghost use Rattle.content_state.specs.Having.{having};
-ghost use Rattle.content_state.specs.Rows.{entry_of, entries_left};
-ghost use Rattle.content_state.specs.SiteRules.{is_text, text_of};
+ghost use Rattle.indexed_rows.specs.Rows.{entry_of, entries_left};
+ghost use Rattle.indexed_rows.specs.Texts.{is_text, text_of};
 
-use crate::rows::Rows;
-use crate::site_rules::{Unique, text_of};
 use crate::state::State;
-use crate::text_key::{OfMark, digest};
-use crate::text_mark::{TextKey, TextMark};
 use content_rows::{Cell, Row};
+use indexed_rows::{OfMark, Rows, TextKey, TextMark, Unique, digest, text_of};
 use shared_set::Within;
 use std::marker::Model;
 

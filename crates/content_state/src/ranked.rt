@@ -1,11 +1,16 @@
-//! Nodes and blocks in their places, by the indexes.
-ghost use Rattle.std.specs.Prelude.{◌≡◌};
-ghost use Rattle.content_state.specs.Ranked.{published, published_of, published_with, blocks_within};
+//! Nodes, terms and blocks in their places, by the indexes.
+ghost use Rattle.std.specs.Prelude.{◌≡◌, ℕ, Bool};
+ghost use Rattle.std.specs.List.{list_any};
+ghost use Rattle.indexed_rows.specs.Rows.{terms_of};
+ghost use Rattle.content_state.specs.Ranked.{published, published_of, published_with, children, terms_placed, blocks_within};
 
 use crate::state::State;
 use cacheability::Name;
 use content_rows::Region;
-use row_keys::{AllNodes, BlockKey, NodeRank, OfRegion, OfType, TermKey, TypeKey, WithTerm};
+use row_keys::{
+    AllNodes, AllTerms, BlockKey, NodeRank, OfRegion, OfType, ParentKey, TermKey, TypeKey, Under,
+    WithTerm,
+};
 use shared_set::Within;
 
 impl State {
@@ -28,6 +33,22 @@ impl State {
         ensures { result ≡ published_with self.now.rows term }
     {
         self.indexes().terms.within(WithTerm(term))
+    }
+
+    /// The terms right under a term, in the order of their ids.
+    pub fn children(&self, parent: u32) -> Within<'_, ParentKey, Under>
+        ensures { result ≡ children self.now.rows parent }
+    {
+        self.stands_in_order();
+        self.indexes().parents.within(Under(parent))
+    }
+
+    /// All terms, each once: those under none first, then the others by the terms above them.
+    pub fn terms(&self) -> Within<'_, ParentKey, AllTerms>
+        ensures placed { result ≡ terms_placed self.now.rows }
+        ensures each { (p : ℕ → Bool) → list_any (λ k. p k.id) result ≡ list_any (λ t. p t.0) (terms_of self.now.rows) }
+    {
+        self.indexes().parents.within(AllTerms)
     }
 
     /// The blocks of a region, by weight, then by name.

@@ -1,7 +1,7 @@
 //! The count of nodes that are read.
 ghost use Rattle.std.specs.Prelude.{◌≡◌, ◌+◌, ◌<◌};
 ghost use Rattle.std.specs.Option.{option_copied};
-ghost use Rattle.content_state.specs.Rows.{node_of};
+ghost use Rattle.indexed_rows.specs.Rows.{node_of};
 
 use crate::state::State;
 use content_rows::Node;

@@ -16,10 +16,10 @@ ghost use Rattle.content_state.specs.Route.{
 ghost use Rattle.content_state.specs.There.{IsThere};
 
 use crate::forms::Named;
-use crate::site_rules::Unique;
 use crate::state::State;
 use cacheability::{Name, Tag};
 use content_rows::{Cell, Items};
+use indexed_rows::Unique;
 use std::alloc::{AllocError, Global};
 
 /// What a path leads to.

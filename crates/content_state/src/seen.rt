@@ -1,7 +1,7 @@
 //! What the rows that were looked at have, which no row after them may have.
 
-use crate::site_rules::Unique;
 use content_rows::Text;
+use indexed_rows::Unique;
 
 /// A text that no two rows may have, as a row has it.
 #[derive(Clone, Copy, Debug, PartialEq, Eq, PartialOrd, Ord)]

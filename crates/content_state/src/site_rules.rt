@@ -1,34 +1,21 @@
 //! The rules that the rows of a site keep together.
-ghost use Rattle.std.specs.Prelude.{◌≡◌, ◌↔◌, ◌||◌, if◌then◌else◌, IsTrue, IfOk, OnOk};
+ghost use Rattle.std.specs.Prelude.{◌≡◌, ◌↔◌, ◌||◌, if◌then◌else◌, suc, length, IsTrue, IfOk, OnOk};
 ghost use Rattle.std.specs.Map.{keys_of};
 ghost use Rattle.std.specs.Option.{option_copied, MatchOption};
 ghost use Rattle.content_rows.specs.Permission.{anonymous as anonymous_name, authenticated as authenticated_name};
 ghost use Rattle.std.specs.Str.{bytes_eq};
-ghost use Rattle.content_state.specs.SiteRules.{
-  InOrder,
-  AreValidRows,
-  MeetsSiteRules,
-  IsFirstFault,
-  cell_fault,
-  user_fault,
-  term_fault,
-  node_fault,
-  listing_fault,
-  session_fault,
-  has_id_from,
-  is_id_from,
-  taken,
-  text_of,
-};
-ghost use Rattle.content_state.specs.Rows.{user_of, term_of, node_of, listing_of, session_of};
+ghost use Rattle.indexed_rows.specs.Rows.{InOrder, user_of, term_of, node_of, listing_of, session_of};
+ghost use Rattle.indexed_rows.specs.Texts.{text_of};
+ghost use Rattle.content_state.specs.SiteRules.{MeetsSiteRules, IsFirstFault, cell_fault, user_fault, term_fault, node_fault, listing_fault, session_fault, has_id_from, is_id_from, is_absent, taken};
+ghost use Rattle.content_state.specs.Chain.{is_longer, parent_in};
 ghost use Rattle.content_state.specs.FirstFault.{fault_at, first_among, required};
 ghost use Rattle.content_state.specs.Seen.{IsSeenBefore, AddsRow, AddsText};
 
-use crate::rows::Rows;
 use crate::seen::Held;
 use crate::state::State;
 use cacheability::Name;
 use content_rows::{Cell, Row, Text};
+use indexed_rows::{Rows, Unique, text_of};
 use std::alloc::{AllocError, Global};
 use std::collections::BTreeSet;
 use tag_counts::Counts;
@@ -44,6 +31,10 @@ pub enum SiteRule {
     Absent,
     /// `taken`: a row before has it already.
     Taken,
+    /// `cycle`: a chain of parents comes back to itself.
+    Cycle,
+    /// `deep`: a chain of parents has more than nine terms.
+    Deep,
 }
 
 /// What of a row breaks a rule.
@@ -69,6 +60,8 @@ pub enum SiteField {
     Path,
     /// `number`: the head number.
     Number,
+    /// `parent`: the parent of a term.
+    Parent,
 }
 
 /// Why rows are no site: the first cell, in cell order, that breaks a rule of sites, the rule, and
@@ -103,35 +96,6 @@ pub enum Numbered {
     Node,
     Term,
     User,
-}
-
-/// What no two rows have in common.
-#[derive(Clone, Copy, Debug, PartialEq, Eq, PartialOrd, Ord)]
-pub enum Unique {
-    /// The universal id of a node.
-    NodeUuid,
-    /// The universal id of a term.
-    TermUuid,
-    /// The universal id of a user.
-    UserUuid,
-    /// The name of a user.
-    UserName,
-    /// The path of a node or of a listing.
-    Path,
-}
-
-impl Rows {
-    /// Whether each row is right, by itself.
-    pub fn are_right(&self) -> bool
-        ensures { IsTrue result ↔ AreValidRows self.now }
-    {
-        'rows: for (cell, row) in self.each() {
-            if !row.is_right(cell) {
-                return false;
-            }
-        }
-        true
-    }
 }
 
 /// Whether no cell breaks a rule of sites. `Err` only where memory is wanting.
@@ -323,7 +287,8 @@ fn user_fault<'a>(
     }
 }
 
-/// A term's uuid that a term before has.
+/// A term's parent that is not there, its chain of parents that comes back to itself or has more than nine terms, or its uuid
+/// that a term before has.
 fn term_fault<'a>(
     state: &'a State,
     seen: &BTreeSet<Held<'a>>,
@@ -331,13 +296,42 @@ fn term_fault<'a>(
     tid: u32,
 ) -> Option<(SiteRule, SiteField)>
     requires { IsSeenBefore state.now.rows cell.now seen.now }
-    ensures { result ≡ term_fault state.now.rows cell.now (term_of state.now.rows tid) }
+    ensures { result ≡ term_fault state.now.rows cell.now tid (term_of state.now.rows tid) }
 {
     match state.term(tid).0 {
-        Some(term) if is_seen(state, seen, cell, Unique::TermUuid, &term.uuid) => {
-            Some((SiteRule::Taken, SiteField::Uuid))
+        Some(term) => {
+            if is_absent_term(state, term.parent) {
+                Some((SiteRule::Absent, SiteField::Parent))
+            } else if state.is_deep(tid) {
+                Some((long_rule(state, tid), SiteField::Parent))
+            } else if is_seen(state, seen, cell, Unique::TermUuid, &term.uuid) {
+                Some((SiteRule::Taken, SiteField::Uuid))
+            } else {
+                None
+            }
         }
-        _ => None,
+        None => None,
+    }
+}
+
+/// Whether a term is not there, where one is named.
+fn is_absent_term(state: &State, term: Option<u32>) -> bool
+    ensures { result ≡ is_absent (term_of state.now.rows) term }
+{
+    match term {
+        Some(term) => state.term(term).0.is_none(),
+        None => false,
+    }
+}
+
+/// The rule that a chain of parents with more than nine terms breaks. A chain of more than all rows comes back to itself.
+fn long_rule(state: &State, tid: u32) -> SiteRule
+    ensures { result ≡ (if is_longer (parent_in state.now.rows) (suc (length state.now.rows)) tid then SiteRule.Cycle else SiteRule.Deep) }
+{
+    if state.goes_on(tid) {
+        SiteRule::Cycle
+    } else {
+        SiteRule::Deep
     }
 }
 
@@ -476,20 +470,5 @@ fn note_text<'a>(
             Ok(())
         }
         None => Ok(()),
-    }
-}
-
-/// What a row has that no other row may have, if it has that.
-pub fn text_of(what: Unique, row: &Row) -> Option<&Text>
-    ensures { option_copied result ≡ text_of what row.now }
-{
-    match (what, row) {
-        (Unique::NodeUuid, Row::Node(node)) => Some(&node.uuid),
-        (Unique::TermUuid, Row::Term(term)) => Some(&term.uuid),
-        (Unique::UserUuid, Row::User(user)) => Some(&user.uuid),
-        (Unique::UserName, Row::User(user)) => Some(&user.name),
-        (Unique::Path, Row::Node(node)) => node.path.as_ref(),
-        (Unique::Path, Row::Listing(listing)) => listing.path.as_ref(),
-        _ => None,
     }
 }

@@ -4,17 +4,13 @@ ghost use Rattle.std.specs.Arc.{arc_value};
 ghost use Rattle.std.specs.Option.{option_copied, MatchOption};
 ghost use Rattle.bucket_map.specs.Buckets.{AtMost};
 ghost use Rattle.cell_keys.specs.Places.{cell_place};
-ghost use Rattle.content_state.specs.Cells.{cells_of};
+ghost use Rattle.indexed_rows.specs.Cells.{cells_of};
 ghost use Rattle.content_state.specs.Forms.{form_rows};
-ghost use Rattle.content_state.specs.Indexes.{AreIndexes};
-ghost use Rattle.content_state.specs.Replay.{written};
+ghost use Rattle.indexed_rows.specs.Indexes.{AreIndexes};
+ghost use Rattle.indexed_rows.specs.Write.{written};
 ghost use Rattle.cacheability.specs.declared.tag.Tag.TheVariants as tag;
 
-use crate::commit::Write;
 use crate::forms::{Forms, Named};
-use crate::indexed::IndexedRows;
-use crate::indexes::Indexes;
-use crate::rows::Rows;
 use crate::site_rules::{
     NotASite, Refusal, Refused, SiteField, SiteRule, first_fault, meets_site_rules,
 };
@@ -23,6 +19,7 @@ use cacheability::{Name, Tag};
 use content_rows::{
     Block, Cell, Listing, Menu, Node, NodeType, Role, Row, Seq, Session, Site, Term, User,
 };
+use indexed_rows::{IndexedRows, Indexes, Rows, Write};
 use std::alloc::{AllocError, Global};
 use std::marker::Model;
 use std::sync::Arc;
@@ -63,27 +60,8 @@ impl Model for State {
 }
 
 impl State {
-    ghost use Rattle.content_state.specs.Rows.{
-      site_of,
-      seq_of,
-      type_of,
-      role_of,
-      user_of,
-      term_of,
-      node_of,
-      menu_of,
-      listing_of,
-      block_of,
-      session_of,
-    };
-    ghost use Rattle.content_state.specs.SiteRules.{
-      InOrder,
-      AreValidRows,
-      MeetsSiteRules,
-      IsNoSite,
-      IsRefusal,
-      IsValidState,
-    };
+    ghost use Rattle.indexed_rows.specs.Rows.{site_of, seq_of, type_of, role_of, user_of, term_of, node_of, menu_of, listing_of, block_of, session_of, InOrder, AreValidRows};
+    ghost use Rattle.content_state.specs.SiteRules.{MeetsSiteRules, IsNoSite, IsRefusal, IsValidState};
     ghost use Rattle.tag_counts.specs.Counts.{IsInOrder};
     ghost use Rattle.content_state.specs.Forms.{named_by};
 

@@ -6,7 +6,7 @@ use Rattle.content_rows.specs.declared.cell.Cell.{Cell}
 use Rattle.content_rows.specs.declared.row.Row.{Row}
 use Rattle.content_state.specs.State.{State}
 use Rattle.content_state.specs.Replay.{step}
-use Rattle.content_state.specs.SiteRules.{AreValidRows}
+use Rattle.indexed_rows.specs.Rows.{AreValidRows}
 use Rattle.content_state.specs.declared.commit.Commit.{Commit}
 use Rattle.site_keeper.specs.Batch.{Batch}
 use Rattle.site_keeper.specs.Keeper.{with_batch, Kept, IfTold}

@@ -22,6 +22,8 @@ site_rule_word rule.Missing = codes "missing"
 site_rule_word rule.Range = codes "range"
 site_rule_word rule.Absent = codes "absent"
 site_rule_word rule.Taken = codes "taken"
+site_rule_word rule.Cycle = codes "cycle"
+site_rule_word rule.Deep = codes "deep"
 
 -- the word of what breaks it
 abbrev pub site_field_word : SiteField → List ℕ
@@ -35,6 +37,7 @@ site_field_word field.Uuid = codes "uuid"
 site_field_word field.Name = codes "name"
 site_field_word field.Path = codes "path"
 site_field_word field.Number = codes "number"
+site_field_word field.Parent = codes "parent"
 
 -- what is wrong, as `bad-json` or `kind title`
 abbrev pub line_says : LineFault → List ℕ

@@ -1,6 +1,6 @@
 //! The ground of a job: the state that a keeper holds.
 ghost use Rattle.std.specs.Prelude.{◌≡◌, IfOk, IfErr, OnOk};
-ghost use Rattle.content_state.specs.SiteRules.{AreValidRows};
+ghost use Rattle.indexed_rows.specs.Rows.{AreValidRows};
 ghost use Rattle.site_keeper.specs.Steps.{stored_of};
 ghost use Rattle.site_jobs.specs.Faults.{SaysRefusal, SaysText};
 ghost use Rattle.site_jobs.specs.Ground.{Holds, IsGround, IsNoGround, IsNoSiteOf, IsSite};

@@ -16,6 +16,8 @@ fn site_rule_word(rule: SiteRule) -> &'static str
         SiteRule::Range => "range",
         SiteRule::Absent => "absent",
         SiteRule::Taken => "taken",
+        SiteRule::Cycle => "cycle",
+        SiteRule::Deep => "deep",
     }
 }
 
@@ -34,6 +36,7 @@ fn site_field_word(field: SiteField) -> &'static str
         SiteField::Name => "name",
         SiteField::Path => "path",
         SiteField::Number => "number",
+        SiteField::Parent => "parent",
     }
 }
 

@@ -13,9 +13,10 @@ use Rattle.content_rows.specs.CellOrder.{cell_cmp}
 use Rattle.cell_keys.specs.Places.{cell_place}
 use Rattle.content_state.specs.State.{State}
 use Rattle.content_state.specs.declared.commit.Commit.{Commit}
-use Rattle.content_state.specs.declared.commit.Write.{Write}
-use Rattle.content_state.specs.Replay.{written, tags_of_commit}
-use Rattle.content_state.specs.Cells.{cells_of}
+use Rattle.indexed_rows.specs.declared.write.Write.{Write}
+use Rattle.indexed_rows.specs.Write.{written}
+use Rattle.content_state.specs.Replay.{tags_of_commit}
+use Rattle.indexed_rows.specs.Cells.{cells_of}
 use Rattle.state_commits.specs.Apply.{fullest_touched, steps_of}
 
 -- ---- the fullest bucket of an edit

@@ -16,11 +16,11 @@ use Rattle.content_rows.specs.declared.row.Node.{Node}
 use Rattle.content_state.specs.declared.route.Route.{Route}
 use Rattle.content_state.specs.declared.route.Route.TheVariants as route
 use Rattle.content_state.specs.State.{State}
-use Rattle.content_state.specs.Rows.{row_at, as_site, as_type, as_role, as_user, as_term, as_node, as_menu, as_listing, as_block, node_entry, block_entry, node_of, term_of, user_of}
+use Rattle.indexed_rows.specs.Rows.{InOrder, row_at, as_site, as_type, as_role, as_user, as_term, as_node, as_menu, as_listing, as_block, node_entry, term_entry, block_entry, node_of, term_of, user_of}
 use Rattle.content_state.specs.Route.{id_after, node_front, term_front, user_front, login_path, root_path, front_in, front_path, meant, found_route, led_to, route_of, cell_with, cell_route, tag_of_id, numbered_tags, route_tags, front_tags, path_tags}
-use Rattle.content_state.specs.Read.{Read, SiteRow, TypeRow, RoleRow, UserRow, TermRow, NodeRow, MenuRow, ListingRow, BlockRow, AllNodes, NodesOfType, AllBlocks, PathRoute, cover}
+use Rattle.content_state.specs.Read.{Read, SiteRow, TypeRow, RoleRow, UserRow, TermRow, NodeRow, MenuRow, ListingRow, BlockRow, AllNodes, NodesOfType, AllTerms, AllBlocks, PathRoute, cover}
 use Rattle.content_state.specs.Replay.{list_of_type, bumps}
-use Rattle.content_state.specs.SiteRules.{InOrder, IsValidState}
+use Rattle.content_state.specs.SiteRules.{IsValidState}
 use Rattle.state_commits.specs.Edits.{SameRead, AreFitFor, CoveredReadsStay}
 use Rattle.state_commits.proofs.Steps.{Names, Tells}
 use Rattle.state_commits.proofs.Logs.{Kin, kin, same_row, same_gathered, leads_from, ordered_on}
@@ -30,6 +30,10 @@ use Rattle.state_commits.proofs.Owners.{owns, first_of, tags_of, led_by_owner, a
 nodes_told : Tells node_entry tag.NodeList
 nodes_told (cell.Node n) old new never x which = absurd (never (1, omega arith, refl))
 nodes_told _ old new never x which = refl
+
+terms_told : Tells term_entry tag.TermList
+terms_told (cell.Term t) old new never x which = absurd (never (1, omega arith, refl))
+terms_told _ old new never x which = refl
 
 blocks_told : Tells block_entry tag.BlockList
 blocks_told (cell.Block b) old new never x which = absurd (never (1, omega arith, refl))
@@ -191,6 +195,7 @@ module _ (s t : State) (same : Kin s t) (sorted : InOrder s.rows) (sorted' : InO
         ∙ same_gathered (node_of_type n) same sorted sorted' (tag.NodeListOf n) (typed_told n) (one (tag.NodeListOf n) stay)
         ∙ sym (gathered_at_once (is_of_type n) node_entry t.rows);
   }
+  read_same AllTerms fit stay = record { covers = refl; answers = same_gathered term_entry same sorted sorted' tag.TermList terms_told (one tag.TermList stay) }
   read_same AllBlocks fit stay = record { covers = refl; answers = same_gathered block_entry same sorted sorted' tag.BlockList blocks_told (one tag.BlockList stay) }
   read_same (PathRoute path) fit stay = path_same fit.0 fit.1 path stay
 

@@ -5,3 +5,4 @@ pub mod Steps
 pub mod Logs
 pub mod Owners
 pub mod Covered
+pub mod Parents

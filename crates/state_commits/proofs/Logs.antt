@@ -8,8 +8,7 @@ use Rattle.content_rows.specs.declared.cell.Cell.{Cell}
 use Rattle.content_rows.specs.declared.row.Row.{Row}
 use Rattle.content_state.specs.State.{State}
 use Rattle.content_state.specs.declared.commit.Commit.{Commit}
-use Rattle.content_state.specs.Rows.{row_at}
-use Rattle.content_state.specs.SiteRules.{InOrder}
+use Rattle.indexed_rows.specs.Rows.{row_at, InOrder}
 use Rattle.content_state.specs.Replay.{step, replay}
 use Rattle.state_commits.specs.Edits.{after, AreInOrder, SameCounts, StepsKeepOrder, LogsKeepOrder, StepsLowerNoCount, LogsLowerNoCount, SumsTellCounts}
 use Rattle.state_commits.proofs.Steps.{step_ordered, step_in_order, step_up, Names, step_keeps_row, Tells, step_gathers_same}

@@ -24,11 +24,12 @@ use Rattle.content_state.specs.declared.route.Route.{Route}
 use Rattle.content_state.specs.declared.route.Route.TheVariants as route
 use Rattle.content_state.specs.declared.site_rules.SiteRule.{SiteRule}
 use Rattle.content_state.specs.declared.site_rules.SiteField.{SiteField}
-use Rattle.content_state.specs.declared.site_rules.Unique.TheVariants as unique
+use Rattle.indexed_rows.specs.declared.unique.Unique.TheVariants as unique
 use Rattle.content_state.specs.State.{State}
-use Rattle.content_state.specs.Rows.{row_at, as_node, as_listing, type_of, user_of}
+use Rattle.indexed_rows.specs.Rows.{row_at, as_node, as_listing, type_of, user_of, InOrder, AreValidRows}
 use Rattle.content_state.specs.Route.{cell_route, cell_with}
-use Rattle.content_state.specs.SiteRules.{text_of, is_text, taken, node_fault, listing_fault, MeetsSiteRules, InOrder, AreValidRows, IsValidState}
+use Rattle.indexed_rows.specs.Texts.{text_of, is_text}
+use Rattle.content_state.specs.SiteRules.{taken, node_fault, listing_fault, MeetsSiteRules, IsValidState}
 use Rattle.state_commits.proofs.Steps.{Names}
 
 -- a node or a listing whose own path it is, as what the path leads to

@@ -13,11 +13,10 @@ use Rattle.content_rows.specs.declared.cell.Cell.{Cell}
 use Rattle.content_rows.specs.declared.row.Row.{Row}
 use Rattle.std.specs.BTreeMap.{is_at}
 use Rattle.content_state.specs.State.{State}
-use Rattle.content_state.specs.Write.{Write}
+use Rattle.indexed_rows.specs.Write.{Write, with_row_or_none, written}
 use Rattle.content_state.specs.declared.commit.Commit.{Commit}
-use Rattle.content_state.specs.Rows.{row_at}
-use Rattle.content_state.specs.SiteRules.{InOrder}
-use Rattle.content_state.specs.Replay.{bumps, tags_of_write, tags_of_commit, with_row_or_none, written, step}
+use Rattle.indexed_rows.specs.Rows.{row_at, InOrder}
+use Rattle.content_state.specs.Replay.{bumps, tags_of_write, tags_of_commit, step}
 use Rattle.state_commits.specs.Edits.{AreInOrder}
 use Rattle.state_commits.proofs.Entries.{same_or_not, found_put_same, found_put_other, found_cut_same, found_cut_other, ordered_put, ordered_cut, gathered_put, gathered_cut}
 use Rattle.state_commits.proofs.Counted.{all_up, named_up, counts_ordered}

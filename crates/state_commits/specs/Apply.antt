@@ -6,7 +6,7 @@ use Rattle.cacheability.specs.declared.tag.Tag.{Tag}
 use Rattle.tag_counts.specs.Counts.{count_of}
 use Rattle.tag_counts.specs.Key.{tag_place}
 use Rattle.cell_keys.specs.Places.{cell_place}
-use Rattle.content_state.specs.Cells.{cells_of}
+use Rattle.indexed_rows.specs.Cells.{cells_of}
 use Rattle.content_state.specs.State.{State}
 use Rattle.content_state.specs.declared.commit.Commit.{Commit}
 use Rattle.content_state.specs.Replay.{tags_of_commit}

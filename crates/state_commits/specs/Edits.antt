@@ -7,7 +7,8 @@ use Rattle.content_state.specs.State.{State}
 use Rattle.content_state.specs.declared.commit.Commit.{Commit}
 use Rattle.content_state.specs.Read.{Read, PathRoute, answer, cover}
 use Rattle.content_state.specs.Replay.{step, replay}
-use Rattle.content_state.specs.SiteRules.{InOrder, IsValidState}
+use Rattle.indexed_rows.specs.Rows.{InOrder}
+use Rattle.content_state.specs.SiteRules.{IsValidState}
 
 -- the state after so many edits of a log, the first ones
 abbrev pub after : State → List Commit → ℕ → State

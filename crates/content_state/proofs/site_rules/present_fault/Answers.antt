@@ -2,7 +2,7 @@ use Rattle.std.proofs.Common.{[], ◌∷◌, ◌++◌, ◌∙◌, sym, ap, subst
 use Rattle.content_rows.specs.declared.cell.Cell.{Cell}
 use Rattle.content_rows.specs.declared.row.Row.{Row}
 use Rattle.content_state.specs.FirstFault.{fault_at}
-use Rattle.content_state.specs.SiteRules.{InOrder}
+use Rattle.indexed_rows.specs.Rows.{InOrder}
 use Rattle.content_state.proofs.SeenRows.{seen_before, seen_one_more, passed_over}
 use Rattle.content_state.proofs.site_rules.present_fault.Goals as goal
 

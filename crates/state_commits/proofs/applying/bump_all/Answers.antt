@@ -5,7 +5,7 @@ use Rattle.cacheability.specs.Tag.{tag_cmp}
 use Rattle.tag_counts.specs.Counts.{bumped, count_of}
 use Rattle.tag_counts.specs.Key.{tag_place}
 use Rattle.state_commits.proofs.Counted.{room_for}
-use Rattle.content_state.proofs.WriteCost.{fold_more}
+use Rattle.indexed_rows.proofs.WriteCost.{fold_more}
 use Rattle.state_commits.proofs.applying.bump_all.Goals as goal
 
 pub bump-requires : goal.bump-requires

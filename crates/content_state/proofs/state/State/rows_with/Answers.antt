@@ -2,12 +2,12 @@ use Rattle.std.proofs.Common.{rules, ℕ, Bool, ◌≡◌, ◌∙◌, ap}
 use Rattle.std.specs.List.{filter}
 use Rattle.shared_set.specs.Keys.{is_in}
 use Rattle.index_law.specs.Index.{index_of}
-use Rattle.content_state.specs.contracts.text_mark.TextKeyOrd.TheImpl as key_order
+use Rattle.indexed_rows.specs.contracts.text_mark.TextKeyOrd.TheImpl as key_order
 use Rattle.content_state.specs.FoundTexts.{found_with}
-use Rattle.content_state.specs.SiteRules.{InOrder}
-use Rattle.content_state.specs.TextKeys.{mark_cmp, text_keys}
-use Rattle.content_state.specs.declared.text_mark.TextMark.{TextMark}
-use Rattle.content_state.specs.declared.text_mark.TextKey.{TextKey}
+use Rattle.indexed_rows.specs.Rows.{InOrder}
+use Rattle.indexed_rows.specs.TextKeys.{mark_cmp, text_keys}
+use Rattle.indexed_rows.specs.declared.text_mark.TextMark.{TextMark}
+use Rattle.indexed_rows.specs.declared.text_mark.TextKey.{TextKey}
 use Rattle.content_state.proofs.TextsFound.{all_found}
 use Rattle.content_state.proofs.state.State.rows_with.Goals as goal
 

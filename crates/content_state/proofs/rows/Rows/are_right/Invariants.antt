@@ -1,7 +1,0 @@
-use Rattle.std.proofs.Common.{◌↔◌}
-use Rattle.content_state.proofs.RightRows.{AllRight}
-use Rattle.content_state.proofs.rows.Rows.are_right.Given as goal
-
--- the rows that are left are right exactly where all are
-abbrev pub invariant-rows : goal.invariant-rows
-invariant-rows l = AllRight l.cell-iterator ↔ AllRight l.self

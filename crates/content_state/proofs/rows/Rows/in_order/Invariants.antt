@@ -1,9 +1,0 @@
-use Rattle.std.proofs.Common.{◌≡◌, ◌++◌, map, drop}
-use Rattle.content_state.specs.Rows.{shown}
-use Rattle.content_state.specs.SiteRules.{InOrder}
-use Rattle.content_state.proofs.CellsFound.{entries_at}
-use Rattle.content_state.proofs.rows.Rows.in_order.Given as goal
-
--- the rows of the cells so far, and those of the cells that are left
-abbrev pub invariant-keys : goal.invariant-keys
-invariant-keys l = map shown l.entries.items ++ entries_at l.self (drop l.key-index l.key-items) ≡ entries_at l.self l.key-items

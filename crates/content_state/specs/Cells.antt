@@ -1,7 +1,0 @@
--- The cells that an edit writes to.
-use Rattle.std.specs.Prelude.{List, map}
-use Rattle.content_rows.specs.declared.cell.Cell.{Cell}
-use Rattle.content_state.specs.declared.commit.Write.{Write}
-
-abbrev pub cells_of : List Write → List Cell
-cells_of writes = map (λ w. w.cell) writes
