@@ -5,7 +5,7 @@ use Rattle.std.specs.List.{IsDistinct}
 use Rattle.std.specs.Ordering.{eq_by_cmp}
 use Rattle.content_rows.specs.CellOrder.{cell_cmp}
 use Rattle.content_state.specs.State.{State}
-use Rattle.content_state.specs.Write.{Write}
+use Rattle.indexed_rows.specs.Write.{Write}
 use Rattle.content_state.specs.SiteRules.{IsValidState}
 use Rattle.content_state.specs.declared.commit.Commit.{Commit}
 use Rattle.json_keys.specs.declared.checked.Checked.{Checked}

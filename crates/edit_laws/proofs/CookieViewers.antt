@@ -6,7 +6,7 @@ use Rattle.content_rows.specs.Permission.{session_live}
 use Rattle.content_rows.specs.declared.row.Session.{Session}
 use Rattle.content_rows.specs.declared.row.User.{User}
 use Rattle.content_state.specs.State.{State}
-use Rattle.content_state.specs.Rows.{user_of, session_of}
+use Rattle.indexed_rows.specs.Rows.{user_of, session_of}
 use Rattle.content_state.specs.SiteRules.{IsValidState}
 use Rattle.content_state.specs.Viewer.{nobody, viewer_by, viewer_with, viewer_of}
 use Rattle.content_state.specs.declared.ask.Viewer.{Viewer}

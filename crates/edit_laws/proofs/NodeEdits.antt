@@ -8,10 +8,10 @@ use Rattle.content_rows.specs.declared.row.Seq.{Seq}
 use Rattle.content_rows.specs.declared.row.Node.{Node}
 use Rattle.content_rows.specs.declared.row.NodeType.{NodeType}
 use Rattle.content_state.specs.State.{State}
-use Rattle.content_state.specs.Rows.{row_at, seq_of, type_of, node_of}
+use Rattle.indexed_rows.specs.Rows.{row_at, seq_of, type_of, node_of}
 use Rattle.content_state.specs.SiteRules.{IsValidState}
 use Rattle.content_state.specs.declared.ask.Viewer.{Viewer}
-use Rattle.content_state.specs.declared.site_rules.Unique.TheVariants as unique
+use Rattle.indexed_rows.specs.declared.unique.Unique.TheVariants as unique
 use Rattle.cacheability.specs.declared.op.Op.TheVariants as op
 use Rattle.site_access.specs.Access.{access_to_node}
 use Rattle.valid_edits.specs.Holders.{holder, path_holder}

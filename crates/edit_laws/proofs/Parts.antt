@@ -18,7 +18,7 @@ use Rattle.content_rows.specs.declared.row.Row.TheVariants as row
 use Rattle.content_rows.specs.declared.row.Seq.{Seq}
 use Rattle.content_rows.specs.declared.row.User.{User}
 use Rattle.content_state.specs.State.{State}
-use Rattle.content_state.specs.Rows.{row_at, seq_of, user_of}
+use Rattle.indexed_rows.specs.Rows.{row_at, seq_of, user_of}
 use Rattle.content_state.specs.SiteRules.{IsValidState}
 use Rattle.valid_edits.specs.Fits.{is_absent_user, FitsOrMayGo}
 use Rattle.valid_edits.proofs.Together.{is_seq, is_user}

@@ -1,6 +1,7 @@
 -- The rows that right commands make, and those that they change, are right by themselves.
 use Rattle.std.proofs.Common.{◌≤◌, ◌+◌, ◌||◌, ℕ, List, [], refl, arith}
 use Rattle.std.specs.Prelude.{Option, Some, None, length, All, IsTrue}
+use Rattle.std.specs.Option.{ForSome}
 use Rattle.std.specs.Str.{bytes_eq}
 use Rattle.std.proofs.Math.Nat.{min-le_right}
 use Rattle.std.proofs.lemmas.Bool.{or_left}
@@ -66,12 +67,13 @@ right_patched_node node patch now old right moment = record {
 -- ---- terms
 
 pub right_new_term : (new : NewTerm) → IsRightNewTerm new → IsValidTerm (new_term new)
-right_new_term new right = record { description = right.description; name = right.name; uuid = right.uuid }
+right_new_term new right = record { description = right.description; name = right.name; parent = right.parent; uuid = right.uuid }
 
 pub right_patched_term : (term : Term) (patch : TermPatch) → IsValidTerm term → IsRightTermPatch patch → IsValidTerm (patched_term term patch)
 right_patched_term term patch old right = record {
   description = sent_or_kept (λ description. IsTrue (is_text description)) patch.description term.description right.description old.description;
   name = sent_or_kept (λ name. IsTrue (is_line 255 name)) patch.name term.name right.name old.name;
+  parent = sent_or_kept (λ parent. ForSome parent IsId) patch.parent term.parent right.parent old.parent;
   uuid = old.uuid;
 }
 

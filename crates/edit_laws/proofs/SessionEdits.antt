@@ -10,7 +10,7 @@ use Rattle.content_rows.specs.declared.row.Row.TheVariants as row
 use Rattle.content_rows.specs.declared.row.User.{User}
 use Rattle.content_rows.specs.declared.row.Session.{Session}
 use Rattle.content_state.specs.State.{State}
-use Rattle.content_state.specs.Rows.{row_at, as_user, session_of}
+use Rattle.indexed_rows.specs.Rows.{row_at, as_user, session_of}
 use Rattle.content_state.specs.SiteRules.{IsValidState}
 use Rattle.content_state.specs.declared.ask.Viewer.{Viewer}
 use Rattle.state_commits.proofs.Owners.{is_found}

@@ -7,10 +7,10 @@ use Rattle.content_rows.specs.declared.row.Row.TheVariants as row
 use Rattle.content_rows.specs.declared.row.Seq.{Seq}
 use Rattle.content_rows.specs.declared.row.User.{User}
 use Rattle.content_state.specs.State.{State}
-use Rattle.content_state.specs.Rows.{row_at, seq_of, user_of}
+use Rattle.indexed_rows.specs.Rows.{row_at, seq_of, user_of}
 use Rattle.content_state.specs.SiteRules.{IsValidState}
 use Rattle.content_state.specs.declared.ask.Viewer.{Viewer}
-use Rattle.content_state.specs.declared.site_rules.Unique.TheVariants as unique
+use Rattle.indexed_rows.specs.declared.unique.Unique.TheVariants as unique
 use Rattle.valid_edits.specs.Holders.{holder}
 use Rattle.valid_edits.specs.Fits.{AllFit}
 use Rattle.valid_edits.proofs.Rows.{no_map}

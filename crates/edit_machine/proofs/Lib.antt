@@ -1,3 +1,5 @@
 pub mod Decided
+pub mod Exchanged
+pub mod Trees
 pub mod Values
 pub mod Named

@@ -8,8 +8,8 @@ use Rattle.content_rows.specs.declared.cell.Cell.TheVariants as cell
 use Rattle.content_rows.specs.declared.row.Row.{Row}
 use Rattle.content_rows.specs.declared.row.Row.TheVariants as row
 use Rattle.content_rows.specs.declared.row.User.{User}
-use Rattle.content_state.specs.SiteRules.{is_text, text_of}
-use Rattle.content_state.specs.declared.site_rules.Unique.TheVariants as unique
+use Rattle.indexed_rows.specs.Texts.{is_text, text_of}
+use Rattle.indexed_rows.specs.declared.unique.Unique.TheVariants as unique
 use Rattle.site_commands.specs.Sessions.{is_user_with, user_entry}
 use Rattle.site_passwords.specs.Password.{digest_text}
 

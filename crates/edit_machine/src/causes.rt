@@ -1,7 +1,7 @@
 //! Why an edit is refused, and what is kept of one that is accepted.
 ghost use Rattle.std.specs.Prelude.{◌≡◌, [], ◌∷◌, IfOk, IsSome, nat_le};
 ghost use Rattle.access_result.specs.declared.reason.Reason.TheVariants as reason_is;
-ghost use Rattle.content_state.specs.Rows.{node_of};
+ghost use Rattle.indexed_rows.specs.Rows.{node_of};
 ghost use Rattle.site_access.specs.Access.{access_to_node, access_to_create};
 ghost use Rattle.site_access.specs.Account.{IsAccountOf, OnRows};
 ghost use Rattle.site_access.specs.Depends.{access_of};

@@ -23,8 +23,9 @@ use std::alloc::{AllocError, Global};
 ///   no active user has the name and the password that somebody logs in with; who logs out has no session;
 /// - `TokenClash`: a session of the token that somebody is to be logged in with is there;
 /// - `Broken`: a rule is broken, of the body by itself; or `Unknown` for a field that the type hasn't, `Absent` for
-///   nodes, terms or a user that are named, `Taken` for a user's name, `Locked` for a role that stays, `Used` for a type
-///   that nodes have, `Full` where there is no id or no version left;
+///   nodes, terms or a user that are named, `Cycle` and `Deep` for a term's parent with which a chain of parents would
+///   come back to itself or have more than nine terms, `Taken` for a user's name, `Locked` for a role that stays, `Used`
+///   for a type that nodes have or a term that is another's parent, `Full` where there is no id or no version left;
 /// - `UuidTaken`: another row of the kind has the universal id;
 /// - `Stale`: the version that the change was made of is not the node's;
 /// - `PathTaken`: another row has the path;

@@ -2,7 +2,7 @@
 ghost use Rattle.std.specs.Prelude.{ℕ, ◌≡◌, ◌≢◌, ◌==◌, ◌∷◌, IfOk, Ok, Some, None, [], codes, unwrap_or, is_none};
 ghost use Rattle.std.specs.List.{list_any};
 ghost use Rattle.std.specs.Option.{option_copied};
-ghost use Rattle.content_state.specs.Rows.{seq_of, node_of, term_of};
+ghost use Rattle.indexed_rows.specs.Rows.{seq_of, node_of, term_of};
 ghost use Rattle.site_access.specs.Account.{IsAccountOf, OnRows};
 ghost use Rattle.json_keys.specs.declared.rule.Rule.TheVariants as rule;
 ghost use Rattle.site_commands.specs.Causes.{told, of_target, breaks};
@@ -489,7 +489,7 @@ fn sends_absent_term(state: &State, sent: &Option<Items<u32>>) -> bool
 }
 
 /// Whether a term is not there.
-fn is_absent_term(state: &State, tid: u32) -> bool
+pub fn is_absent_term(state: &State, tid: u32) -> bool
     ensures { result ≡ is_none (term_of state.now.rows tid) }
 {
     state.term(tid).0.is_none()

@@ -1,7 +1,7 @@
 //! Edits of users.
 ghost use Rattle.std.specs.Prelude.{◌≡◌, IfOk, None, is_some};
-ghost use Rattle.content_state.specs.Rows.{seq_of};
-ghost use Rattle.content_state.specs.declared.site_rules.Unique.TheVariants as unique;
+ghost use Rattle.indexed_rows.specs.Rows.{seq_of};
+ghost use Rattle.indexed_rows.specs.declared.unique.Unique.TheVariants as unique;
 ghost use Rattle.site_access.specs.Account.{IsAccountOf, OnRows};
 ghost use Rattle.site_commands.specs.Causes.{told, of_target};
 ghost use Rattle.site_commands.specs.Users.{

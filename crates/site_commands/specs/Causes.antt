@@ -5,7 +5,7 @@ use Rattle.access_result.specs.declared.reason.Reason.TheVariants as reason
 use Rattle.content_rows.specs.declared.cell.Cell.{Cell}
 use Rattle.content_rows.specs.declared.row.Row.{Row}
 use Rattle.content_state.specs.State.{State}
-use Rattle.content_state.specs.Write.{Write}
+use Rattle.indexed_rows.specs.Write.{Write}
 use Rattle.content_state.specs.Viewer.{may}
 use Rattle.content_state.specs.declared.ask.Viewer.{Viewer}
 use Rattle.content_state.specs.declared.commit.Commit.{Commit}

@@ -6,7 +6,7 @@ use Rattle.content_rows.specs.declared.cell.Cell.TheVariants as cell
 use Rattle.content_rows.specs.declared.row.Row.{Row}
 use Rattle.content_rows.specs.declared.row.Row.TheVariants as row
 use Rattle.content_state.specs.State.{State}
-use Rattle.content_state.specs.Rows.{row_at, term_of}
+use Rattle.indexed_rows.specs.Rows.{row_at, term_of}
 use Rattle.content_state.specs.declared.ask.Viewer.{Viewer}
 use Rattle.json_keys.specs.declared.checked.Checked.{Checked}
 use Rattle.json_keys.specs.declared.rule.Rule.TheVariants as rule

@@ -10,10 +10,10 @@ use Rattle.content_rows.specs.declared.row.Seq.{Seq}
 use Rattle.content_rows.specs.declared.row.Node.{Node}
 use Rattle.content_rows.specs.declared.row.NodeType.{NodeType}
 use Rattle.content_state.specs.State.{State}
-use Rattle.content_state.specs.Write.{Write}
-use Rattle.content_state.specs.Rows.{seq_of, type_of, term_of, node_of}
+use Rattle.indexed_rows.specs.Write.{Write}
+use Rattle.indexed_rows.specs.Rows.{seq_of, type_of, term_of, node_of}
 use Rattle.content_state.specs.declared.ask.Viewer.{Viewer}
-use Rattle.content_state.specs.declared.site_rules.Unique.TheVariants as unique
+use Rattle.indexed_rows.specs.declared.unique.Unique.TheVariants as unique
 use Rattle.json_keys.specs.declared.checked.Checked.{Checked}
 use Rattle.json_keys.specs.declared.rule.Rule.TheVariants as rule
 use Rattle.valid_edits.specs.Fits.{is_absent_user}

@@ -66,11 +66,13 @@ pub record IsRightNodePatch (patch : NodePatch) : Type 0 where
 pub record IsRightNewTerm (new : NewTerm) : Type 0 where
   pub description : IsTrue (is_text new.description)
   pub name : IsTrue (is_line 255 new.name)
+  pub parent : ForSome new.parent IsId
   pub uuid : IsTrue (is_uuid new.uuid)
 
 pub record IsRightTermPatch (patch : TermPatch) : Type 0 where
   pub description : ForSome patch.description (λ description. IsTrue (is_text description))
   pub name : ForSome patch.name (λ name. IsTrue (is_line 255 name))
+  pub parent : ForSome patch.parent (λ parent. ForSome parent IsId)
 
 pub record IsRightNewUser (new : NewUser) : Type 0 where
   pub few_grants : length new.grants ≤ 64

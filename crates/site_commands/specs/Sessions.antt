@@ -11,8 +11,8 @@ use Rattle.content_rows.specs.declared.row.Row.{Row}
 use Rattle.content_rows.specs.declared.row.Row.TheVariants as row
 use Rattle.content_rows.specs.declared.row.User.{User}
 use Rattle.content_state.specs.State.{State}
-use Rattle.content_state.specs.SiteRules.{is_text}
-use Rattle.content_state.specs.Rows.{session_of}
+use Rattle.indexed_rows.specs.Texts.{is_text}
+use Rattle.indexed_rows.specs.Rows.{session_of}
 use Rattle.content_state.specs.declared.ask.Viewer.{Viewer}
 use Rattle.content_state.specs.declared.commit.Commit.{Commit}
 use Rattle.site_passwords.specs.Password.{digest_text}

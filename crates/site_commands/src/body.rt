@@ -118,6 +118,8 @@ pub struct NewTerm {
     pub description: Text,
     /// Its name.
     pub name: Text,
+    /// The term that it is to stand under, if any.
+    pub parent: Option<u32>,
     /// Whether it is published; it is where it isn't said.
     pub status: Option<bool>,
     /// Its universal id.
@@ -129,6 +131,7 @@ impl Drop for NewTerm {
         let NewTerm {
             description: _,
             name: _,
+            parent: _,
             status: _,
             uuid: _,
         } = self;
@@ -141,6 +144,8 @@ pub struct TermPatch {
     pub description: Option<Text>,
     /// Its name.
     pub name: Option<Text>,
+    /// The term that it is to stand under; at the top where that is said.
+    pub parent: Option<Option<u32>>,
     /// Whether it is published.
     pub status: Option<bool>,
 }
@@ -150,6 +155,7 @@ impl Drop for TermPatch {
         let TermPatch {
             description: _,
             name: _,
+            parent: _,
             status: _,
         } = self;
     }

@@ -7,7 +7,7 @@ use Rattle.std.proofs.lemmas.List.{take-append-le}
 use Rattle.std.proofs.lemmas.List.Sums.{fold-append}
 use Rattle.content_state.specs.State.{State}
 use Rattle.content_state.specs.Replay.{step, replay}
-use Rattle.content_state.specs.SiteRules.{AreValidRows}
+use Rattle.indexed_rows.specs.Rows.{AreValidRows}
 use Rattle.content_state.specs.declared.commit.Commit.{Commit}
 use Rattle.site_keeper.specs.Batch.{Batch}
 use Rattle.site_keeper.specs.Keeper.{Kept, IfTold, held_of, and_batch, with_batch}

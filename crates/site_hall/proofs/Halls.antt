@@ -7,7 +7,8 @@ use Rattle.std.proofs.lemmas.List.{take_all}
 use Rattle.std.proofs.lemmas.List.Elements.{All-nil}
 use Rattle.content_state.specs.State.{State}
 use Rattle.content_state.specs.Replay.{step, replay, IsCommit}
-use Rattle.content_state.specs.SiteRules.{AreValidRows, IsValidState}
+use Rattle.indexed_rows.specs.Rows.{AreValidRows}
+use Rattle.content_state.specs.SiteRules.{IsValidState}
 use Rattle.content_state.specs.declared.commit.Commit.{Commit}
 use Rattle.cache_entries.specs.declared.key.Key.{Key}
 use Rattle.cache_entries.specs.declared.kept.Bin.{Bin}

@@ -12,7 +12,7 @@ use Rattle.content_rows.specs.declared.row.User.{User}
 use Rattle.content_state.specs.State.{State}
 use Rattle.content_state.specs.Replay.{replay}
 use Rattle.content_state.specs.Viewer.{viewer_of}
-use Rattle.content_state.specs.Rows.{seq_of, type_of, user_of, term_of, node_of, session_of, row_at}
+use Rattle.indexed_rows.specs.Rows.{seq_of, type_of, user_of, term_of, node_of, session_of, row_at}
 use Rattle.content_state.specs.declared.ask.Ask.{Ask}
 use Rattle.content_state.specs.declared.ask.Viewer.{Viewer}
 use Rattle.content_state.specs.declared.commit.Commit.{Commit}
@@ -120,13 +120,14 @@ module _ (state : State) where
       after_target asked.tid (λ tid. of_target (term_of state.rows tid) (terms.change_there state viewer asked.body pass tid)) (λ tid.
       after_target (term_of state.rows tid) (terms.change_there state viewer asked.body pass tid) (λ term.
       after_causes (needs state.rows viewer terms.administer_taxonomy ∷ []) (of_body asked.body (terms.change_right state pass tid term)) (
-      after_body asked.body (terms.change_right state pass tid term) (λ patch. raising (commit_of pass (set (cell.Term tid) (row.Term (terms.patched_term term patch)) ∷ [])) done.Saved))))
+      after_body asked.body (terms.change_right state pass tid term) (λ patch.
+      after_no_cause (terms.change_refusals state.rows tid term patch) (commit_of pass (set (cell.Term tid) (row.Term (terms.patched_term term patch)) ∷ [])) done.Saved))))
 
   remove_term_raises : (viewer : Viewer) (asked : Option ℕ) (pass : ℕ) → RaisesAll (terms.remove_term state viewer asked pass)
   remove_term_raises viewer asked pass =
       after_target asked (λ tid. of_target (term_of state.rows tid) (λ term. terms.remove_there state viewer pass tid)) (λ tid.
       after_target (term_of state.rows tid) (λ term. terms.remove_there state viewer pass tid) (λ term.
-      after_no_cause (needs state.rows viewer terms.administer_taxonomy ∷ []) (commit_of pass (removed (cell.Term tid) ∷ [])) done.Saved))
+      after_no_cause (needs state.rows viewer terms.administer_taxonomy ∷ terms.remove_refusals state.rows tid) (commit_of pass (removed (cell.Term tid) ∷ [])) done.Saved))
 
   -- ---- users
 

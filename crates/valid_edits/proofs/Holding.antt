@@ -9,10 +9,10 @@ use Rattle.content_rows.proofs.CellLemmas.{cell_cmp_exact, tells_cells_apart}
 use Rattle.content_rows.specs.declared.cell.Cell.{Cell}
 use Rattle.content_rows.specs.declared.row.Row.{Row}
 use Rattle.content_rows.specs.declared.row.Row.TheVariants as row
-use Rattle.content_state.specs.Rows.{row_at}
-use Rattle.content_state.specs.SiteRules.{InOrder, is_text, text_of}
-use Rattle.content_state.specs.declared.site_rules.Unique.{Unique}
-use Rattle.content_state.specs.declared.site_rules.Unique.TheVariants as unique
+use Rattle.indexed_rows.specs.Rows.{row_at, InOrder}
+use Rattle.indexed_rows.specs.Texts.{is_text, text_of}
+use Rattle.indexed_rows.specs.declared.unique.Unique.{Unique}
+use Rattle.indexed_rows.specs.declared.unique.Unique.TheVariants as unique
 use Rattle.valid_edits.specs.Holders.{is_other_with, holder, path_holder}
 use Rattle.valid_edits.proofs.Rows.{clash, one_cell_or_two, some_passes, it_passes, none_found, find_none, no_map, text_is, is_text_of}
 

@@ -1,8 +1,9 @@
 -- A valid state stays valid under an edit whose writes fit.
-use Rattle.std.proofs.Common.{◌≡◌, ◌<◌, ◌∙◌, ℕ, List, [], ◌∷◌, false, sym, ap, subst}
+use Rattle.std.proofs.Common.{◌≡◌, ◌<◌, ◌∙◌, ℕ, List, [], ◌∷◌, true, false, refl, sym, ap, subst}
 use Rattle.std.specs.Prelude.{Option, Some, None, ◌==◌, ◌&&◌, not, is_none, option_and_then, fold}
+use Rattle.std.specs.Option.{option_map_or}
 use Rattle.std.specs.BTreeMap.{is_at}
-use Rattle.std.proofs.lemmas.Bool.{or_parts}
+use Rattle.std.proofs.lemmas.Bool.{or_parts, eq-eqb}
 use Rattle.std.proofs.lemmas.Slice.Eq.{bytes_eq-Decides}
 use Rattle.std.specs.Str.{bytes_eq}
 use Rattle.content_rows.specs.CellOrder.{cell_cmp}
@@ -18,22 +19,24 @@ use Rattle.content_rows.specs.declared.row.User.{User}
 use Rattle.content_rows.specs.declared.row.Term.{Term}
 use Rattle.content_rows.specs.declared.row.Node.{Node}
 use Rattle.content_rows.specs.declared.row.Listing.{Listing}
+use Rattle.content_rows.specs.declared.row.Session.{Session}
 use Rattle.content_state.specs.State.{State}
-use Rattle.content_state.specs.Write.{Write}
+use Rattle.indexed_rows.specs.Write.{Write, written, with_row_or_none}
 use Rattle.content_state.specs.declared.site_rules.Numbered.{Numbered}
 use Rattle.content_state.specs.declared.site_rules.Numbered.TheVariants as numbered
-use Rattle.content_state.specs.declared.site_rules.Unique.TheVariants as unique
-use Rattle.content_state.specs.Rows.{row_at, with_row, without_row, as_seq, as_type, as_user, seq_of}
-use Rattle.content_state.specs.Replay.{written, with_row_or_none, step}
-use Rattle.content_state.specs.SiteRules.{InOrder, IsValidState}
+use Rattle.indexed_rows.specs.declared.unique.Unique.TheVariants as unique
+use Rattle.indexed_rows.specs.Rows.{row_at, with_row, without_row, as_seq, as_type, as_user, seq_of, InOrder}
+use Rattle.content_state.specs.Replay.{step}
+use Rattle.content_state.specs.SiteRules.{IsValidState}
 use Rattle.state_commits.proofs.Entries.{found_put_same, found_put_other, found_cut_same, found_cut_other, ordered_put, ordered_cut}
 use Rattle.state_commits.proofs.Steps.{step_in_order}
-use Rattle.valid_edits.specs.Holders.{holder, is_of_type, is_used}
+use Rattle.valid_edits.specs.Holders.{holder, is_of_type, is_used, is_child_of, is_parent}
 use Rattle.valid_edits.specs.Fits.{next_id, IsGiven, is_absent_user, is_locked_role, SeqFits, UserFits, TermFits, NodeFits, Fits, MayGo, FitsOrMayGo, AllFit, KeepsValid}
 use Rattle.valid_edits.proofs.Rows.{clash, it_passes}
-use Rattle.valid_edits.proofs.Together.{IsThere, IsBelow, NamesThere, IsTogether, there_of, below_next, none_from, together, right_rows, rules}
+use Rattle.valid_edits.proofs.Parents.{some_term}
+use Rattle.valid_edits.proofs.Together.{IsThere, IsBelow, NamesType, NamesTerm, Names, NamesThere, IsTogether, there_of, parent_there, below_next, none_from, term_cell, together, right_rows, rules}
 use Rattle.valid_edits.proofs.Holding.{held_here, path_here, IsPlain, has_nothing}
-use Rattle.valid_edits.proofs.After.{IsOver, IsAlone, after_set, after_other, after_removal}
+use Rattle.valid_edits.proofs.After.{IsOver, IsAlone, after_set, after_other, short_set, after_removal}
 
 -- the map after a write
 pub put_over : (rows : List (Cell × Row)) (c : Cell) (r : Row) → IsOver (row_at rows) c (Some r) (row_at (with_row rows c r))
@@ -81,13 +84,52 @@ listing_alone rows name r fits _ t is d q at has = cc
 plain_alone : (rows : List (Cell × Row)) (c : Cell) (r : Row) → IsPlain r → IsAlone (row_at rows) c r
 plain_alone rows c r plain what t is d q at has = absurd (has_nothing r plain what t is)
 
+-- ---- what a row names
+
+-- a row of a kind that names nothing
+abbrev IsMute : Row → Type 0
+IsMute (row.Node r) = ⊥
+IsMute (row.Session r) = ⊥
+IsMute (row.Term r) = ⊥
+IsMute _ = Unit {0}
+
+names_none : (at : Cell → Option Row) (r : Row) → IsMute r → NamesThere at r
+names_none at (row.Node r) mute c is = absurd mute
+names_none at (row.Session r) mute c is = absurd mute
+names_none at (row.Term r) mute c is = absurd mute
+names_none at _ mute (cell.NodeType name) is = absurd is
+names_none at _ mute (cell.User id) is = absurd is
+names_none at _ mute (cell.Term id) is = absurd is
+names_none at _ mute _ is = absurd is
+
+session_names : (at : Cell → Option Row) (r : Session) → IsThere at (cell.User r.uid) → NamesThere at (row.Session r)
+session_names at r there (cell.User id) is = subst (λ n. IsThere at (cell.User n)) is there
+session_names at r there _ is = absurd is
+
+term_names : (at : Cell → Option Row) (r : Term) → ((id : ℕ) → r.parent ≡ Some id → IsThere at (cell.Term id)) → NamesThere at (row.Term r)
+term_names at r there (cell.Term id) is = there id is
+term_names at r there _ is = absurd is
+
+node_names : (at : Cell → Option Row) (r : Node) → IsThere at (cell.NodeType r.node_type) → ((r.uid == 0) ≡ false → IsThere at (cell.User r.uid)) → NamesThere at (row.Node r)
+node_names at r type owner (cell.NodeType name) is = subst (λ n. IsThere at (cell.NodeType n)) is type
+node_names at r type owner (cell.User id) is =
+    subst (λ n. IsThere at (cell.User n)) is.0 (owner (ap (λ n. n == 0) is.0 ∙ is.1))
+node_names at r type owner _ is = absurd is
+
 -- ---- one write
 
 module _ (rows : List (Cell × Row)) (sorted : InOrder rows) (all : IsTogether (row_at rows)) where
-  -- a row is set, at another cell than that of the next ids
-  set_at : (c : Cell) (r : Row) → IsValidRow c r → (cell.Seq ≡ c → ⊥) → IsBelow all.seq c → NamesThere (row_at rows) r → IsAlone (row_at rows) c r → IsTogether (row_at (with_row rows c r))
-  set_at c r right other below named own =
-      after_other (row_at rows) (row_at (with_row rows c r)) c r (put_over rows c r) all right other below named own
+  -- a row is set, at another cell than that of the next ids and none of a term
+  set_at : (c : Cell) (r : Row) → IsValidRow c r → (cell.Seq ≡ c → ⊥) → ((id : ℕ) → cell.Term id ≡ c → ⊥) → IsBelow all.seq c → NamesThere (row_at rows) r → IsAlone (row_at rows) c r
+      → IsTogether (row_at (with_row rows c r))
+  set_at c r right other no_term below named own =
+      let over = put_over rows c r in
+      after_other (row_at rows) (row_at (with_row rows c r)) c r over all right other below named
+      (short_set (row_at rows) (row_at (with_row rows c r)) c r over all.short no_term) own
+
+  -- a row that names nothing and has nothing of its own
+  set_plain : (c : Cell) (r : Row) → IsValidRow c r → (cell.Seq ≡ c → ⊥) → ((id : ℕ) → cell.Term id ≡ c → ⊥) → IsBelow all.seq c → IsMute r → IsPlain r → IsTogether (row_at (with_row rows c r))
+  set_plain c r right other no_term below mute plain = set_at c r right other no_term below (names_none (row_at rows) r mute) (plain_alone rows c r plain)
 
   -- an id that was given is below the one that is next
   below_seq : (kind : Numbered) (id : ℕ) → IsGiven rows kind id → id < next_id kind all.seq
@@ -108,7 +150,9 @@ module _ (rows : List (Cell × Row)) (sorted : InOrder rows) (all : IsTogether (
   set_seq seq right fits =
       let over = put_over rows cell.Seq (row.Seq seq) in
       after_set (row_at rows) (row_at (with_row rows cell.Seq (row.Seq seq))) cell.Seq (row.Seq seq) over all right seq over.here
-      (λ d q at. below_set d q (over.elsewhere d) at) tt (plain_alone rows cell.Seq (row.Seq seq) tt)
+      (λ d q at. below_set d q (over.elsewhere d) at) (names_none (row_at rows) (row.Seq seq) tt)
+      (short_set (row_at rows) (row_at (with_row rows cell.Seq (row.Seq seq))) cell.Seq (row.Seq seq) over all.short (λ id e. cc))
+      (plain_alone rows cell.Seq (row.Seq seq) tt)
     where
       below_set : (d : Cell) (q : Row) → ((d ≡ cell.Seq → ⊥) → row_at (with_row rows cell.Seq (row.Seq seq)) d ≡ row_at rows d) → row_at (with_row rows cell.Seq (row.Seq seq)) d ≡ Some q → IsBelow seq d
       below_set (cell.Node n) q was at = below_next seq (cell.Node n) (none_from seq rows fits.node fits.term fits.user (cell.Node n) q (sym (was (λ e. cc)) ∙ at))
@@ -117,27 +161,32 @@ module _ (rows : List (Cell × Row)) (sorted : InOrder rows) (all : IsTogether (
       below_set _ q was at = tt
 
   set_fits : (c : Cell) (r : Row) → IsValidRow c r → Fits rows c r → IsTogether (row_at (with_row rows c r))
-  set_fits cell.Site (row.Site r) right fits = set_at cell.Site (row.Site r) right (λ e. cc) tt tt (plain_alone rows cell.Site (row.Site r) tt)
+  set_fits cell.Site (row.Site r) right fits = set_plain cell.Site (row.Site r) right (λ e. cc) (λ id e. cc) tt tt tt
   set_fits cell.Seq (row.Seq r) right fits = set_seq r right fits
-  set_fits (cell.NodeType name) (row.NodeType r) right fits = set_at (cell.NodeType name) (row.NodeType r) right (λ e. cc) tt tt (plain_alone rows (cell.NodeType name) (row.NodeType r) tt)
-  set_fits (cell.Role name) (row.Role r) right fits = set_at (cell.Role name) (row.Role r) right (λ e. cc) tt tt (plain_alone rows (cell.Role name) (row.Role r) tt)
-  set_fits (cell.User id) (row.User r) right fits = set_at (cell.User id) (row.User r) right (λ e. cc) (below_seq numbered.User id fits.given) tt (user_alone rows id r fits)
-  set_fits (cell.Term id) (row.Term r) right fits = set_at (cell.Term id) (row.Term r) right (λ e. cc) (below_seq numbered.Term id fits.given) tt (term_alone rows id r fits)
+  set_fits (cell.NodeType name) (row.NodeType r) right fits = set_plain (cell.NodeType name) (row.NodeType r) right (λ e. cc) (λ id e. cc) tt tt tt
+  set_fits (cell.Role name) (row.Role r) right fits = set_plain (cell.Role name) (row.Role r) right (λ e. cc) (λ id e. cc) tt tt tt
+  set_fits (cell.User id) (row.User r) right fits =
+      set_at (cell.User id) (row.User r) right (λ e. cc) (λ k e. cc) (below_seq numbered.User id fits.given) (names_none (row_at rows) (row.User r) tt) (user_alone rows id r fits)
+  set_fits (cell.Term id) (row.Term r) right fits =
+      after_other (row_at rows) (row_at (with_row rows (cell.Term id) (row.Term r))) (cell.Term id) (row.Term r) (put_over rows (cell.Term id) (row.Term r)) all right (λ e. cc)
+      (below_seq numbered.Term id fits.given) (term_names (row_at rows) r (parent_there rows r.parent fits.parent)) fits.shallow (term_alone rows id r fits)
   set_fits (cell.Node id) (row.Node r) right fits =
-      set_at (cell.Node id) (row.Node r) right (λ e. cc) (below_seq numbered.Node id fits.given)
-      (there_of as_type (row_at rows (cell.NodeType r.node_type)) fits.node_type, user_there r.uid fits.owner)
+      set_at (cell.Node id) (row.Node r) right (λ e. cc) (λ k e. cc) (below_seq numbered.Node id fits.given)
+      (node_names (row_at rows) r (there_of as_type (row_at rows (cell.NodeType r.node_type)) fits.node_type) (user_there r.uid fits.owner))
       (node_alone rows id r fits)
-  set_fits (cell.Menu name) (row.Menu r) right fits = set_at (cell.Menu name) (row.Menu r) right (λ e. cc) tt tt (plain_alone rows (cell.Menu name) (row.Menu r) tt)
-  set_fits (cell.Listing name) (row.Listing r) right fits = set_at (cell.Listing name) (row.Listing r) right (λ e. cc) tt tt (listing_alone rows name r fits)
-  set_fits (cell.Block name) (row.Block r) right fits = set_at (cell.Block name) (row.Block r) right (λ e. cc) tt tt (plain_alone rows (cell.Block name) (row.Block r) tt)
+  set_fits (cell.Menu name) (row.Menu r) right fits = set_plain (cell.Menu name) (row.Menu r) right (λ e. cc) (λ id e. cc) tt tt tt
+  set_fits (cell.Listing name) (row.Listing r) right fits =
+      set_at (cell.Listing name) (row.Listing r) right (λ e. cc) (λ id e. cc) tt (names_none (row_at rows) (row.Listing r) tt) (listing_alone rows name r fits)
+  set_fits (cell.Block name) (row.Block r) right fits = set_plain (cell.Block name) (row.Block r) right (λ e. cc) (λ id e. cc) tt tt tt
   set_fits (cell.Session token) (row.Session r) right fits =
-      set_at (cell.Session token) (row.Session r) right (λ e. cc) tt (there_of as_user (row_at rows (cell.User r.uid)) fits) (plain_alone rows (cell.Session token) (row.Session r) tt)
+      set_at (cell.Session token) (row.Session r) right (λ e. cc) (λ id e. cc) tt
+      (session_names (row_at rows) r (there_of as_user (row_at rows (cell.User r.uid)) fits)) (plain_alone rows (cell.Session token) (row.Session r) tt)
   set_fits _ _ right fits = absurd right
 
   -- the row of a cell is removed that has not to be there, and that no row names
-  gone_at : (c : Cell) → (cell.Site ≡ c → ⊥) → (cell.Seq ≡ c → ⊥) → (cell.Role anonymous ≡ c → ⊥) → (cell.Role authenticated ≡ c → ⊥) → ((id : ℕ) → cell.User id ≡ c → ⊥)
-      → ((d : Cell) (n : Node) → row_at rows d ≡ Some (row.Node n) → cell.NodeType n.node_type ≡ c → ⊥) → IsTogether (row_at (without_row rows c))
-  gone_at c site seq visitors members user type = after_removal (row_at rows) (row_at (without_row rows c)) c (gone_over rows c sorted) all site seq visitors members user type
+  gone_at : (c : Cell) → (cell.Site ≡ c → ⊥) → (cell.Seq ≡ c → ⊥) → (cell.Role anonymous ≡ c → ⊥) → (cell.Role authenticated ≡ c → ⊥)
+      → ((d : Cell) (q : Row) → row_at rows d ≡ Some q → Names c q → ⊥) → IsTogether (row_at (without_row rows c))
+  gone_at c site seq visitors members unnamed = after_removal (row_at rows) (row_at (without_row rows c)) c (gone_over rows c sorted) all site seq visitors members unnamed
 
   role_apart : (name : List ℕ) → is_locked_role name ≡ false → (cell.Role anonymous ≡ cell.Role name → ⊥) × (cell.Role authenticated ≡ cell.Role name → ⊥)
   role_apart name unlocked =
@@ -146,24 +195,31 @@ module _ (rows : List (Cell × Row)) (sorted : InOrder rows) (all : IsTogether (
         λ e. (let same : name ≡ authenticated = cc in clash ((bytes_eq-Decides name authenticated).1 same) parts.1),
       )
 
-  type_apart : (name : List ℕ) → is_used rows name ≡ false → (d : Cell) (n : Node) → row_at rows d ≡ Some (row.Node n) → cell.NodeType n.node_type ≡ cell.NodeType name → ⊥
-  type_apart name unused d n at e =
-      let same : n.node_type ≡ name = cc in
-      clash (it_passes (is_of_type name) rows d (row.Node n) at ((bytes_eq-Decides n.node_type name).1 same)) unused
+  type_unnamed : (name : List ℕ) → is_used rows name ≡ false → (d : Cell) (q : Row) → row_at rows d ≡ Some q → NamesType name q → ⊥
+  type_unnamed name unused d (row.Node n) at is = clash (it_passes (is_of_type name) rows d (row.Node n) at ((bytes_eq-Decides n.node_type name).1 is)) unused
+  type_unnamed name unused d _ at is = absurd is
+
+  term_unnamed : (id : ℕ) → is_parent rows id ≡ false → (d : Cell) (q : Row) → row_at rows d ≡ Some q → NamesTerm id q → ⊥
+  term_unnamed id childless d (row.Term t) at is =
+      let k = term_cell d t (all.right d (row.Term t) at) in
+      let here : row_at rows (cell.Term k.0) ≡ Some (row.Term t) = subst (λ x. row_at rows x ≡ Some (row.Term t)) k.1 at in
+      let child : is_child_of id t ≡ true = ap (λ o. option_map_or (λ parent. parent == id) o false) is ∙ eq-eqb id id refl in
+      clash (some_term (λ e. is_child_of id e.1) rows k.0 t here child) childless
+  term_unnamed id childless d _ at is = absurd is
 
   gone_fits : (c : Cell) → MayGo rows c → IsTogether (row_at (without_row rows c))
   gone_fits cell.Site may = absurd may
   gone_fits cell.Seq may = absurd may
   gone_fits (cell.User id) may = absurd may
-  gone_fits (cell.Role name) may = gone_at (cell.Role name) (λ e. cc) (λ e. cc) (role_apart name may).0 (role_apart name may).1 (λ id e. cc) (λ d n at e. cc)
-  gone_fits (cell.NodeType name) may = gone_at (cell.NodeType name) (λ e. cc) (λ e. cc) (λ e. cc) (λ e. cc) (λ id e. cc) (type_apart name may)
-  gone_fits (cell.Term id) may = gone_at (cell.Term id) (λ e. cc) (λ e. cc) (λ e. cc) (λ e. cc) (λ u e. cc) (λ d n at e. cc)
-  gone_fits (cell.Node id) may = gone_at (cell.Node id) (λ e. cc) (λ e. cc) (λ e. cc) (λ e. cc) (λ u e. cc) (λ d n at e. cc)
-  gone_fits (cell.Menu name) may = gone_at (cell.Menu name) (λ e. cc) (λ e. cc) (λ e. cc) (λ e. cc) (λ id e. cc) (λ d n at e. cc)
-  gone_fits (cell.Listing name) may = gone_at (cell.Listing name) (λ e. cc) (λ e. cc) (λ e. cc) (λ e. cc) (λ id e. cc) (λ d n at e. cc)
-  gone_fits (cell.Block name) may = gone_at (cell.Block name) (λ e. cc) (λ e. cc) (λ e. cc) (λ e. cc) (λ id e. cc) (λ d n at e. cc)
-  gone_fits (cell.Session token) may = gone_at (cell.Session token) (λ e. cc) (λ e. cc) (λ e. cc) (λ e. cc) (λ id e. cc) (λ d n at e. cc)
-  gone_fits cell.Head may = gone_at cell.Head (λ e. cc) (λ e. cc) (λ e. cc) (λ e. cc) (λ id e. cc) (λ d n at e. cc)
+  gone_fits (cell.Role name) may = gone_at (cell.Role name) (λ e. cc) (λ e. cc) (role_apart name may).0 (role_apart name may).1 (λ d q at is. is)
+  gone_fits (cell.NodeType name) may = gone_at (cell.NodeType name) (λ e. cc) (λ e. cc) (λ e. cc) (λ e. cc) (type_unnamed name may)
+  gone_fits (cell.Term id) may = gone_at (cell.Term id) (λ e. cc) (λ e. cc) (λ e. cc) (λ e. cc) (term_unnamed id may)
+  gone_fits (cell.Node id) may = gone_at (cell.Node id) (λ e. cc) (λ e. cc) (λ e. cc) (λ e. cc) (λ d q at is. is)
+  gone_fits (cell.Menu name) may = gone_at (cell.Menu name) (λ e. cc) (λ e. cc) (λ e. cc) (λ e. cc) (λ d q at is. is)
+  gone_fits (cell.Listing name) may = gone_at (cell.Listing name) (λ e. cc) (λ e. cc) (λ e. cc) (λ e. cc) (λ d q at is. is)
+  gone_fits (cell.Block name) may = gone_at (cell.Block name) (λ e. cc) (λ e. cc) (λ e. cc) (λ e. cc) (λ d q at is. is)
+  gone_fits (cell.Session token) may = gone_at (cell.Session token) (λ e. cc) (λ e. cc) (λ e. cc) (λ e. cc) (λ d q at is. is)
+  gone_fits cell.Head may = gone_at cell.Head (λ e. cc) (λ e. cc) (λ e. cc) (λ e. cc) (λ d q at is. is)
 
 -- ---- all writes
 

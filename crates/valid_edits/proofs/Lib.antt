@@ -1,4 +1,5 @@
 pub mod Rows
+pub mod Parents
 pub mod Together
 pub mod After
 pub mod Holding

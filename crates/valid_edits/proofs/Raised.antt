@@ -1,5 +1,5 @@
 -- What was so of the rows is so after the ids that are to be given next were set.
-use Rattle.std.proofs.Common.{◌≡◌, ◌≢◌, ◌<◌, ◌∙◌, inl, inr, ℕ, List, refl, ap, subst}
+use Rattle.std.proofs.Common.{◌≡◌, ◌≢◌, ◌<◌, ◌∙◌, inl, inr, ℕ, List, refl, sym, ap, subst}
 use Rattle.std.specs.Prelude.{false, not, ◌&&◌, ◌==◌, Option, Some, None, is_none, option_and_then}
 use Rattle.content_rows.specs.declared.cell.Cell.{Cell}
 use Rattle.content_rows.specs.declared.cell.Cell.TheVariants as cell
@@ -11,12 +11,15 @@ use Rattle.content_rows.specs.declared.row.Term.{Term}
 use Rattle.content_rows.specs.declared.row.Node.{Node}
 use Rattle.content_state.specs.declared.site_rules.Numbered.{Numbered}
 use Rattle.content_state.specs.declared.site_rules.Numbered.TheVariants as numbered
-use Rattle.content_state.specs.declared.site_rules.Unique.{Unique}
-use Rattle.content_state.specs.declared.site_rules.Unique.TheVariants as unique
-use Rattle.content_state.specs.Rows.{row_at, with_row, as_seq, as_type, as_role, as_user, seq_of, type_of, role_of, user_of}
-use Rattle.content_state.specs.SiteRules.{text_of, InOrder}
+use Rattle.indexed_rows.specs.declared.unique.Unique.{Unique}
+use Rattle.indexed_rows.specs.declared.unique.Unique.TheVariants as unique
+use Rattle.indexed_rows.specs.Rows.{row_at, with_row, as_seq, as_type, as_role, as_user, as_term, seq_of, type_of, role_of, user_of, term_of, InOrder}
+use Rattle.indexed_rows.specs.Texts.{text_of}
+use Rattle.content_state.specs.SiteRules.{is_absent}
 use Rattle.valid_edits.specs.Holders.{holder, path_holder}
-use Rattle.valid_edits.specs.Fits.{next_id, IsGiven, is_absent_user, UserFits, TermFits, NodeFits}
+use Rattle.valid_edits.specs.Fits.{next_id, IsGiven, IsShallow, is_absent_user, UserFits, TermFits, NodeFits}
+use Rattle.valid_edits.proofs.Rows.{one_cell_or_two}
+use Rattle.valid_edits.proofs.Parents.{short_still}
 use Rattle.valid_edits.proofs.Holding.{no_holder, held_here, has_nothing}
 use Rattle.valid_edits.proofs.After.{found}
 use Rattle.valid_edits.proofs.Kept.{put_over, put_in_order}
@@ -64,6 +67,20 @@ module _ (rows : List (Cell × Row)) (sorted : InOrder rows) (seq : Seq) where
   path_in_raised c None none = refl
   path_in_raised c (Some path) none = holder_in_raised c unique.Path path none
 
+  pub absent_parent_in_raised : (parent : Option ℕ) → is_absent (term_of raised) parent ≡ is_absent (term_of rows) parent
+  absent_parent_in_raised None = refl
+  absent_parent_in_raised (Some id) = ap (λ (o : Option Row). is_none (option_and_then as_term o)) (same_in_raised (cell.Term id) (λ e. cc))
+
+  -- the chains of parents are those that the row makes without them
+  pub shallow_in_raised : (c : Cell) (r : Row) → IsShallow (with_row rows c r) → IsShallow (with_row raised c r)
+  shallow_in_raised c r shallow = short_still (row_at (with_row rows c r)) (row_at (with_row raised c r)) (λ id. ap (λ (o : Option Row). option_and_then (λ t. t.parent) (option_and_then as_term o)) (same id)) shallow
+    where
+      same : (id : ℕ) → row_at (with_row raised c r) (cell.Term id) ≡ row_at (with_row rows c r) (cell.Term id)
+      same id = elim (one_cell_or_two (cell.Term id) c) as (λ _. row_at (with_row raised c r) (cell.Term id) ≡ row_at (with_row rows c r) (cell.Term id)) [
+        | inl here ↦ subst (λ d. row_at (with_row raised c r) d ≡ row_at (with_row rows c r) d) (sym here) ((put_over raised c r).here ∙ sym (put_over rows c r).here)
+        | inr apart ↦ (put_over raised c r).elsewhere (cell.Term id) apart ∙ same_in_raised (cell.Term id) (λ e. cc) ∙ sym ((put_over rows c r).elsewhere (cell.Term id) apart)
+      ]
+
   -- ---- new rows
 
   pub new_user_fits : (id : ℕ) (user : User) → id < seq.user
@@ -74,9 +91,12 @@ module _ (rows : List (Cell × Row)) (sorted : InOrder rows) (seq : Seq) where
     name = holder_in_raised (cell.User id) unique.UserName user.name name;
   }
 
-  pub new_term_fits : (id : ℕ) (term : Term) → id < seq.term → holder rows (cell.Term id) unique.TermUuid term.uuid ≡ None → TermFits raised id term
-  new_term_fits id term below uuid = record {
+  pub new_term_fits : (id : ℕ) (term : Term) → id < seq.term → is_absent (term_of rows) term.parent ≡ false → IsShallow (with_row rows (cell.Term id) (row.Term term))
+      → holder rows (cell.Term id) unique.TermUuid term.uuid ≡ None → TermFits raised id term
+  new_term_fits id term below parent shallow uuid = record {
     given = given_in_raised numbered.Term id below;
+    parent = absent_parent_in_raised term.parent ∙ parent;
+    shallow = shallow_in_raised (cell.Term id) (row.Term term) shallow;
     uuid = holder_in_raised (cell.Term id) unique.TermUuid term.uuid uuid;
   }
 

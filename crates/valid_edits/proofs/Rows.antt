@@ -1,16 +1,18 @@
 -- The rows of a state as a map: an entry that passes a test is found at its cell, and what is found passes.
 use Rattle.std.proofs.Common.{◌≡◌, ◌⊎◌, ◌∙◌, ℕ, List, [], ◌∷◌, true, false, refl, sym, ap, inl, inr}
-use Rattle.std.specs.Prelude.{Bool, Option, Some, None, cond, ◌||◌, option_map, find}
+use Rattle.std.specs.Prelude.{Bool, Option, Some, None, cond, not, ◌||◌, option_map, find}
 use Rattle.std.specs.List.{list_any}
-use Rattle.std.proofs.lemmas.Bool.{cases_Bool, both_ways, or_parts}
+use Rattle.std.specs.Cmp.{Equal-is}
+use Rattle.std.specs.Ordering.{is_eq}
+use Rattle.std.proofs.lemmas.Bool.{cases_Bool, both_ways, false_from_ne_true, or_parts}
 use Rattle.std.proofs.lemmas.List.Folds.{Any-from_list_any, list_any-from_Any}
 use Rattle.std.proofs.lemmas.Slice.Eq.{bytes_eq-Decides}
 use Rattle.content_rows.specs.CellOrder.{cell_cmp}
-use Rattle.content_rows.proofs.CellLemmas.{cell_cmp_exact, cell_cmp_total}
+use Rattle.content_rows.proofs.CellLemmas.{cell_cmp_exact, cell_cmp_total, tells_cells_apart}
 use Rattle.content_rows.specs.declared.cell.Cell.{Cell}
 use Rattle.content_rows.specs.declared.row.Row.{Row}
-use Rattle.content_state.specs.Rows.{row_at}
-use Rattle.content_state.specs.SiteRules.{InOrder, is_text}
+use Rattle.indexed_rows.specs.Rows.{row_at, InOrder}
+use Rattle.indexed_rows.specs.Texts.{is_text}
 use Rattle.state_commits.proofs.Entries.{same_or_not}
 use Rattle.state_commits.proofs.Owners.{is_found, is_held}
 
@@ -20,6 +22,17 @@ clash if_true if_false = absurd (both_ways _ if_false if_true)
 
 pub one_cell_or_two : (d c : Cell) → (d ≡ c) ⊎ (d ≡ c → ⊥)
 one_cell_or_two d c = same_or_not cell_cmp cell_cmp_total cell_cmp_exact d c
+
+-- whether a cell is another than this one
+abbrev pub is_other : Cell → Cell → Bool
+is_other c d = not (is_eq (cell_cmp d c))
+
+pub other_cell : (d c : Cell) → is_other c d ≡ true → d ≡ c → ⊥
+other_cell d c other same =
+    let level : is_eq (cell_cmp d c) ≡ true = ap is_eq ((tells_cells_apart d c).1 same) in both_ways _ (ap not level) other
+
+pub is_other_cell : (d c : Cell) → (d ≡ c → ⊥) → is_other c d ≡ true
+is_other_cell d c other = ap not (false_from_ne_true _ (λ level. other (cell_cmp_exact d c ((Equal-is (cell_cmp d c)).0 level))))
 
 -- a row that is found, and passes a test
 pub record PassesAt (p : Cell × Row → Bool) (rows : List (Cell × Row)) : Type 0 where

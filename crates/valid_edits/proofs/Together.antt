@@ -23,19 +23,22 @@ use Rattle.content_rows.specs.declared.row.Term.{Term}
 use Rattle.content_rows.specs.declared.row.Node.{Node}
 use Rattle.content_rows.specs.declared.row.Listing.{Listing}
 use Rattle.content_rows.specs.declared.row.Session.{Session}
-use Rattle.content_state.specs.Rows.{row_at, as_site, as_seq, as_type, as_role, as_user, as_term, as_node, as_listing, as_session, site_of, seq_of, type_of, role_of, user_of, term_of, node_of, listing_of, session_of}
+use Rattle.indexed_rows.specs.Rows.{row_at, as_site, as_seq, as_type, as_role, as_user, as_term, as_node, as_listing, as_session, site_of, seq_of, type_of, role_of, user_of, term_of, node_of, listing_of, session_of, InOrder, AreValidRows}
+use Rattle.content_state.specs.Chain.{is_longer, parent_in}
 use Rattle.content_state.specs.declared.site_rules.SiteRule.{SiteRule}
 use Rattle.content_state.specs.declared.site_rules.SiteField.{SiteField}
 use Rattle.content_state.specs.declared.site_rules.SiteRule.TheVariants as rule
 use Rattle.content_state.specs.declared.site_rules.SiteField.TheVariants as field
 use Rattle.content_state.specs.declared.site_rules.Numbered.{Numbered}
 use Rattle.content_state.specs.declared.site_rules.Numbered.TheVariants as numbered
-use Rattle.content_state.specs.declared.site_rules.Unique.{Unique}
-use Rattle.content_state.specs.declared.site_rules.Unique.TheVariants as unique
-use Rattle.content_state.specs.SiteRules.{first_broken, is_id_from, has_id_from, text_of, is_text, taken, seq_tests, user_tests, term_tests, node_tests, listing_tests, session_tests, seq_fault, user_fault, term_fault, node_fault, listing_fault, session_fault, InOrder, AreValidRows, MeetsSiteRules}
+use Rattle.indexed_rows.specs.declared.unique.Unique.{Unique}
+use Rattle.indexed_rows.specs.declared.unique.Unique.TheVariants as unique
+use Rattle.indexed_rows.specs.Texts.{text_of, is_text}
+use Rattle.content_state.specs.SiteRules.{first_broken, is_id_from, has_id_from, taken, is_absent, seq_tests, user_tests, term_tests, node_tests, listing_tests, session_tests, seq_fault, user_fault, term_fault, node_fault, listing_fault, session_fault, MeetsSiteRules}
 use Rattle.state_commits.proofs.Owners.{is_found, is_held}
 use Rattle.valid_edits.specs.Fits.{next_id, is_absent_user, is_locked_role}
 use Rattle.valid_edits.proofs.Rows.{clash, some_passes, it_passes, text_is, is_text_of}
+use Rattle.valid_edits.proofs.Parents.{AreShort, has_parent, short_alone}
 
 -- a cell has a row
 abbrev pub IsThere : (Cell → Option Row) → Cell → Type 0
@@ -48,11 +51,30 @@ IsBelow seq (cell.Term n) = n < seq.term
 IsBelow seq (cell.User n) = n < seq.user
 IsBelow seq _ = Unit {0}
 
+-- a row names a type, a user, where the id is not that of nobody, or a term, as what has to be there
+abbrev pub NamesType : List ℕ → Row → Type 0
+NamesType name (row.Node r) = r.node_type ≡ name
+NamesType name _ = ⊥
+
+abbrev pub NamesUser : ℕ → Row → Type 0
+NamesUser id (row.Node r) = (r.uid ≡ id) × ((id == 0) ≡ false)
+NamesUser id (row.Session r) = r.uid ≡ id
+NamesUser id _ = ⊥
+
+abbrev pub NamesTerm : ℕ → Row → Type 0
+NamesTerm id (row.Term r) = r.parent ≡ Some id
+NamesTerm id _ = ⊥
+
+-- a row names a cell
+abbrev pub Names : Cell → Row → Type 0
+Names (cell.NodeType name) r = NamesType name r
+Names (cell.User id) r = NamesUser id r
+Names (cell.Term id) r = NamesTerm id r
+Names _ r = ⊥
+
 -- what a row names is there
 abbrev pub NamesThere : (Cell → Option Row) → Row → Type 0
-NamesThere at (row.Node r) = IsThere at (cell.NodeType r.node_type) × ((r.uid == 0) ≡ false → IsThere at (cell.User r.uid))
-NamesThere at (row.Session r) = IsThere at (cell.User r.uid)
-NamesThere at _ = Unit {0}
+NamesThere at r = (c : Cell) → Names c r → IsThere at c
 
 -- the rows are each right by itself, and all of them are together
 pub record IsTogether (at : Cell → Option Row) : Type 0 where
@@ -64,6 +86,7 @@ pub record IsTogether (at : Cell → Option Row) : Type 0 where
   pub members : IsThere at (cell.Role authenticated)
   pub given : (c : Cell) (r : Row) → at c ≡ Some r → IsBelow seq c
   pub named : (c : Cell) (r : Row) → at c ≡ Some r → NamesThere at r
+  pub short : AreShort at
   pub alone : (what : Unique) (c d : Cell) (r q : Row) (t : List ℕ) → at c ≡ Some r → at d ≡ Some q → text_of what r ≡ Some t → text_of what q ≡ Some t → c ≡ d
 
 -- ---- rows of a kind
@@ -94,6 +117,10 @@ user_kind : (id : ℕ) (r : Row) → IsValidRow (cell.User id) r → is_none (as
 user_kind id (row.User r) h = refl
 user_kind id _ h = absurd h
 
+term_kind : (id : ℕ) (r : Row) → IsValidRow (cell.Term id) r → is_none (as_term r) ≡ false
+term_kind id (row.Term r) h = refl
+term_kind id _ h = absurd h
+
 pub is_seq : (o : Option Row) (r : Seq) → option_and_then as_seq o ≡ Some r → o ≡ Some (row.Seq r)
 is_seq None r h = cc
 is_seq (Some (row.Seq q)) r h = cc
@@ -123,6 +150,12 @@ pub is_session : (o : Option Row) (r : Session) → option_and_then as_session o
 is_session None r h = cc
 is_session (Some (row.Session q)) r h = cc
 is_session (Some _) r h = cc
+
+-- a parent that is named is there
+pub parent_there : (rows : List (Cell × Row)) (parent : Option ℕ) → is_absent (term_of rows) parent ≡ false → (id : ℕ) → parent ≡ Some id → IsThere (row_at rows) (cell.Term id)
+parent_there rows None present id is = cc
+parent_there rows (Some above) present id is =
+    let same : above ≡ id = cc in subst (λ k. IsThere (row_at rows) (cell.Term k)) same (there_of as_term (row_at rows (cell.Term above)) present)
 
 -- ---- tests
 
@@ -198,7 +231,7 @@ user_cell : (d : Cell) (r : User) → IsValidRow d (row.User r) → (n : ℕ) ×
 user_cell (cell.User n) r h = (n, refl)
 user_cell _ r h = absurd h
 
-term_cell : (d : Cell) (r : Term) → IsValidRow d (row.Term r) → (n : ℕ) × (d ≡ cell.Term n)
+pub term_cell : (d : Cell) (r : Term) → IsValidRow d (row.Term r) → (n : ℕ) × (d ≡ cell.Term n)
 term_cell (cell.Term n) r h = (n, refl)
 term_cell _ r h = absurd h
 
@@ -226,8 +259,8 @@ module _ (rows : List (Cell × Row)) (sorted : InOrder rows) where
     user_tested : (id : ℕ) (r : User) → row_at rows (cell.User id) ≡ Some (row.User r) → NoneBroken (user_tests rows (cell.User id) r)
     user_tested id r at = not_broken (user_tests rows (cell.User id) r) (sym (ap (λ (o : Option Row). user_fault rows (cell.User id) (option_and_then as_user o)) at) ∙ meets (cell.User id))
 
-    term_tested : (id : ℕ) (r : Term) → row_at rows (cell.Term id) ≡ Some (row.Term r) → NoneBroken (term_tests rows (cell.Term id) r)
-    term_tested id r at = not_broken (term_tests rows (cell.Term id) r) (sym (ap (λ (o : Option Row). term_fault rows (cell.Term id) (option_and_then as_term o)) at) ∙ meets (cell.Term id))
+    term_tested : (id : ℕ) (r : Term) → row_at rows (cell.Term id) ≡ Some (row.Term r) → NoneBroken (term_tests rows (cell.Term id) id r)
+    term_tested id r at = not_broken (term_tests rows (cell.Term id) id r) (sym (ap (λ (o : Option Row). term_fault rows (cell.Term id) id (option_and_then as_term o)) at) ∙ meets (cell.Term id))
 
     node_tested : (id : ℕ) (r : Node) → row_at rows (cell.Node id) ≡ Some (row.Node r) → NoneBroken (node_tests rows (cell.Node id) r)
     node_tested id r at = not_broken (node_tests rows (cell.Node id) r) (sym (ap (λ (o : Option Row). node_fault rows (cell.Node id) (option_and_then as_node o)) at) ∙ meets (cell.Node id))
@@ -246,7 +279,7 @@ module _ (rows : List (Cell × Row)) (sorted : InOrder rows) where
         subst (λ o. IsUntaken d unique.NodeUuid o) is (subst (λ c. IsUntaken c unique.NodeUuid (Some r.uuid)) (sym k.1) own)
     untaken unique.TermUuid d (row.Term r) t at is =
         let k = term_cell d r (right_at d (row.Term r) at) in
-        let own = (term_tested k.0 r (subst (λ c. row_at rows c ≡ Some (row.Term r)) k.1 at)).0 in
+        let own = (term_tested k.0 r (subst (λ c. row_at rows c ≡ Some (row.Term r)) k.1 at)).1.1.1.0 in
         subst (λ o. IsUntaken d unique.TermUuid o) is (subst (λ c. IsUntaken c unique.TermUuid (Some r.uuid)) (sym k.1) own)
     untaken unique.UserUuid d (row.User r) t at is =
         let k = user_cell d r (right_at d (row.User r) at) in
@@ -291,15 +324,34 @@ module _ (rows : List (Cell × Row)) (sorted : InOrder rows) where
     owner_there uid present other = there_of as_user (row_at rows (cell.User uid)) (sym (ap (λ b. not b && is_none (user_of rows uid)) other) ∙ present)
 
     names_there : (c : Cell) (r : Row) → row_at rows c ≡ Some r → NamesThere (row_at rows) r
-    names_there c (row.Node r) at =
+    names_there c (row.Node r) at (cell.NodeType name) is =
         let k = node_cell c r (right_at c (row.Node r) at) in
         let tested = node_tested k.0 r (subst (λ d. row_at rows d ≡ Some (row.Node r)) k.1 at) in
-        (there_of as_type (row_at rows (cell.NodeType r.node_type)) tested.0, owner_there r.uid tested.1.0)
-    names_there c (row.Session r) at =
+        subst (λ n. IsThere (row_at rows) (cell.NodeType n)) is (there_of as_type (row_at rows (cell.NodeType r.node_type)) tested.0)
+    names_there c (row.Node r) at (cell.User id) is =
+        let k = node_cell c r (right_at c (row.Node r) at) in
+        let tested = node_tested k.0 r (subst (λ d. row_at rows d ≡ Some (row.Node r)) k.1 at) in
+        owner_there id (subst (λ n. is_absent_user rows n ≡ false) is.0 tested.1.0) is.1
+    names_there c (row.Session r) at (cell.User id) is =
         let k = session_cell c r (right_at c (row.Session r) at) in
         let tested = session_tested k.0 r (subst (λ d. row_at rows d ≡ Some (row.Session r)) k.1 at) in
-        there_of as_user (row_at rows (cell.User r.uid)) tested.0
-    names_there c _ at = tt
+        subst (λ n. IsThere (row_at rows) (cell.User n)) is (there_of as_user (row_at rows (cell.User r.uid)) tested.0)
+    names_there c (row.Term r) at (cell.Term id) is =
+        let k = term_cell c r (right_at c (row.Term r) at) in
+        let tested = term_tested k.0 r (subst (λ d. row_at rows d ≡ Some (row.Term r)) k.1 at) in
+        parent_there rows r.parent tested.0 id is
+    names_there c _ at (cell.NodeType name) is = absurd is
+    names_there c _ at (cell.User id) is = absurd is
+    names_there c _ at (cell.Term id) is = absurd is
+    names_there c _ at _ is = absurd is
+
+    all_short : AreShort (row_at rows)
+    all_short id = go (parent_in rows id) refl
+      where
+        go : (o : Option ℕ) → parent_in rows id ≡ o → is_longer (parent_in rows) 9 id ≡ false
+        go None top = short_alone (row_at rows) id top
+        go (Some above) e =
+            let has = has_parent (row_at rows (cell.Term id)) above e in (term_tested id has.term has.there).1.1.0
 
     pub together : IsTogether (row_at rows)
     together =
@@ -313,6 +365,7 @@ module _ (rows : List (Cell × Row)) (sorted : InOrder rows) where
           members = role_there authenticated (or_right (bytes_eq authenticated anonymous) (bytes_eq authenticated authenticated) ((bytes_eq-Decides authenticated authenticated).1 refl));
           given = λ c r at. below_next next.0 c (none_from next.0 rows next.2.0 next.2.1.0 next.2.1.1.0 c r at);
           named = names_there;
+          short = all_short;
           alone = λ what c d r q t at_c at_d of_c of_d. same_by what c d r q t at_c at_d of_c of_d (cell_cmp c d) refl;
         }
 
@@ -348,6 +401,13 @@ module _ (rows : List (Cell × Row)) (sorted : InOrder rows) where
     pub user_found : (id : ℕ) → IsThere (row_at rows) (cell.User id) → is_none (user_of rows id) ≡ false
     user_found id there = picked as_user (row_at rows (cell.User id)) (λ r at. user_kind id r (all.right (cell.User id) r at)) there
 
+    term_found : (id : ℕ) → IsThere (row_at rows) (cell.Term id) → is_none (term_of rows id) ≡ false
+    term_found id there = picked as_term (row_at rows (cell.Term id)) (λ r at. term_kind id r (all.right (cell.Term id) r at)) there
+
+    pub parent_found : (parent : Option ℕ) → ((id : ℕ) → parent ≡ Some id → IsThere (row_at rows) (cell.Term id)) → is_absent (term_of rows) parent ≡ false
+    parent_found None there = refl
+    parent_found (Some id) there = term_found id (there id refl)
+
     pub owner_found : (uid : ℕ) → ((uid == 0) ≡ false → IsThere (row_at rows) (cell.User uid)) → is_absent_user rows uid ≡ false
     owner_found uid there = elim (cases_Bool (uid == 0)) as (λ _. is_absent_user rows uid ≡ false) [
       | inl nobody ↦ and_left _ (is_none (user_of rows uid)) (ap not nobody)
@@ -381,10 +441,15 @@ module _ (rows : List (Cell × Row)) (sorted : InOrder rows) where
           (own_text unique.UserName (cell.User id) (row.User r) r.name at refl, tt),
         )
 
-    term_rule : (id : ℕ) (o : Option Term) → term_of rows id ≡ o → term_fault rows (cell.Term id) o ≡ None
+    -- a chain that comes back to itself is a long one
+    term_rule : (id : ℕ) (o : Option Term) → term_of rows id ≡ o → term_fault rows (cell.Term id) id o ≡ None
     term_rule id None is = refl
     term_rule id (Some r) is =
-        none_broken (term_tests rows (cell.Term id) r) (own_text unique.TermUuid (cell.Term id) (row.Term r) r.uuid (is_term (row_at rows (cell.Term id)) r is) refl, tt)
+        let at = is_term (row_at rows (cell.Term id)) r is in
+        none_broken (term_tests rows (cell.Term id) id r) (
+          parent_found r.parent (λ above named. all.named (cell.Term id) (row.Term r) at (cell.Term above) named),
+          (and_left _ _ (all.short id), (all.short id, (own_text unique.TermUuid (cell.Term id) (row.Term r) r.uuid at refl, tt))),
+        )
 
     node_rule : (id : ℕ) (o : Option Node) → node_of rows id ≡ o → node_fault rows (cell.Node id) o ≡ None
     node_rule id None is = refl
@@ -392,8 +457,8 @@ module _ (rows : List (Cell × Row)) (sorted : InOrder rows) where
         let at = is_node (row_at rows (cell.Node id)) r is in
         let named : NamesThere (row_at rows) (row.Node r) = all.named (cell.Node id) (row.Node r) at in
         none_broken (node_tests rows (cell.Node id) r) (
-          type_found r.node_type named.0,
-          (owner_found r.uid named.1, (own_text unique.NodeUuid (cell.Node id) (row.Node r) r.uuid at refl, (own_path (cell.Node id) (row.Node r) r.path at refl, tt))),
+          type_found r.node_type (named (cell.NodeType r.node_type) refl),
+          (owner_found r.uid (λ other. named (cell.User r.uid) (refl, other)), (own_text unique.NodeUuid (cell.Node id) (row.Node r) r.uuid at refl, (own_path (cell.Node id) (row.Node r) r.path at refl, tt))),
         )
 
     listing_rule : (name : List ℕ) (o : Option Listing) → listing_of rows name ≡ o → listing_fault rows (cell.Listing name) o ≡ None
@@ -404,7 +469,7 @@ module _ (rows : List (Cell × Row)) (sorted : InOrder rows) where
     session_rule : (token : List ℕ) (o : Option Session) → session_of rows token ≡ o → session_fault rows o ≡ None
     session_rule token None is = refl
     session_rule token (Some r) is =
-        none_broken (session_tests rows r) (user_found r.uid (all.named (cell.Session token) (row.Session r) (is_session (row_at rows (cell.Session token)) r is)), tt)
+        none_broken (session_tests rows r) (user_found r.uid (all.named (cell.Session token) (row.Session r) (is_session (row_at rows (cell.Session token)) r is) (cell.User r.uid) refl), tt)
 
     pub rules : MeetsSiteRules rows
     rules cell.Site =

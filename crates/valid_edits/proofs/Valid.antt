@@ -1,7 +1,7 @@
 -- What a valid state tells of its rows: of those that are there, that they keep what is their own, and of ids that are to
 -- be given next, that no row has them.
-use Rattle.std.proofs.Common.{◌≡◌, ◌<◌, ◌≤◌, ◌∙◌, ℕ, List, refl, sym, ap, subst, arith}
-use Rattle.std.specs.Prelude.{false, Option, Some, None, is_none, option_and_then}
+use Rattle.std.proofs.Common.{◌≡◌, ◌<◌, ◌≤◌, ◌∙◌, inl, inr, ℕ, List, refl, sym, ap, subst, arith}
+use Rattle.std.specs.Prelude.{false, Option, Some, None, is_none, is_some, option_and_then}
 use Rattle.content_rows.specs.ValidRow.{IsValidRow}
 use Rattle.content_rows.specs.declared.cell.Cell.{Cell}
 use Rattle.content_rows.specs.declared.cell.Cell.TheVariants as cell
@@ -15,15 +15,20 @@ use Rattle.content_rows.specs.declared.row.Session.{Session}
 use Rattle.content_state.specs.State.{State}
 use Rattle.content_state.specs.declared.site_rules.Numbered.{Numbered}
 use Rattle.content_state.specs.declared.site_rules.Numbered.TheVariants as numbered
-use Rattle.content_state.specs.declared.site_rules.Unique.{Unique}
-use Rattle.content_state.specs.declared.site_rules.Unique.TheVariants as unique
-use Rattle.content_state.specs.Rows.{row_at, as_seq, seq_of, type_of, user_of, term_of, node_of, session_of}
-use Rattle.content_state.specs.SiteRules.{text_of, has_id_from, IsValidState}
+use Rattle.indexed_rows.specs.declared.unique.Unique.{Unique}
+use Rattle.indexed_rows.specs.declared.unique.Unique.TheVariants as unique
+use Rattle.indexed_rows.specs.Rows.{row_at, with_row, as_seq, as_term, seq_of, type_of, user_of, term_of, node_of, session_of}
+use Rattle.content_state.specs.Chain.{is_longer, parent_in}
+use Rattle.indexed_rows.specs.Texts.{text_of}
+use Rattle.content_state.specs.SiteRules.{is_absent, has_id_from, IsValidState}
 use Rattle.valid_edits.specs.Holders.{holder, path_holder}
-use Rattle.valid_edits.specs.Fits.{next_id, IsGiven, is_absent_user, SeqFits, UserFits, TermFits, NodeFits}
-use Rattle.valid_edits.proofs.Together.{IsBelow, NamesThere, IsTogether, is_user, is_term, is_node, is_session, no_id_from, type_found, user_found, owner_found}
+use Rattle.valid_edits.specs.Fits.{next_id, IsGiven, IsShallow, is_absent_user, SeqFits, UserFits, TermFits, NodeFits}
+use Rattle.valid_edits.proofs.Rows.{clash, one_cell_or_two}
+use Rattle.valid_edits.proofs.Parents.{parent_at, has_parent, short_still, short_beside}
+use Rattle.valid_edits.proofs.Together.{IsThere, IsBelow, NamesThere, IsTogether, is_user, is_term, is_node, is_session, no_id_from, type_found, user_found, parent_found, owner_found}
+use Rattle.valid_edits.proofs.After.{IsOver}
 use Rattle.valid_edits.proofs.Holding.{no_holder}
-use Rattle.valid_edits.proofs.Kept.{valid_together}
+use Rattle.valid_edits.proofs.Kept.{put_over, valid_together}
 
 module _ (state : State) (valid : IsValidState state) where
   all : IsTogether (row_at state.rows)
@@ -114,14 +119,19 @@ module _ (state : State) (valid : IsValidState state) where
   node_names id node is = all.named (cell.Node id) (row.Node node) (is_node (row_at state.rows (cell.Node id)) node is)
 
   pub node_type_there : (id : ℕ) (node : Node) → node_of state.rows id ≡ Some node → is_none (type_of state.rows node.node_type) ≡ false
-  node_type_there id node is = type_found state.rows valid.in_order all node.node_type (node_names id node is).0
+  node_type_there id node is = type_found state.rows valid.in_order all node.node_type (node_names id node is (cell.NodeType node.node_type) refl)
 
   pub owner_present : (id : ℕ) (node : Node) → node_of state.rows id ≡ Some node → is_absent_user state.rows node.uid ≡ false
-  owner_present id node is = owner_found state.rows valid.in_order all node.uid (node_names id node is).1
+  owner_present id node is = owner_found state.rows valid.in_order all node.uid (λ other. node_names id node is (cell.User node.uid) (refl, other))
 
   pub session_user_there : (token : List ℕ) (session : Session) → session_of state.rows token ≡ Some session → is_none (user_of state.rows session.uid) ≡ false
   session_user_there token session is =
-      user_found state.rows valid.in_order all session.uid (all.named (cell.Session token) (row.Session session) (is_session (row_at state.rows (cell.Session token)) session is))
+      user_found state.rows valid.in_order all session.uid (all.named (cell.Session token) (row.Session session) (is_session (row_at state.rows (cell.Session token)) session is) (cell.User session.uid) refl)
+
+  pub parent_present : (id : ℕ) (term : Term) → term_of state.rows id ≡ Some term → is_absent (term_of state.rows) term.parent ≡ false
+  parent_present id term is =
+      parent_found state.rows valid.in_order all term.parent
+      (λ above named. all.named (cell.Term id) (row.Term term) (is_term (row_at state.rows (cell.Term id)) term is) (cell.Term above) named)
 
   -- ---- rows that are there, changed
 
@@ -133,11 +143,55 @@ module _ (state : State) (valid : IsValidState state) where
     name = name;
   }
 
-  pub changed_term_fits : (id : ℕ) (old new : Term) → term_of state.rows id ≡ Some old → old.uuid ≡ new.uuid → TermFits state.rows id new
-  changed_term_fits id old new is same = record {
+  pub changed_term_fits : (id : ℕ) (old new : Term) → term_of state.rows id ≡ Some old → old.uuid ≡ new.uuid
+      → is_absent (term_of state.rows) new.parent ≡ false → IsShallow (with_row state.rows (cell.Term id) (row.Term new)) → TermFits state.rows id new
+  changed_term_fits id old new is same parent shallow = record {
     given = term_given id old is;
+    parent = parent;
+    shallow = shallow;
     uuid = own_holder unique.TermUuid (cell.Term id) (row.Term old) new.uuid (is_term (row_at state.rows (cell.Term id)) old is) (ap Some same);
   }
+
+  -- a term that stays where it is in its tree
+  pub kept_term_fits : (id : ℕ) (old new : Term) → term_of state.rows id ≡ Some old → old.uuid ≡ new.uuid → old.parent ≡ new.parent → TermFits state.rows id new
+  kept_term_fits id old new is same same_parent =
+      changed_term_fits id old new is same (subst (λ o. is_absent (term_of state.rows) o ≡ false) same_parent (parent_present id old is))
+      (short_still (row_at state.rows) after parents all.short)
+    where
+      after : Cell → Option Row
+      after = row_at (with_row state.rows (cell.Term id) (row.Term new))
+
+      over : IsOver (row_at state.rows) (cell.Term id) (Some (row.Term new)) after
+      over = put_over state.rows (cell.Term id) (row.Term new)
+
+      parents : (k : ℕ) → parent_at after k ≡ parent_at (row_at state.rows) k
+      parents k = elim (one_cell_or_two (cell.Term k) (cell.Term id)) as (λ _. parent_at after k ≡ parent_at (row_at state.rows) k) [
+        | inl here ↦
+            let number : k ≡ id = cc in
+            subst (λ n. parent_at after n ≡ parent_at (row_at state.rows) n) (sym number)
+            (ap (λ (o : Option Row). option_and_then (λ t. t.parent) (option_and_then as_term o)) over.here ∙ sym same_parent ∙ sym (ap (option_and_then (λ t. t.parent)) is))
+        | inr other ↦ ap (λ (o : Option Row). option_and_then (λ t. t.parent) (option_and_then as_term o)) (over.elsewhere (cell.Term k) other)
+      ]
+
+  -- ---- a term that is made
+
+  -- where its own chain is not long, none is: no term is below it
+  pub made_shallow : (id : ℕ) (term : Term) → row_at state.rows (cell.Term id) ≡ None
+      → is_longer (parent_in (with_row state.rows (cell.Term id) (row.Term term))) 9 id ≡ false → IsShallow (with_row state.rows (cell.Term id) (row.Term term))
+  made_shallow id term free own k = elim (one_cell_or_two (cell.Term k) (cell.Term id)) as (λ _. is_longer (parent_at after) 9 k ≡ false) [
+    | inl here ↦ let number : k ≡ id = cc in subst (λ n. is_longer (parent_at after) 9 n ≡ false) (sym number) own
+    | inr other ↦ short_beside (row_at state.rows) after (cell.Term id) (put_over state.rows (cell.Term id) (row.Term term)).elsewhere none_below all.short k other
+  ]
+    where
+      after : Cell → Option Row
+      after = row_at (with_row state.rows (cell.Term id) (row.Term term))
+
+      none_below : (n above : ℕ) → parent_at (row_at state.rows) n ≡ Some above → cell.Term above ≡ cell.Term id → ⊥
+      none_below n above e same =
+          let has = has_parent (row_at state.rows (cell.Term n)) above e in
+          let there : IsThere (row_at state.rows) (cell.Term id) = subst (IsThere (row_at state.rows)) same (all.named (cell.Term n) (row.Term has.term) has.there (cell.Term above) has.parent) in
+          let gone : is_some (row_at state.rows (cell.Term id)) ≡ false = ap is_some free in
+          clash there gone
 
   pub changed_node_fits : (id : ℕ) (old new : Node) → node_of state.rows id ≡ Some old → old.uuid ≡ new.uuid → old.node_type ≡ new.node_type
       → is_absent_user state.rows new.uid ≡ false → path_holder state.rows (cell.Node id) new.path ≡ None → NodeFits state.rows id new

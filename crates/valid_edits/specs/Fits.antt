@@ -12,15 +12,16 @@ use Rattle.content_rows.specs.declared.row.User.{User}
 use Rattle.content_rows.specs.declared.row.Term.{Term}
 use Rattle.content_rows.specs.declared.row.Node.{Node}
 use Rattle.content_state.specs.State.{State}
-use Rattle.content_state.specs.Write.{Write}
+use Rattle.indexed_rows.specs.Write.{Write, written}
 use Rattle.content_state.specs.declared.commit.Commit.{Commit}
 use Rattle.content_state.specs.declared.site_rules.Numbered.{Numbered}
 use Rattle.content_state.specs.declared.site_rules.Numbered.TheVariants as numbered
-use Rattle.content_state.specs.declared.site_rules.Unique.TheVariants as unique
-use Rattle.content_state.specs.Rows.{seq_of, type_of, user_of}
-use Rattle.content_state.specs.Replay.{written, step}
-use Rattle.content_state.specs.SiteRules.{has_id_from, IsValidState}
-use Rattle.valid_edits.specs.Holders.{holder, path_holder, is_used}
+use Rattle.indexed_rows.specs.declared.unique.Unique.TheVariants as unique
+use Rattle.indexed_rows.specs.Rows.{with_row, seq_of, type_of, user_of, term_of}
+use Rattle.content_state.specs.Chain.{is_longer, parent_in}
+use Rattle.content_state.specs.Replay.{step}
+use Rattle.content_state.specs.SiteRules.{is_absent, has_id_from, IsValidState}
+use Rattle.valid_edits.specs.Holders.{holder, path_holder, is_used, is_parent}
 
 -- the id of a kind that is to be given next
 abbrev pub next_id : Numbered → Seq → ℕ
@@ -54,9 +55,16 @@ pub record UserFits (rows : List (Cell × Row)) (id : ℕ) (user : User) : Type 
   pub uuid : holder rows (cell.User id) unique.UserUuid user.uuid ≡ None
   pub name : holder rows (cell.User id) unique.UserName user.name ≡ None
 
--- the term's id was given, and no other row has its uuid
+-- no chain of parents has more than nine terms
+abbrev pub IsShallow : List (Cell × Row) → Type 0
+IsShallow rows = (id : ℕ) → is_longer (parent_in rows) 9 id ≡ false
+
+-- The term's id was given, its parent is there, and no other row has its uuid. With it no chain of parents, also none of
+-- the terms below it, has more than nine terms; so none comes back to itself.
 pub record TermFits (rows : List (Cell × Row)) (id : ℕ) (term : Term) : Type 0 where
   pub given : IsGiven rows numbered.Term id
+  pub parent : is_absent (term_of rows) term.parent ≡ false
+  pub shallow : IsShallow (with_row rows (cell.Term id) (row.Term term))
   pub uuid : holder rows (cell.Term id) unique.TermUuid term.uuid ≡ None
 
 -- the node's id was given, its type is there, its user is 0 or there, and no other row has its uuid or its path
@@ -79,7 +87,7 @@ Fits rows (cell.Session token) (row.Session session) = is_none (user_of rows ses
 Fits rows _ _ = Unit {0}
 
 -- What is to be checked of a cell whose row is removed. The settings, the ids that are next and the users stay, and so
--- do the two roles that every viewer or every user has, and a type that a node has.
+-- do the two roles that every viewer or every user has, a type that a node has, and a term that is another's parent.
 -- https://api.drupal.org/api/drupal/core%21modules%21user%21src%21RoleAccessControlHandler.php/class/RoleAccessControlHandler/10
 -- https://api.drupal.org/api/drupal/core%21modules%21node%21src%21Form%21NodeTypeDeleteConfirm.php/class/NodeTypeDeleteConfirm/10
 abbrev pub MayGo : List (Cell × Row) → Cell → Type 0
@@ -88,6 +96,7 @@ MayGo rows cell.Seq = ⊥
 MayGo rows (cell.User id) = ⊥
 MayGo rows (cell.Role name) = is_locked_role name ≡ false
 MayGo rows (cell.NodeType name) = is_used rows name ≡ false
+MayGo rows (cell.Term id) = is_parent rows id ≡ false
 MayGo rows _ = Unit {0}
 
 -- what is to be checked of a write: the row is right by itself and fits, or none is set and the one there may go

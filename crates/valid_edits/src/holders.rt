@@ -1,9 +1,9 @@
-//! Who else has what no two rows may have, and whether nodes have a type.
+//! Who else has what no two rows may have, whether nodes have a type, and whether a term is another's parent.
 ghost use Rattle.std.specs.Prelude.{◌≡◌, not};
 ghost use Rattle.std.specs.Option.{option_copied};
 ghost use Rattle.std.specs.Ordering.{is_eq};
 ghost use Rattle.content_rows.specs.CellOrder.{cell_cmp};
-ghost use Rattle.valid_edits.specs.Holders.{holder, path_holder, is_node_of, is_used};
+ghost use Rattle.valid_edits.specs.Holders.{holder, path_holder, is_node_of, is_used, is_parent};
 
 use cacheability::Name;
 use content_rows::{Cell, Row, Text};
@@ -62,4 +62,12 @@ fn is_node_of(node_type: Name, row: &Row) -> bool
         Row::Node(node) => node.node_type.as_bytes() == node_type.as_bytes(),
         _ => false,
     }
+}
+
+/// Whether a term is another's parent. It takes no memory.
+/// <https://api.drupal.org/api/drupal/core%21modules%21taxonomy%21src%21TermStorage.php/class/TermStorage/10>
+pub fn is_parent(state: &State, term: u32) -> bool
+    ensures { result ≡ is_parent state.now.rows term }
+{
+    state.children(term).next().is_some()
 }

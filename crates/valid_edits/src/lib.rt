@@ -5,5 +5,5 @@
 mod holders;
 mod laws;
 
-pub use holders::{holder, is_used, path_holder};
+pub use holders::{holder, is_parent, is_used, path_holder};
 pub use laws::fitting_edits_keep_valid;

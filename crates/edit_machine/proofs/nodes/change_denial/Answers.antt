@@ -1,7 +1,7 @@
 use Rattle.std.proofs.Common.{◌≡◌, sym, ap, ◌∙◌, None, option_copied}
 use Rattle.std.proofs.lemmas.Result.{IfOk-weaker}
 use Rattle.cacheability.specs.declared.op.Op.TheVariants as op
-use Rattle.content_state.specs.Rows.{type_of}
+use Rattle.indexed_rows.specs.Rows.{type_of}
 use Rattle.site_access.specs.Access.{access_to_node}
 use Rattle.site_commands.specs.Causes.{unless_allowed}
 use Rattle.site_commands.specs.Fields.{key_denials, field_denials}

@@ -1,6 +1,6 @@
 use Rattle.std.proofs.Common.{◌≡◌, sym, ap, ◌∙◌, None}
 use Rattle.std.proofs.lemmas.Result.{IfOk-weaker}
-use Rattle.content_state.specs.Rows.{seq_of}
+use Rattle.indexed_rows.specs.Rows.{seq_of}
 use Rattle.site_commands.specs.Causes.{of_body, of_target}
 use Rattle.site_commands.specs.Nodes.{create_denials, create_right}
 use Rattle.edit_machine.specs.First.{first_cause}

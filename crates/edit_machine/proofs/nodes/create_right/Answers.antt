@@ -3,7 +3,7 @@ use Rattle.std.proofs.lemmas.Result.{IfOk-weaker}
 use Rattle.content_rows.specs.declared.cell.Cell.TheVariants as cell
 use Rattle.content_rows.specs.declared.row.Row.TheVariants as row
 use Rattle.content_rows.specs.declared.row.Node.{Node}
-use Rattle.content_state.specs.Rows.{seq_of}
+use Rattle.indexed_rows.specs.Rows.{seq_of}
 use Rattle.site_commands.specs.Causes.{of_target, set, commit_of, accepted}
 use Rattle.site_commands.specs.Nodes.{create_refusals, create_writes, create_right}
 use Rattle.site_commands.specs.declared.answer.Done.TheVariants as done

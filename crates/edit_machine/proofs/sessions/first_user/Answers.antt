@@ -3,8 +3,8 @@ use Rattle.std.specs.List.{find}
 use Rattle.content_rows.specs.declared.cell.Cell.{Cell}
 use Rattle.content_rows.specs.declared.row.Row.{Row}
 use Rattle.content_state.proofs.Found.{find_read_within}
-use Rattle.content_state.specs.SiteRules.{is_text, text_of}
-use Rattle.content_state.specs.declared.site_rules.Unique.TheVariants as unique
+use Rattle.indexed_rows.specs.Texts.{is_text, text_of}
+use Rattle.indexed_rows.specs.declared.unique.Unique.TheVariants as unique
 use Rattle.site_commands.specs.Sessions.{is_user_with, user_entry, users_of}
 use Rattle.edit_machine.proofs.Named.{named}
 use Rattle.edit_machine.proofs.sessions.first_user.Goals as goal

@@ -1,6 +1,6 @@
 use Rattle.std.proofs.Common.{◌≡◌, sym, ap, ◌∙◌, None}
 use Rattle.std.proofs.lemmas.Result.{IfOk-weaker}
-use Rattle.content_state.specs.Rows.{seq_of}
+use Rattle.indexed_rows.specs.Rows.{seq_of}
 use Rattle.site_commands.specs.Causes.{of_body, of_target}
 use Rattle.site_commands.specs.declared.body.NewUser.{NewUser}
 use Rattle.site_commands.specs.Users.{denials, create_right}

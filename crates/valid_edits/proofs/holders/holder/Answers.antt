@@ -8,7 +8,7 @@ use Rattle.content_rows.specs.declared.cell.Cell.{Cell}
 use Rattle.content_rows.specs.declared.row.Row.{Row}
 use Rattle.content_state.proofs.Found.{find_both}
 use Rattle.content_state.specs.Having.{having}
-use Rattle.content_state.specs.SiteRules.{is_text, text_of}
+use Rattle.indexed_rows.specs.Texts.{is_text, text_of}
 use Rattle.valid_edits.proofs.holders.holder.Goals as goal
 
 pub rows-init : goal.rows-init

@@ -1,0 +1,7 @@
+use Rattle.std.proofs.Common.{◌∙◌}
+use Rattle.site_commands.specs.Terms.{new_term}
+use Rattle.edit_machine.proofs.Trees.{longer_set}
+use Rattle.edit_machine.proofs.terms.is_new_deep.Goals as goal
+
+pub returns : goal.returns
+returns c = c.is_longer_with.ensures ∙ longer_set c.args.state.now.rows c.args.tid (new_term c.args.new.now) 9 c.args.tid
