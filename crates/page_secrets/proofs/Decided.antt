@@ -12,7 +12,7 @@ use Rattle.content_rows.specs.declared.row.Node.{Node}
 use Rattle.content_rows.specs.declared.row.FieldRow.{FieldRow}
 use Rattle.content_rows.specs.declared.permission.Permissions.{Permissions}
 use Rattle.content_state.specs.declared.ask.Viewer.{Viewer}
-use Rattle.content_state.specs.Rows.{user_of}
+use Rattle.indexed_rows.specs.Rows.{user_of}
 use Rattle.content_state.specs.Viewer.{present_roles, viewer_permissions, may, bypass_node_access, access_content, view_own_unpublished, administer_nodes}
 use Rattle.site_access.specs.Access.{Access, Allowed, Denied, owns, votes_in, holds_named, access_to_found_field, missing}
 use Rattle.render_canvas.specs.Decision.{is_allowed}

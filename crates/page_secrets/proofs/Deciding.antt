@@ -7,7 +7,7 @@ use Rattle.content_rows.specs.Permission.{has}
 use Rattle.content_rows.specs.declared.row.User.{User}
 use Rattle.content_state.specs.declared.route.Route.{Route}
 use Rattle.content_state.specs.declared.route.Route.TheVariants as route
-use Rattle.content_state.specs.Rows.{node_of}
+use Rattle.indexed_rows.specs.Rows.{node_of}
 use Rattle.content_state.specs.Read.{answer, TermRow}
 use Rattle.content_state.specs.Context.{Visit, value}
 use Rattle.content_state.specs.Viewer.{access_content}

@@ -5,9 +5,8 @@ use Rattle.content_rows.specs.declared.cell.Cell.{Cell}
 use Rattle.content_rows.specs.declared.row.Row.{Row}
 use Rattle.content_state.specs.declared.ask.Ask.{Ask}
 use Rattle.content_state.specs.declared.ask.Viewer.{Viewer}
-use Rattle.content_state.specs.Rows.{row_at}
+use Rattle.indexed_rows.specs.Rows.{row_at, InOrder}
 use Rattle.content_state.specs.Context.{Visit}
-use Rattle.content_state.specs.SiteRules.{InOrder}
 use Rattle.content_state.specs.Viewer.{viewer_of}
 use Rattle.render_array.specs.declared.element.Element.TheVariants as element
 use Rattle.render_array.specs.Shown.{IsPage, visit_of}

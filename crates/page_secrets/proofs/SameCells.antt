@@ -2,7 +2,7 @@
 -- same cell has a path, and the nodes of a listing that the viewer may view are placed alike.
 use Rattle.std.proofs.Common.{◌≡◌, ◌∙◌, ℕ, List, [], ◌∷◌, true, false, refl, sym, ap, subst, cond, map, inl, inr}
 use Rattle.std.specs.Prelude.{Bool, ◌&&◌, Option, Some, None, option_map}
-use Rattle.std.specs.List.{AllByRecursion, filter, cons_option, find}
+use Rattle.std.specs.List.{AllByRecursion, filter, filter_map, cons_option, find}
 use Rattle.std.specs.Map.{keys_of}
 use Rattle.std.specs.Ordering.{is_eq, ordering_reverse}
 use Rattle.std.specs.Cmp.{tied_itself, Equal-is}
@@ -12,15 +12,17 @@ use Rattle.cacheability.specs.declared.op.Op.TheVariants as op
 use Rattle.content_rows.specs.CellOrder.{cell_cmp}
 use Rattle.content_rows.proofs.CellLemmas.{cell_cmp_exact, cell_cmp_total}
 use Rattle.content_rows.specs.declared.cell.Cell.{Cell}
+use Rattle.content_rows.specs.declared.cell.Cell.TheVariants as cell
 use Rattle.content_rows.specs.declared.row.Row.{Row}
 use Rattle.content_rows.specs.declared.row.Row.TheVariants as row
 use Rattle.content_rows.specs.declared.row.Node.{Node}
 use Rattle.content_rows.specs.declared.row.Listing.{Listing}
+use Rattle.content_rows.specs.declared.row.Term.{Term}
 use Rattle.content_state.specs.declared.ask.Viewer.{Viewer}
-use Rattle.content_state.specs.declared.site_rules.Unique.TheVariants as unique
-use Rattle.content_state.specs.Rows.{row_at, node_entry, block_entry, nodes_of, blocks_of}
+use Rattle.indexed_rows.specs.declared.unique.Unique.TheVariants as unique
+use Rattle.indexed_rows.specs.Rows.{row_at, node_entry, term_entry, block_entry, nodes_of, terms_of, blocks_of, InOrder}
 use Rattle.content_state.specs.Route.{cell_with}
-use Rattle.content_state.specs.SiteRules.{InOrder, is_text, text_of}
+use Rattle.indexed_rows.specs.Texts.{is_text, text_of}
 use Rattle.site_access.specs.Access.{access_to_node}
 use Rattle.site_lists.specs.Listed.{is_listed, rank_of}
 use Rattle.render_canvas.specs.Decision.{is_allowed}
@@ -102,23 +104,30 @@ module _ (viewer : Viewer) (rows rows' : List (Cell × Row)) where
   same_some : {A : Type 0} (x y : A) → Some x ≡ Some y → x ≡ y
   same_some x y e = cc
 
-  -- ---- blocks
+  -- ---- what neither a node nor a user gives: terms and blocks
 
-  same_block : (e d : Cell × Row) → e.0 ≡ d.0 → LookAlikeAt viewer rows rows' e.0 (Some e.1) (Some d.1) → block_entry e ≡ block_entry d
-  same_block e d is (inl (inl same)) = let r = same_some e.1 d.1 same in λ i. block_entry (is i, r i)
-  same_block e d is (inl (inr nodes)) =
-      ap (λ c. block_entry (c, e.1)) nodes.cell_is ∙ sym (ap (λ c. block_entry (c, d.1)) (sym is ∙ nodes.cell_is))
-  same_block e d is (inr users) =
-      ap (λ c. block_entry (c, e.1)) users.cell_is ∙ sym (ap (λ c. block_entry (c, d.1)) (sym is ∙ users.cell_is))
+  module _ {A : Type 0} (entry : Cell × Row → Option A) (of_node : (n : ℕ) (r : Row) → entry (cell.Node n, r) ≡ None) (of_user : (u : ℕ) (r : Row) → entry (cell.User u, r) ≡ None) where
+    same_entry : (e d : Cell × Row) → e.0 ≡ d.0 → LookAlikeAt viewer rows rows' e.0 (Some e.1) (Some d.1) → entry e ≡ entry d
+    same_entry e d is (inl (inl same)) = let r = same_some e.1 d.1 same in λ i. entry (is i, r i)
+    same_entry e d is (inl (inr nodes)) =
+        ap (λ c. entry (c, e.1)) nodes.cell_is ∙ of_node nodes.n e.1 ∙ sym (ap (λ c. entry (c, d.1)) (sym is ∙ nodes.cell_is) ∙ of_node nodes.n d.1)
+    same_entry e d is (inr users) =
+        ap (λ c. entry (c, e.1)) users.cell_is ∙ of_user users.u e.1 ∙ sym (ap (λ c. entry (c, d.1)) (sym is ∙ users.cell_is) ∙ of_user users.u d.1)
+
+    same_entries : (xs ys : List (Cell × Row)) → AreAlikeLists xs ys → filter_map entry xs ≡ filter_map entry ys
+    same_entries [] [] alike = refl
+    same_entries [] (y ∷ ys) alike = absurd alike
+    same_entries (x ∷ xs) [] alike = absurd alike
+    same_entries (x ∷ xs) (y ∷ ys) alike =
+        let head = same_entry x y alike.0 alike.1 in
+        let tail = same_entries xs ys alike.2 in
+        λ i. cons_option (head i) (tail i)
 
   pub same_blocks : (xs ys : List (Cell × Row)) → AreAlikeLists xs ys → blocks_of xs ≡ blocks_of ys
-  same_blocks [] [] alike = refl
-  same_blocks [] (y ∷ ys) alike = absurd alike
-  same_blocks (x ∷ xs) [] alike = absurd alike
-  same_blocks (x ∷ xs) (y ∷ ys) alike =
-      let head = same_block x y alike.0 alike.1 in
-      let tail = same_blocks xs ys alike.2 in
-      λ i. cons_option (head i) (tail i)
+  same_blocks = same_entries block_entry (λ n r. refl) (λ u r. refl)
+
+  pub same_terms : (xs ys : List (Cell × Row)) → AreAlikeLists xs ys → terms_of xs ≡ terms_of ys
+  same_terms = same_entries term_entry (λ n r. refl) (λ u r. refl)
 
   -- ---- the cell of a path
 
@@ -152,12 +161,12 @@ module _ (viewer : Viewer) (rows rows' : List (Cell × Row)) where
 
   -- ---- the nodes of a listing that the viewer may view
 
-  module _ (listing : Listing) (moment : ℕ) (sees' : ℕ → Bool) (same_sees : (n : ℕ) → is_allowed (access_to_node rows viewer op.View n) ≡ sees' n) where
+  module _ (terms : List (ℕ × Term)) (listing : Listing) (moment : ℕ) (sees' : ℕ → Bool) (same_sees : (n : ℕ) → is_allowed (access_to_node rows viewer op.View n) ≡ sees' n) where
     abbrev keeps : ℕ × Node → Bool
-    keeps e = is_listed listing moment e.1 && is_allowed (access_to_node rows viewer op.View e.0)
+    keeps e = is_listed terms listing moment e.1 && is_allowed (access_to_node rows viewer op.View e.0)
 
     abbrev keeps' : ℕ × Node → Bool
-    keeps' e = is_listed listing moment e.1 && sees' e.0
+    keeps' e = is_listed terms listing moment e.1 && sees' e.0
 
     and_false : (b : Bool) → (b && false) ≡ false
     and_false true = refl
@@ -175,18 +184,18 @@ module _ (viewer : Viewer) (rows rows' : List (Cell × Row)) where
 
       one_kept : (o : Option (ℕ × Node)) → map rank_of (filter keeps (cons_option o xs)) ≡ map rank_of (filter keeps' (cons_option o ys))
       one_kept None = rest
-      one_kept (Some e) = both_kept e e refl (ap (λ b. is_listed listing moment e.1 && b) (same_sees e.0))
+      one_kept (Some e) = both_kept e e refl (ap (λ b. is_listed terms listing moment e.1 && b) (same_sees e.0))
 
       nodes_kept : (n : ℕ) (a b : Node) → AreAlikeNodes viewer rows rows' n a b → map rank_of (filter keeps ((n, a) ∷ xs)) ≡ map rank_of (filter keeps' ((n, b) ∷ ys))
       nodes_kept n a b (inl hidden) =
-          ap (λ s. map rank_of (cond (is_listed listing moment a && s) ((n, a) ∷ filter keeps xs) (filter keeps xs))) hidden.denied
-          ∙ ap (λ s. map rank_of (cond s ((n, a) ∷ filter keeps xs) (filter keeps xs))) (and_false (is_listed listing moment a))
+          ap (λ s. map rank_of (cond (is_listed terms listing moment a && s) ((n, a) ∷ filter keeps xs) (filter keeps xs))) hidden.denied
+          ∙ ap (λ s. map rank_of (cond s ((n, a) ∷ filter keeps xs) (filter keeps xs))) (and_false (is_listed terms listing moment a))
           ∙ rest
-          ∙ sym (ap (λ s. map rank_of (cond s ((n, b) ∷ filter keeps' ys) (filter keeps' ys))) (and_false (is_listed listing moment b)))
-          ∙ sym (ap (λ s. map rank_of (cond (is_listed listing moment b && s) ((n, b) ∷ filter keeps' ys) (filter keeps' ys))) (sym (same_sees n) ∙ hidden.denied))
+          ∙ sym (ap (λ s. map rank_of (cond s ((n, b) ∷ filter keeps' ys) (filter keeps' ys))) (and_false (is_listed terms listing moment b)))
+          ∙ sym (ap (λ s. map rank_of (cond (is_listed terms listing moment b && s) ((n, b) ∷ filter keeps' ys) (filter keeps' ys))) (sym (same_sees n) ∙ hidden.denied))
       nodes_kept n a b (inr differs) =
           subst (λ o. map rank_of (filter keeps ((n, a) ∷ xs)) ≡ map rank_of (filter keeps' ((n, o) ∷ ys))) (sym differs.others)
-          (both_kept (n, a) (n, with_fields a b.fields) refl (ap (λ s. is_listed listing moment a && s) (same_sees n)))
+          (both_kept (n, a) (n, with_fields a b.fields) refl (ap (λ s. is_listed terms listing moment a && s) (same_sees n)))
 
       entry_kept : (e d : Cell × Row) → e.0 ≡ d.0 → LookAlikeAt viewer rows rows' e.0 (Some e.1) (Some d.1)
           → map rank_of (filter keeps (cons_option (node_entry e) xs)) ≡ map rank_of (filter keeps' (cons_option (node_entry d) ys))

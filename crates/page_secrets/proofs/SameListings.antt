@@ -6,17 +6,20 @@ use Rattle.std.specs.List.{filter, flat_map}
 use Rattle.cacheability.specs.declared.context.Context.TheVariants as context
 use Rattle.content_rows.specs.declared.row.Node.{Node}
 use Rattle.content_rows.specs.declared.row.Listing.{Listing}
+use Rattle.content_rows.specs.declared.row.Term.{Term}
 use Rattle.content_state.specs.declared.element.Placing.{Placing}
 use Rattle.content_state.specs.declared.element.Placing.TheVariants as placing
-use Rattle.content_state.specs.Rows.{nodes_of_type}
+use Rattle.indexed_rows.specs.Rows.{nodes_of_type}
 use Rattle.content_state.specs.Read.{ListingRow}
 use Rattle.content_state.specs.Context.{Visit}
+use Rattle.content_state.specs.Met.{result_of}
 use Rattle.content_state.specs.Plan.{Done, reading, folded, ◌>>=◌}
 use Rattle.site_lists.specs.declared.paging.Page.{Page}
 use Rattle.site_lists.specs.Listed.{is_listed, ids_in_order, candidates, term_listing}
-use Rattle.site_lists.specs.ListingPlan.{of_types, among, candidate_rows, moment_within, with_viewable, listing_rows, asked_page}
+use Rattle.site_lists.specs.ListingPlan.{of_types, among, terms_for, candidate_rows, moment_within, with_viewable, listing_rows, asked_page}
 use Rattle.site_lists.specs.Paging.{page_at, page_name}
-use Rattle.site_lists.proofs.Ranks.{chosen_among, chosen_enough, filter_candidates}
+use Rattle.site_lists.proofs.Ranks.{chosen_among, filter_candidates}
+use Rattle.site_lists.proofs.ListingPlans.{listed_among}
 use Rattle.render_canvas.specs.Reads.{by_viewer}
 use Rattle.render_array.specs.Nodes.{may_view_node}
 use Rattle.render_array.specs.Listings.{page_number, listed_node, listed_nodes, nodes_or_none, previous_link, next_link, pager_shown, pager, pager_in, page_of_nodes, listing_view, listing_or_nothing, listing_shown, term_listing_shown}
@@ -39,13 +42,20 @@ module _ (v : Visit) where
   among_left [] = refl
   among_left (t ∷ ts) = types_left (t ∷ ts)
 
+  terms_left : (term : Option ℕ) → settled v (terms_for term) ≡ Done (result_of (terms_for term) v)
+  unfolding reading
+  terms_left None = refl
+  terms_left (Some t) = refl
+
   candidates_left : (listing : Listing) (moment : ℕ) → settled v (candidate_rows listing moment) ≡ Done (candidates v.rows listing moment)
   unfolding candidate_rows
   candidates_left listing moment =
-      let order = λ (nodes : List (ℕ × Node)). ids_in_order (filter (λ e. is_listed listing moment e.1) nodes) in
-      settled_bind v (among listing.types) (λ nodes. Done (order nodes))
-      ∙ ap (λ l. l >>= λ nodes. Done (order nodes)) (among_left listing.types)
-      ∙ ap Done (chosen_enough v.rows listing moment)
+      let order = λ (terms : List (ℕ × Term)) (nodes : List (ℕ × Node)). ids_in_order (filter (λ e. is_listed terms listing moment e.1) nodes) in
+      settled_bind v (among listing.types) (λ nodes. terms_for listing.term >>= λ terms. Done (order terms nodes))
+      ∙ ap (λ l. l >>= λ nodes. settled v (terms_for listing.term >>= λ terms. Done (order terms nodes))) (among_left listing.types)
+      ∙ settled_bind v (terms_for listing.term) (λ terms. Done (order terms (chosen_among v.rows listing.types)))
+      ∙ ap (λ l. l >>= λ terms. Done (order terms (chosen_among v.rows listing.types))) (terms_left listing.term)
+      ∙ ap Done (listed_among listing moment v)
 
   one_left : (ids : List ℕ) (n : ℕ) → settled v (with_viewable may_view_node ids n) ≡ Done (if sees v n then ids ++ n ∷ [] else ids)
   unfolding with_viewable

@@ -12,7 +12,7 @@ use Rattle.content_state.specs.declared.element.Mode.{Mode}
 use Rattle.content_state.specs.declared.element.Mode.TheVariants as mode
 use Rattle.content_state.specs.declared.element.Depth.{Depth}
 use Rattle.content_state.specs.declared.element.Depth.TheVariants as depth
-use Rattle.content_state.specs.Rows.{node_of}
+use Rattle.indexed_rows.specs.Rows.{node_of}
 use Rattle.content_state.specs.Read.{TypeRow, TermRow}
 use Rattle.content_state.specs.Context.{Visit}
 use Rattle.content_state.specs.Plan.{Plan, Done, reading, ◌>>=◌}

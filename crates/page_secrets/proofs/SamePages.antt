@@ -14,7 +14,7 @@ use Rattle.content_state.specs.declared.element.Fragment.{Fragment}
 use Rattle.content_state.specs.declared.element.Fragment.TheVariants as fragment
 use Rattle.content_state.specs.declared.element.Hole.{Hole}
 use Rattle.content_state.specs.declared.element.Hole.TheVariants as hole
-use Rattle.content_state.specs.Rows.{node_of}
+use Rattle.indexed_rows.specs.Rows.{node_of}
 use Rattle.content_state.specs.Read.{SiteRow, TermRow, ListingRow, PathRoute}
 use Rattle.content_state.specs.Context.{Visit}
 use Rattle.content_state.specs.Viewer.{access_content}

@@ -1,8 +1,8 @@
 -- On rows that are alike for a viewer, visits of that viewer are alike.
 use Rattle.std.proofs.Common.{◌≡◌, ◌∙◌, ℕ, List, refl, sym, ap, subst, map, inl, inr}
 use Rattle.std.proofs.Math.Path.{fun_ext}
-use Rattle.std.specs.Prelude.{Bool, ◌||◌, is_some, Option, Some, None, option_and_then, option_map, if◌then◌else◌}
-use Rattle.std.specs.List.{filter_map, find}
+use Rattle.std.specs.Prelude.{Bool, ◌&&◌, ◌||◌, is_some, Option, Some, None, option_and_then, option_map, if◌then◌else◌}
+use Rattle.std.specs.List.{filter, filter_map, find}
 use Rattle.std.specs.Str.{bytes_eq}
 use Rattle.cacheability.specs.declared.op.Op.TheVariants as op
 use Rattle.cacheability.specs.declared.context.Context.{Context}
@@ -20,21 +20,20 @@ use Rattle.content_rows.specs.declared.permission.ViewGrants.TheVariants as view
 use Rattle.content_state.specs.declared.ask.Ask.{Ask}
 use Rattle.content_state.specs.declared.ask.Viewer.{Viewer}
 use Rattle.content_state.specs.declared.route.Route.TheVariants as route
-use Rattle.content_state.specs.Rows.{row_at, as_site, as_type, as_role, as_user, as_term, as_node, as_menu, as_listing, as_block, as_session, site_of, type_of, role_of, user_of, term_of, node_of, menu_of, listing_of, block_of, session_of}
+use Rattle.indexed_rows.specs.Rows.{row_at, as_site, as_type, as_role, as_user, as_term, as_node, as_menu, as_listing, as_block, as_session, site_of, type_of, role_of, user_of, term_of, node_of, menu_of, listing_of, block_of, session_of, nodes_of, terms_of, InOrder}
 use Rattle.content_state.specs.Route.{id_after, node_front, term_front, user_front, root_path, login_path, front_in, front_path, meant, node_route, listing_route, cell_route, cell_with, found_route, led_to, route_of}
-use Rattle.content_state.specs.Read.{Read, SiteRow, TypeRow, RoleRow, UserRow, TermRow, NodeRow, MenuRow, ListingRow, BlockRow, AllNodes, NodesOfType, AllBlocks, PathRoute, answer}
+use Rattle.content_state.specs.Read.{Read, SiteRow, TypeRow, RoleRow, UserRow, TermRow, NodeRow, MenuRow, ListingRow, BlockRow, AllNodes, NodesOfType, AllTerms, AllBlocks, PathRoute, answer}
 use Rattle.content_state.specs.Context.{Visit, trail_in, value, upward, preorder}
-use Rattle.content_state.specs.SiteRules.{InOrder}
 use Rattle.content_state.specs.Viewer.{viewer_by, viewer_with, viewer_of, roles_of, present_roles, viewer_permissions, view_grants_of, bypass_node_access}
 use Rattle.site_access.specs.Access.{Access, access_by, access_to_node, access_to_found_field, field_of, field_of_type}
-use Rattle.site_lists.specs.Listed.{in_order, rank_cmp}
+use Rattle.site_lists.specs.Listed.{in_order, ids_in_order, is_listed, rank_cmp}
 use Rattle.render_canvas.specs.Decision.{is_allowed}
 use Rattle.page_secrets.specs.Alike.{AreAlikeNodes}
 use Rattle.page_secrets.specs.Passwords.{with_password}
 use Rattle.page_secrets.proofs.Likeness.{LookAlikeAt}
 use Rattle.page_secrets.proofs.Decided.{decided, votes_by, as_votes, both_denied, field_by, as_field}
 use Rattle.page_secrets.proofs.Visits.{IsOfNeither, AreAlikeFound, AreOneUser, sees, listed, AlikeVisits}
-use Rattle.page_secrets.proofs.SameCells.{AreAlikeLists, alike_lists, same_blocks, same_cell_with, same_ranks}
+use Rattle.page_secrets.proofs.SameCells.{AreAlikeLists, alike_lists, same_terms, same_blocks, same_cell_with, same_ranks}
 
 module _ (viewer : Viewer) (rows rows' : List (Cell × Row)) (alike : (c : Cell) → LookAlikeAt viewer rows rows' c (row_at rows c) (row_at rows' c)) where
   -- ---- rows that are no nodes and no users
@@ -298,13 +297,15 @@ module _ (viewer : Viewer) (rows rows' : List (Cell × Row)) (alike : (c : Cell)
       same_answer (BlockRow b) none = same_block_row b
       same_answer AllNodes none = absurd none
       same_answer (NodesOfType t) none = absurd none
+      same_answer AllTerms none = same_terms viewer rows rows' rows rows' lists
       same_answer AllBlocks none = same_blocks viewer rows rows' rows rows' lists
       same_answer (PathRoute p) none = same_route p
 
       same_listed : (listing : Listing) (at : ℕ) → listed here listing at ≡ listed there listing at
       same_listed listing at =
-          ap (λ ranks. map (λ r. r.id.0) (in_order rank_cmp ranks))
-          (same_ranks viewer rows rows' listing at (sees there) (λ n. ap is_allowed (same_access n)) rows rows' lists)
+          ap (λ terms. ids_in_order (filter (λ e. is_listed terms listing at e.1 && sees here e.0) (nodes_of rows))) (same_terms viewer rows rows' rows rows' lists)
+          ∙ ap (λ ranks. map (λ r. r.id.0) (in_order rank_cmp ranks))
+          (same_ranks viewer rows rows' (terms_of rows') listing at (sees there) (λ n. ap is_allowed (same_access n)) rows rows' lists)
 
       pub visits_alike : AlikeVisits here there
       visits_alike = record {

@@ -11,7 +11,7 @@ use Rattle.content_rows.specs.declared.row.Node.{Node}
 use Rattle.content_rows.specs.declared.row.Listing.{Listing}
 use Rattle.content_rows.specs.declared.row.User.{User}
 use Rattle.content_state.specs.declared.ask.Viewer.{Viewer}
-use Rattle.content_state.specs.Rows.{node_of, user_of, nodes_of}
+use Rattle.indexed_rows.specs.Rows.{node_of, user_of, nodes_of, terms_of}
 use Rattle.content_state.specs.Read.{Read, NodeRow, UserRow, AllNodes, NodesOfType, answer}
 use Rattle.content_state.specs.Context.{Visit, value}
 use Rattle.content_state.specs.Plan.{Plan, Done, reading, asking, ◌>>=◌}
@@ -48,7 +48,7 @@ sees v n = is_allowed (access_to_node v.rows v.viewer op.View n)
 
 -- the nodes of a listing that the viewer may view
 abbrev pub listed : Visit → Listing → ℕ → List ℕ
-listed v listing moment = ids_in_order (filter (λ e. is_listed listing moment e.1 && sees v e.0) (nodes_of v.rows))
+listed v listing moment = ids_in_order (filter (λ e. is_listed (terms_of v.rows) listing moment e.1 && sees v e.0) (nodes_of v.rows))
 
 pub record AlikeVisits (v v' : Visit) : Type 0 where
   pub moment : v.moment ≡ v'.moment

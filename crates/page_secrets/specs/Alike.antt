@@ -12,8 +12,7 @@ use Rattle.content_rows.specs.declared.row.FieldValue.{FieldValue}
 use Rattle.content_state.specs.declared.ask.Ask.{Ask}
 use Rattle.content_state.specs.declared.ask.Viewer.{Viewer}
 use Rattle.content_state.specs.State.{State}
-use Rattle.content_state.specs.Rows.{row_at, user_of}
-use Rattle.content_state.specs.SiteRules.{InOrder}
+use Rattle.indexed_rows.specs.Rows.{row_at, user_of, InOrder}
 use Rattle.content_state.specs.Viewer.{viewer_of}
 use Rattle.site_access.specs.Access.{Access, access_to_node, access_to_field_of}
 use Rattle.site_access.specs.Users.{is_active}

@@ -47,7 +47,7 @@ use Rattle.site_access.proofs.RoutePlans.{term_read, user_read, route_read}
 use Rattle.site_lists.specs.declared.tree.MenuPlace.{MenuPlace}
 use Rattle.site_lists.specs.declared.paging.Page.{Page}
 use Rattle.site_lists.specs.Listed.{term_listing}
-use Rattle.site_lists.specs.ListingPlan.{of_types, among, candidate_rows, moment_within, with_viewable, listing_rows, asked_page}
+use Rattle.site_lists.specs.ListingPlan.{of_types, among, terms_for, candidate_rows, moment_within, with_viewable, listing_rows, asked_page}
 use Rattle.site_lists.specs.MenuPlaces.{places_of}
 use Rattle.site_lists.specs.Paging.{page_at as page_of_rows}
 use Rattle.site_lists.specs.Visible.{for_viewer, names_front, at_front, on_path, visible}
@@ -270,9 +270,15 @@ module _ (P : Hole → Type 0) (v : Visit) where
   among_leaves [] = tt
   among_leaves (t ∷ ts) = of_types_leaves (t ∷ ts)
 
+  terms_for_leaves : (term : Option ℕ) → Leaves P v (terms_for term)
+  unfolding reading
+  terms_for_leaves None = tt
+  terms_for_leaves (Some t) = tt
+
   candidates_leaves : (listing : Listing) (moment : ℕ) → Leaves P v (candidate_rows listing moment)
   unfolding candidate_rows
-  candidates_leaves listing moment = both (among listing.types) _ (among_leaves listing.types) (λ a. tt)
+  candidates_leaves listing moment =
+      both (among listing.types) _ (among_leaves listing.types) (λ nodes. both (terms_for listing.term) _ (terms_for_leaves listing.term) (λ terms. tt))
 
   moment_leaves : (age : Option ℕ) → Leaves P v (moment_within age)
   unfolding clock

@@ -4,7 +4,7 @@ ghost use Rattle.std.specs.List.{list_any};
 ghost use Rattle.std.specs.Option.{option_copied};
 ghost use Rattle.std.specs.Str.{bytes_eq};
 ghost use Rattle.content_state.specs.Plan.{Done, folded};
-ghost use Rattle.content_state.specs.Rows.{menu_of};
+ghost use Rattle.indexed_rows.specs.Rows.{menu_of};
 ghost use Rattle.content_state.specs.There.{IsThere};
 ghost use Rattle.site_lists.specs.MenuPlaces.{places_of};
 ghost use Rattle.render_canvas.specs.Canvas.{Renders};

@@ -4,7 +4,7 @@ ghost use Rattle.std.specs.List.{find};
 ghost use Rattle.std.specs.Option.{option_copied};
 ghost use Rattle.std.specs.Str.{bytes_eq};
 ghost use Rattle.content_state.specs.Plan.{each};
-ghost use Rattle.content_state.specs.Rows.{type_of, node_of};
+ghost use Rattle.indexed_rows.specs.Rows.{type_of, node_of};
 ghost use Rattle.render_canvas.specs.Decision.{HasField};
 ghost use Rattle.render_canvas.specs.Canvas.{Renders};
 ghost use Rattle.render_array.specs.Nodes.{

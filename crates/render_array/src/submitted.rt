@@ -1,7 +1,7 @@
 //! Who submitted a node, and when: each builder writes what the plan of the same name shows.
 ghost use Rattle.std.specs.Prelude.{◌≡◌, Some, IsSome};
 ghost use Rattle.std.specs.Option.{option_copied};
-ghost use Rattle.content_state.specs.Rows.{user_of};
+ghost use Rattle.indexed_rows.specs.Rows.{user_of};
 ghost use Rattle.render_canvas.specs.Canvas.{Renders};
 ghost use Rattle.render_array.specs.Nodes.{may_view_user, linked_author, author_found, author, submitted, is_submitted, submitted_if};
 

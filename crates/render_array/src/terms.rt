@@ -1,6 +1,6 @@
 //! The terms of a node: each builder writes what the plan of the same name shows.
 ghost use Rattle.std.specs.Prelude.{◌≡◌, ◌∷◌, ◌++◌, [], Some, IsSome};
-ghost use Rattle.content_state.specs.Rows.{term_of};
+ghost use Rattle.indexed_rows.specs.Rows.{term_of};
 ghost use Rattle.content_state.specs.Plan.{Done, folded};
 ghost use Rattle.render_canvas.specs.Canvas.{Renders};
 ghost use Rattle.render_array.specs.Nodes.{may_view_term, with_viewable_term, term_named, term_item, terms_shown, terms};

@@ -9,7 +9,7 @@ use Rattle.content_rows.specs.declared.cell.Cell.{Cell}
 use Rattle.content_rows.specs.declared.row.Row.{Row}
 use Rattle.content_rows.specs.declared.row.Node.{Node}
 use Rattle.content_rows.specs.declared.row.NodeType.{NodeType}
-use Rattle.content_state.specs.Rows.{type_of, node_of}
+use Rattle.indexed_rows.specs.Rows.{type_of, node_of}
 use Rattle.site_access.specs.Access.{type_in, node_type_of, field_of}
 use Rattle.content_rows.specs.declared.row.FieldRow.{FieldRow}
 use Rattle.render_canvas.specs.Decision.{HasField}

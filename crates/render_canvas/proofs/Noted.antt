@@ -1,18 +1,18 @@
 -- What is noted of plans that show nothing.
-use Rattle.std.proofs.Common.{ℕ, List, [], ◌∷◌, ◌≡◌, ◌<◌, ◌≤◌, Bool, length, refl, sym, ◌∙◌, ap, subst, arith, Contains, append-nil, inl, inr, map}
+use Rattle.std.proofs.Common.{ℕ, Option, Some, None, List, [], ◌∷◌, ◌≡◌, ◌<◌, ◌≤◌, Bool, length, refl, sym, ◌∙◌, ap, subst, arith, Contains, append-nil, inl, inr, map}
 use Rattle.cacheability.specs.InOrder.{HasBoth}
 use Rattle.cacheability.specs.declared.tag.Tag.{Tag}
 use Rattle.cacheability.specs.declared.tag.Tag.TheVariants as tag
 use Rattle.cacheability.specs.declared.context.Context.{Context}
 use Rattle.cacheability.specs.declared.context.Context.TheVariants as context
-use Rattle.content_state.specs.Read.{AllNodes, NodesOfType}
+use Rattle.content_state.specs.Read.{AllNodes, NodesOfType, AllTerms}
 use Rattle.content_state.specs.Plan.{Plan, Done}
 use Rattle.content_state.specs.Met.{result_of}
 use Rattle.content_state.specs.Places.{open_places}
 use Rattle.content_state.proofs.Meets.{least_permanent}
 use Rattle.content_state.proofs.Filled.{in_append, in_left, in_right}
 use Rattle.site_lists.specs.Listed.{list_tags}
-use Rattle.site_lists.specs.ListingPlan.{of_types, among}
+use Rattle.site_lists.specs.ListingPlan.{of_types, among, terms_for}
 use Rattle.site_lists.specs.Visible.{for_viewer, at_front, on_path, names_front}
 use Rattle.render_canvas.specs.Canvas.{Sheet, Writes, Renders, NeedsTags, AddsTags, AddsContext}
 use Rattle.render_canvas.proofs.Run.{both_none, next, done, read, asked}
@@ -119,6 +119,14 @@ types_noted (t ∷ ts) old new adds =
 pub among_noted : (ts : List (List ℕ)) (old new : Sheet) → AddsTags old new (list_tags ts) → Renders (among ts) old (result_of (among ts) old.visit) new
 among_noted [] old new adds = by_result (read AllNodes old new _ adds refl) refl
 among_noted (t ∷ ts) old new adds = types_noted (t ∷ ts) old new adds
+
+pub no_term : (term : Option ℕ) {old : Sheet} → term ≡ None → Renders (terms_for term) old (result_of (terms_for term) old.visit) old
+no_term None none = by_result done refl
+no_term (Some t) none = cc
+
+pub some_term : (term : Option ℕ) {t : ℕ} {old new : Sheet} → term ≡ Some t → AddsTags old new (tag.TermList ∷ []) → Renders (terms_for term) old (result_of (terms_for term) old.visit) new
+some_term None some adds = cc
+some_term (Some t) {old = old} {new = new} some adds = by_result (read AllTerms old new _ adds refl) refl
 
 -- ---- what decides whether a block shows
 

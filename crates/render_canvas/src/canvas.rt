@@ -2,7 +2,7 @@
 ghost use Rattle.std.specs.Prelude.{◌≡◌, ◌≢◌, ◌∷◌, ◌-◌, ◌^◌, [], IfOk};
 ghost use Rattle.std.specs.Option.{option_copied};
 ghost use Rattle.access_result.specs.Reason.{reason_text};
-ghost use Rattle.content_state.specs.Rows.{type_of, node_of};
+ghost use Rattle.indexed_rows.specs.Rows.{type_of, node_of};
 ghost use Rattle.content_state.specs.Read.{SiteRow, TypeRow, NodeRow, PathRoute};
 ghost use Rattle.content_state.specs.There.{IsThere};
 ghost use Rattle.content_state.specs.Plan.{write, escaped, attach, part, reading, clock};

@@ -1,6 +1,6 @@
 //! Access, as builders ask for it through a canvas.
 ghost use Rattle.std.specs.Prelude.{◌≡◌, [], Some, IsSome, All};
-ghost use Rattle.content_state.specs.Rows.{type_of, node_of, term_of, user_of};
+ghost use Rattle.indexed_rows.specs.Rows.{type_of, node_of, term_of, user_of};
 ghost use Rattle.content_state.specs.There.{IsThere};
 ghost use Rattle.content_state.specs.Plan.{folded};
 ghost use Rattle.site_access.specs.Plans.{node_access, field_access};

@@ -3,12 +3,12 @@ ghost use Rattle.std.specs.Prelude.{◌≡◌, Some, IsSome, IfOk, All};
 ghost use Rattle.std.specs.Option.{option_copied};
 ghost use Rattle.std.specs.Str.{bytes_eq};
 ghost use Rattle.cacheability.specs.declared.context.Context.TheVariants as context;
-ghost use Rattle.content_state.specs.Rows.{term_of, user_of, menu_of, listing_of, block_of, node_of};
+ghost use Rattle.indexed_rows.specs.Rows.{term_of, user_of, menu_of, listing_of, block_of, node_of};
 ghost use Rattle.content_state.specs.Read.{TermRow, UserRow, MenuRow, ListingRow, BlockRow};
 ghost use Rattle.content_state.specs.Plan.{reading, asking};
 ghost use Rattle.content_state.specs.Met.{result_of};
 ghost use Rattle.site_access.specs.Plans.{holds};
-ghost use Rattle.site_lists.specs.ListingPlan.{among, candidate_rows, moment_within, asked_page};
+ghost use Rattle.site_lists.specs.ListingPlan.{among, terms_for, candidate_rows, moment_within, asked_page};
 ghost use Rattle.site_lists.specs.Paging.{value_in, page_asked, page_name};
 ghost use Rattle.site_lists.specs.Visible.{visible, for_viewer, on_path, at_front, names_front, front_word};
 ghost use Rattle.render_canvas.specs.Reads.{region_names, by_viewer};
@@ -98,6 +98,7 @@ impl<'a> Canvas<'a> {
         match candidates(self.alloc, self.state, listing, moment) {
             Ok(ids) => {
                 self.by_lists(listing);
+                self.by_terms(listing);
                 ids
             }
             Err(_) => {
@@ -114,6 +115,16 @@ impl<'a> Canvas<'a> {
         match list_tags(self.alloc, listing) {
             Ok(tags) => self.all_tags(tags.as_slice()),
             Err(_) => self.fail(),
+        }
+    }
+
+    /// Says that what is shown depends on which terms stand below which, where a listing has a term.
+    fn by_terms(&mut self, listing: &Listing)
+        ensures { Renders (terms_for listing.now.term) self.old (result_of (terms_for listing.now.term) self.old.visit) self.new }
+    {
+        match listing.term {
+            Some(_) => self.tag(Tag::TermList),
+            None => (),
         }
     }
 

@@ -6,4 +6,6 @@ pub mod Roles
 pub mod ListingPlans
 pub mod VisiblePlans
 pub mod RegionBlocks
+pub mod Walks
+pub mod Terms
 pub mod ChosenLaws

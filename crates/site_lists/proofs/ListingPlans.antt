@@ -1,17 +1,19 @@
 -- The plans of listings give the plain answers.
 use Rattle.std.proofs.Common.{◌≡◌, ◌∙◌, ℕ, List, [], ◌∷◌, ◌++◌, map, true, false, refl, sym, ap, append-nil, append_assoc}
-use Rattle.std.specs.Prelude.{Bool, Option, Some, None, if◌then◌else◌}
+use Rattle.std.proofs.Math.Path.{fun_ext}
+use Rattle.std.specs.Prelude.{Bool, ◌&&◌, Option, Some, None, if◌then◌else◌}
 use Rattle.std.specs.List.{filter, flat_map}
 use Rattle.cacheability.specs.declared.tag.Tag.TheVariants as tag
 use Rattle.content_rows.specs.declared.row.Node.{Node}
 use Rattle.content_rows.specs.declared.row.Listing.{Listing}
-use Rattle.content_state.specs.Rows.{nodes_of_type}
+use Rattle.content_rows.specs.declared.row.Term.{Term}
+use Rattle.indexed_rows.specs.Rows.{nodes_of, nodes_of_type, terms_of}
 use Rattle.content_state.specs.Context.{Visit}
 use Rattle.content_state.specs.Plan.{Plan, Done, ◌>>=◌, reading, clock, folded}
 use Rattle.content_state.specs.Met.{Met, result_of, met, met_tags, met_both, met_nothing}
 use Rattle.content_state.proofs.Meets.{result-bind, met-bind, least_permanent}
-use Rattle.site_lists.specs.Listed.{is_listed, ids_in_order, candidates, list_tags}
-use Rattle.site_lists.specs.ListingPlan.{of_types, among, candidate_rows, moment_within, with_viewable, listing_rows, moment_at, CandidatesAnswer, ListingAnswers}
+use Rattle.site_lists.specs.Listed.{is_fit, is_listed, has_term, ids_in_order, candidates, list_tags, term_tags}
+use Rattle.site_lists.specs.ListingPlan.{of_types, among, terms_for, candidate_rows, moment_within, with_viewable, listing_rows, moment_at, CandidatesAnswer, ListingAnswers}
 use Rattle.site_lists.proofs.Ranks.{chosen_among, chosen_enough, filter_candidates}
 
 -- ---- what the plans give
@@ -28,13 +30,31 @@ unfolding reading
 among_gives [] v = refl
 among_gives (t ∷ ts) v = types_give (t ∷ ts) v
 
+-- a listing without a term needs none of those that are there
+terms_give : (term : Option ℕ) (own : List ℕ) (v : Visit) → has_term (result_of (terms_for term) v) term own ≡ has_term (terms_of v.rows) term own
+unfolding reading
+terms_give None own v = refl
+terms_give (Some t) own v = refl
+
+abbrev pub order : Listing → ℕ → List (ℕ × Term) → List (ℕ × Node) → List ℕ
+order listing moment terms nodes = ids_in_order (filter (λ e. is_listed terms listing moment e.1) nodes)
+
+-- of the nodes of a listing's types those that it has, by the terms that are read for it
+pub listed_among : (listing : Listing) (moment : ℕ) (v : Visit)
+    → order listing moment (result_of (terms_for listing.term) v) (chosen_among v.rows listing.types) ≡ candidates v.rows listing moment
+listed_among listing moment v =
+    chosen_enough (result_of (terms_for listing.term) v) v.rows listing moment
+    ∙ ap (λ (f : ℕ × Node → Bool). ids_in_order (filter f (nodes_of v.rows)))
+    (fun_ext (λ e. ap (λ b. is_fit listing moment e.1 && b) (terms_give listing.term e.1.terms v)))
+
 candidates_give : (listing : Listing) (moment : ℕ) (v : Visit) → result_of (candidate_rows listing moment) v ≡ candidates v.rows listing moment
 unfolding candidate_rows
 candidates_give listing moment v =
-    let order = λ (nodes : List (ℕ × Node)). ids_in_order (filter (λ e. is_listed listing moment e.1) nodes) in
-    result-bind (among listing.types) (λ nodes. Done (order nodes)) v
-    ∙ ap order (among_gives listing.types v)
-    ∙ chosen_enough v.rows listing moment
+    let terms = result_of (terms_for listing.term) v in
+    result-bind (among listing.types) (λ nodes. terms_for listing.term >>= λ ts. Done (order listing moment ts nodes)) v
+    ∙ result-bind (terms_for listing.term) (λ ts. Done (order listing moment ts (result_of (among listing.types) v))) v
+    ∙ ap (order listing moment terms) (among_gives listing.types v)
+    ∙ listed_among listing moment v
 
 -- ---- what they meet
 
@@ -58,12 +78,21 @@ unfolding reading
 among_meets [] v = refl
 among_meets (t ∷ ts) v = types_meet (t ∷ ts) v
 
-candidates_meet : (listing : Listing) (moment : ℕ) (v : Visit) → met (candidate_rows listing moment) v ≡ met_tags (list_tags listing.types)
+terms_meet : (term : Option ℕ) (v : Visit) → met (terms_for term) v ≡ met_tags (term_tags term)
+unfolding reading
+terms_meet None v = refl
+terms_meet (Some t) v = refl
+
+candidates_meet : (listing : Listing) (moment : ℕ) (v : Visit) → met (candidate_rows listing moment) v ≡ met_tags (list_tags listing.types ++ term_tags listing.term)
 unfolding candidate_rows
 candidates_meet listing moment v =
-    met-bind (among listing.types) (λ nodes. Done (ids_in_order (filter (λ e. is_listed listing moment e.1) nodes))) v
-    ∙ both_nothing (met (among listing.types) v)
-    ∙ among_meets listing.types v
+    met-bind (among listing.types) (λ nodes. terms_for listing.term >>= λ ts. Done (order listing moment ts nodes)) v
+    ∙ ap (met_both (met (among listing.types) v)) (
+    met-bind (terms_for listing.term) (λ ts. Done (order listing moment ts (result_of (among listing.types) v))) v
+    ∙ both_nothing (met (terms_for listing.term) v)
+    ∙ terms_meet listing.term v
+    )
+    ∙ ap (λ m. met_both m (met_tags (term_tags listing.term))) (among_meets listing.types v)
 
 pub candidates_answer : CandidatesAnswer
 candidates_answer listing moment v = (candidates_give listing moment v, candidates_meet listing moment v)

@@ -12,7 +12,8 @@ use Rattle.content_rows.specs.declared.cell.Cell.{Cell}
 use Rattle.content_rows.specs.declared.row.Row.{Row}
 use Rattle.content_rows.specs.declared.row.Node.{Node}
 use Rattle.content_rows.specs.declared.row.Listing.{Listing}
-use Rattle.content_state.specs.Rows.{nodes_of, nodes_of_type}
+use Rattle.content_rows.specs.declared.row.Term.{Term}
+use Rattle.indexed_rows.specs.Rows.{nodes_of, nodes_of_type, terms_of}
 use Rattle.row_keys.specs.declared.rank.NodeRank.{NodeRank}
 use Rattle.row_keys.specs.contracts.rank.NodeRankPartialEq.TheImpl as same
 use Rattle.row_keys.specs.contracts.rank.NodeRankOrd.TheImpl.Laws as laws
@@ -83,31 +84,31 @@ module _ (rows : List (Cell × Row)) where
       ∙ ap (λ f. list_any f (nodes_of rows)) (fun_ext (λ e. or_and (bytes_eq e.1.node_type t) (list_any (bytes_eq e.1.node_type) ts) (test e)))
 
 -- what a listing has is of its types
-of_its_types : (a b c d e r : Bool) → (c && ((a && b && c && d && e) && r)) ≡ ((a && b && c && d && e) && r)
-of_its_types true true true d e r = refl
-of_its_types true true false d e r = refl
-of_its_types true false true d e r = refl
-of_its_types true false false d e r = refl
-of_its_types false b true d e r = refl
-of_its_types false b false d e r = refl
+of_its_types : (a b c d h r : Bool) → (c && (((a && b && c && d) && h) && r)) ≡ (((a && b && c && d) && h) && r)
+of_its_types true true true d h r = refl
+of_its_types true true false d h r = refl
+of_its_types true false true d h r = refl
+of_its_types true false false d h r = refl
+of_its_types false b true d h r = refl
+of_its_types false b false d h r = refl
 
-module _ (rows : List (Cell × Row)) (listing : Listing) (moment : ℕ) where
+module _ (terms : List (ℕ × Term)) (rows : List (Cell × Row)) (listing : Listing) (moment : ℕ) where
   abbrev test : NodeRank → ℕ × Node → Bool
-  test q e = is_listed listing moment e.1 && eq_by_cmp rank_cmp q (rank_of e)
+  test q e = is_listed terms listing moment e.1 && eq_by_cmp rank_cmp q (rank_of e)
 
   same_test : (ts : List (List ℕ)) → listing.types ≡ ts → (q : NodeRank) (e : ℕ × Node) → (is_of_types ts e.1.node_type && test q e) ≡ test q e
   same_test ts is q e =
       ap (λ us. is_of_types us e.1.node_type && test q e) (sym is)
-      ∙ of_its_types e.1.status (not listing.promoted || e.1.promote) (is_of_types listing.types e.1.node_type) (has_term listing.term e.1.terms) (is_recent listing.recent moment e.1.created) (eq_by_cmp rank_cmp q (rank_of e))
+      ∙ of_its_types e.1.status (not listing.promoted || e.1.promote) (is_of_types listing.types e.1.node_type) (is_recent listing.recent moment e.1.created) (has_term terms listing.term e.1.terms) (eq_by_cmp rank_cmp q (rank_of e))
 
   chosen_any : (ts : List (List ℕ)) → listing.types ≡ ts → (q : NodeRank) → list_any (test q) (chosen_among rows ts) ≡ list_any (test q) (nodes_of rows)
   chosen_any [] is q = refl
   chosen_any (t ∷ ts) is q = of_types_any rows (t ∷ ts) (test q) ∙ ap (λ f. list_any f (nodes_of rows)) (fun_ext (same_test (t ∷ ts) is q))
 
   -- the nodes of a listing's types are enough
-  pub chosen_enough : ids_in_order (filter (λ e. is_listed listing moment e.1) (chosen_among rows listing.types)) ≡ candidates rows listing moment
+  pub chosen_enough : ids_in_order (filter (λ e. is_listed terms listing moment e.1) (chosen_among rows listing.types)) ≡ ids_in_order (filter (λ e. is_listed terms listing moment e.1) (nodes_of rows))
   chosen_enough =
-      let p = λ (e : ℕ × Node). is_listed listing moment e.1 in
+      let p = λ (e : ℕ × Node). is_listed terms listing moment e.1 in
       ap (map (λ r. r.id.0)) (same_order rank_total rank_exact (map rank_of (filter p (chosen_among rows listing.types))) (map rank_of (filter p (nodes_of rows)))
       (λ q.
       map_filter_any rank_of p (eq_by_cmp rank_cmp q) (chosen_among rows listing.types)
@@ -134,9 +135,9 @@ filter_twice p q (x ∷ xs) = elim (p x) as (λ b. filter q (if b then x ∷ fil
 ]
 
 pub filter_candidates : (rows : List (Cell × Row)) (listing : Listing) (moment : ℕ) (q : ℕ → Bool)
-    → filter q (candidates rows listing moment) ≡ ids_in_order (filter (λ e. is_listed listing moment e.1 && q e.0) (nodes_of rows))
+    → filter q (candidates rows listing moment) ≡ ids_in_order (filter (λ e. is_listed (terms_of rows) listing moment e.1 && q e.0) (nodes_of rows))
 filter_candidates rows listing moment q =
-    let p = λ (e : ℕ × Node). is_listed listing moment e.1 in
+    let p = λ (e : ℕ × Node). is_listed (terms_of rows) listing moment e.1 in
     let nodes = filter p (nodes_of rows) in
     filter_map_is (λ r. r.id.0) q (in_order rank_cmp (map rank_of nodes))
     ∙ ap (map (λ r. r.id.0)) (filter_in_order rank_total rank_exact (λ r. q r.id.0) (map rank_of nodes) ∙ ap (in_order rank_cmp) (filter_map_is rank_of (λ r. q r.id.0) nodes))

@@ -11,7 +11,7 @@ use Rattle.content_rows.specs.declared.row.Region.TheVariants as region
 use Rattle.row_keys.specs.declared.rank.BlockRank.{BlockRank}
 use Rattle.row_keys.specs.declared.rank.BlockKey.{BlockKey}
 use Rattle.row_keys.specs.Keys.{region_place}
-use Rattle.content_state.specs.Rows.{blocks_of}
+use Rattle.indexed_rows.specs.Rows.{blocks_of}
 use Rattle.content_state.specs.Ranked.{blocks_within}
 use Rattle.site_lists.specs.Listed.{in_order}
 use Rattle.site_lists.specs.Blocks.{is_region, block_rank, block_cmp, region_blocks}

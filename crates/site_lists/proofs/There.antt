@@ -24,7 +24,7 @@ use Rattle.content_rows.specs.declared.row.Row.{Row}
 use Rattle.content_rows.specs.declared.row.Row.TheVariants as row
 use Rattle.content_rows.specs.declared.row.Listing.{Listing}
 use Rattle.content_rows.specs.declared.row.Node.{Node}
-use Rattle.content_state.specs.Rows.{as_node, node_entry, node_of, nodes_of}
+use Rattle.indexed_rows.specs.Rows.{as_node, node_entry, node_of, nodes_of, terms_of}
 use Rattle.site_lists.specs.Listed.{candidates, in_order, is_listed, rank_cmp, rank_of}
 
 -- ---- what holds of each member of a list
@@ -105,9 +105,9 @@ nodes_found (e ∷ es) sorted =
 pub candidates_there : (rows : List (Cell × Row)) (listing : Listing) (moment : ℕ) → IsStrictlySortedBy cell_cmp (keys_of rows) → All (λ n. IsSome (node_of rows n)) (candidates rows listing moment)
 candidates_there rows listing moment sorted =
     let there = λ (n : ℕ). IsSome (node_of rows n) in
-    let listed = filter (λ e. is_listed listing moment e.1) (nodes_of rows) in
+    let listed = filter (λ e. is_listed (terms_of rows) listing moment e.1) (nodes_of rows) in
     let found : AllByRecursion (λ e. there e.0) listed =
-    filter_all (λ e. there e.0) (λ e. is_listed listing moment e.1) (nodes_of rows)
+    filter_all (λ e. there e.0) (λ e. is_listed (terms_of rows) listing moment e.1) (nodes_of rows)
     (weaker (Found rows) (λ e. there e.0) (λ x is. ap is_some is) (nodes_of rows) (nodes_found rows sorted)) in
     let ranks = fold_all (λ r. there r.id.0) rank_cmp [] (map rank_of listed) tt (map_all (λ r. there r.id.0) rank_of listed found) in
     each there (candidates rows listing moment) (map_all there (λ r. r.id.0) (in_order rank_cmp (map rank_of listed)) ranks)

@@ -8,7 +8,7 @@ use Rattle.content_rows.specs.declared.row.Row.{Row}
 use Rattle.content_rows.specs.declared.row.Block.{Block}
 use Rattle.content_rows.specs.declared.row.Region.{Region}
 use Rattle.content_rows.specs.declared.row.Region.TheVariants as region
-use Rattle.content_state.specs.Rows.{blocks_of}
+use Rattle.indexed_rows.specs.Rows.{blocks_of}
 use Rattle.row_keys.specs.declared.rank.BlockRank.{BlockRank}
 use Rattle.row_keys.specs.contracts.rank.BlockRankOrd.TheImpl as block_ranks
 use Rattle.site_lists.specs.Listed.{in_order}

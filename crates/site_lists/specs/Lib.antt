@@ -4,4 +4,5 @@ pub mod MenuPlaces
 pub mod Blocks
 pub mod Visible
 pub mod ListingPlan
+pub mod Below
 pub mod Chosen

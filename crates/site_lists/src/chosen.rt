@@ -6,7 +6,8 @@ ghost use Rattle.content_state.specs.Ranked.{published};
 ghost use Rattle.site_lists.specs.Chosen.{passes, ranks_with, ranks_typed, ranks_among};
 ghost use Rattle.site_lists.specs.Listed.{in_order, rank_cmp};
 
-use crate::listed::is_listed;
+use crate::below::terms_within;
+use crate::listed::is_fit;
 use cacheability::Name;
 use content_rows::Listing;
 use content_state::{NodeReads, State};
@@ -32,8 +33,8 @@ impl<'a> Drop for Asked<'a> {
     }
 }
 
-/// What places the nodes that the listing has, in their order. Nodes are read with its term alone, where it has one, else of
-/// its types alone, where it has any.
+/// What places the nodes that the listing has, in their order. Nodes are read with its term or a descendant of it alone, where
+/// it has one, else of its types alone, where it has any.
 pub fn chosen<L: Ledger>(
     alloc: Global,
     asked: &Asked<'_>,
@@ -43,12 +44,14 @@ pub fn chosen<L: Ledger>(
     ensures reads { reads.new ≤ reads.old + length (ranks_among asked.now.state.now.rows asked.now.listing.now.term asked.now.listing.now.types) }
 {
     let mut ranks = BTreeSet::new(alloc);
-    add_among(&mut ranks, asked, reads)?;
+    add_among(alloc, &mut ranks, asked, reads)?;
     Ok(ranks)
 }
 
-/// Adds the nodes with the listing's term, where it has one, else those of its types, where it has any, else all.
+/// Adds the nodes with the listing's term or a descendant of it, where it has one, else those of its types, where it has any,
+/// else all.
 fn add_among<L: Ledger>(
+    alloc: Global,
     ranks: &mut BTreeSet<NodeRank>,
     asked: &Asked<'_>,
     reads: &mut NodeReads<L>,
@@ -57,7 +60,10 @@ fn add_among<L: Ledger>(
     ensures reads { reads.new ≤ reads.old + length (ranks_among asked.now.state.now.rows asked.now.listing.now.term asked.now.listing.now.types) }
 {
     match asked.listing.term {
-        Some(term) => add_with(ranks, asked, term, reads),
+        Some(top) => {
+            let terms = terms_within(alloc, asked.state, top)?;
+            add_within(ranks, asked, &terms, reads)
+        }
         None => match asked.listing.types.as_slice() {
             [] => add_all(ranks, asked, reads),
             [_, ..] => add_of(ranks, asked, asked.listing.types.as_slice(), reads),
@@ -65,7 +71,7 @@ fn add_among<L: Ledger>(
     }
 }
 
-/// Adds the node of a rank, where the listing has it.
+/// Adds the node of a rank, where it is what the listing asks for.
 fn add_rank<L: Ledger>(
     ranks: &mut BTreeSet<NodeRank>,
     asked: &Asked<'_>,
@@ -82,15 +88,31 @@ fn add_rank<L: Ledger>(
     Ok(())
 }
 
-/// Whether the listing has the node of a rank, which is read.
+/// Whether the node of a rank, which is read, is what the listing asks for, but for its term.
 fn is_there<L: Ledger>(asked: &Asked<'_>, rank: &NodeRank, reads: &mut NodeReads<L>) -> bool
     ensures there { result ≡ passes asked.now.state.now.rows asked.now.listing.now asked.now.moment rank.now }
     ensures reads { reads.new ≡ reads.old + 1 }
 {
     match asked.state.node_counted(rank.id.0, reads) {
-        Some(node) => is_listed(asked.listing, asked.moment, node),
+        Some(node) => is_fit(asked.listing, asked.moment, node),
         None => false,
     }
+}
+
+/// Adds the nodes with any of some terms.
+fn add_within<L: Ledger>(
+    ranks: &mut BTreeSet<NodeRank>,
+    asked: &Asked<'_>,
+    terms: &BTreeSet<u32>,
+    reads: &mut NodeReads<L>,
+) -> Result<(), AllocError>
+    ensures ranks { OnOk result (ranks.new.keys ≡ fold (insert_key rank_cmp) ranks.old.keys (filter (passes asked.now.state.now.rows asked.now.listing.now asked.now.moment) (flat_map (ranks_with asked.now.state.now.rows) terms.now.keys))) }
+    ensures reads { reads.new ≤ reads.old + length (flat_map (ranks_with asked.now.state.now.rows) terms.now.keys) }
+{
+    'terms: for term in terms {
+        add_with(ranks, asked, *term, reads)?;
+    }
+    Ok(())
 }
 
 /// Adds the nodes with a term.

@@ -2,6 +2,7 @@
 //! among them, and the blocks of a region with where and for whom each shows.
 #![tactic(auto)]
 
+mod below;
 mod blocks;
 mod chosen;
 mod front;

@@ -1,15 +1,13 @@
 //! The nodes of a listing.
-ghost use Rattle.std.specs.Prelude.{◌≡◌, ◌==◌, ◌<◌, ◌≤◌, ◌+◌, All, IfOk, IsSome, map};
-ghost use Rattle.std.specs.List.{list_any};
-ghost use Rattle.content_state.specs.Rows.{node_of};
+ghost use Rattle.std.specs.Prelude.{◌≡◌, ◌<◌, ◌≤◌, ◌+◌, All, IfOk, IsSome, map};
+ghost use Rattle.indexed_rows.specs.Rows.{node_of};
 ghost use Rattle.site_lists.specs.Chosen.{published_count};
 ghost use Rattle.site_lists.specs.Listed.{
   candidates as listed_ids,
   term_listing as listing_of_term,
   list_tags as tags_of_types,
-  is_listed,
+  is_fit,
   is_of_types,
-  has_term,
   is_recent,
 };
 
@@ -25,8 +23,8 @@ use std::marker::Brand;
 use std::sync::ledger::{Blank, Ledger};
 
 /// The ids of the nodes that a listing has at a moment, in seconds since 1970, where access to them
-/// allows: published, promoted if the listing asks for it, of its types, with its term, and made
-/// within its span; sticky ones first, then those made later, then those of greater ids. Each node is
+/// allows: published, promoted if the listing asks for it, of its types, with its term or a descendant
+/// of it, and made within its span; sticky ones first, then those made later, then those of greater ids. Each node is
 /// there. `Err` only where memory is wanting.
 /// <https://www.drupal.org/docs/user_guide/en/views-concept.html>
 pub fn candidates(
@@ -59,8 +57,9 @@ fn candidates_from<L: Ledger>(
     candidates_counted(alloc, state, listing, moment, &mut reads)
 }
 
-/// What `candidates` gives. It reads at most as many nodes as are published with the listing's term, where it has one, else
-/// as are published of its types, by the sum over these, where it has any, else as are published.
+/// What `candidates` gives. It reads at most as many nodes as are published with the listing's term or a descendant of it, by the
+/// sum over these, where it has a term, else as are published of its types, by the sum over these, where it has any, else as
+/// are published.
 #[tactic(auto, using(crate::proofs::ChosenLaws::count_right))]
 pub fn candidates_counted<L: Ledger>(
     alloc: Global,
@@ -94,14 +93,13 @@ fn ids_of(alloc: Global, ranks: &BTreeSet<NodeRank>) -> Result<Vec<u32>, AllocEr
     Ok(ids)
 }
 
-/// Whether a listing has a node at a moment, where access to the node allows.
-pub fn is_listed(listing: &Listing, moment: u64, node: &Node) -> bool
-    ensures { result ≡ is_listed listing.now moment node.now }
+/// Whether a node is what a listing asks for at a moment, but for its term.
+pub fn is_fit(listing: &Listing, moment: u64, node: &Node) -> bool
+    ensures { result ≡ is_fit listing.now moment node.now }
 {
     node.status
         && (!listing.promoted || node.promote)
         && is_of_types(listing.types.as_slice(), &node.node_type)
-        && has_term(listing.term, node.terms.as_slice())
         && is_recent(listing.recent, moment, node.created)
 }
 
@@ -115,22 +113,6 @@ fn is_of_types(types: &[Name], node_type: &Name) -> bool
     }
 }
 
-/// Whether the terms of a node have a listing's, if it has one.
-fn has_term(term: Option<u32>, terms: &[u32]) -> bool
-    ensures { result ≡ has_term term terms.now }
-{
-    match term {
-        Some(term) => is_term_among(terms, term),
-        None => true,
-    }
-}
-
-fn is_term_among(terms: &[u32], term: u32) -> bool
-    ensures { result ≡ list_any (λ t. t == term) terms.now }
-{
-    terms.iter().any(|t| *t == term)
-}
-
 /// Whether a node was made within a span of seconds before a moment, if there is a span, and not
 /// after it.
 fn is_recent(span: Option<u32>, moment: u64, created: u64) -> bool
@@ -142,8 +124,8 @@ fn is_recent(span: Option<u32>, moment: u64, created: u64) -> bool
     }
 }
 
-/// The listing of a term: its published nodes of every type, whether promoted or not. It has no
-/// title and no path.
+/// The listing of a term: the published nodes of every type with it or a descendant of it, whether
+/// promoted or not. It has no title and no path.
 /// <https://www.drupal.org/docs/user_guide/en/structure-taxonomy.html>
 pub fn term_listing(alloc: Global, term: u32) -> Listing
     ensures { result ≡ listing_of_term term }

@@ -3,7 +3,7 @@ ghost use Rattle.std.specs.Prelude.{◌≡◌};
 ghost use Rattle.std.specs.List.{list_any};
 ghost use Rattle.std.specs.Str.{bytes_eq};
 ghost use Rattle.content_rows.specs.Permission.{anonymous, authenticated, roles_of_user};
-ghost use Rattle.content_state.specs.Rows.{user_of};
+ghost use Rattle.indexed_rows.specs.Rows.{user_of};
 ghost use Rattle.content_state.specs.Viewer.{roles_of};
 ghost use Rattle.site_lists.specs.Visible.{is_visible, is_for, is_met, has_role, is_on, is_place, front_word};
 

@@ -3,7 +3,7 @@ use Rattle.std.specs.Prelude.{◌⊎◌, Option}
 use Rattle.content_rows.specs.declared.cell.Cell.{Cell}
 use Rattle.content_rows.specs.declared.row.Row.{Row}
 use Rattle.content_state.specs.declared.ask.Viewer.{Viewer}
-use Rattle.content_state.specs.Rows.{row_at}
+use Rattle.indexed_rows.specs.Rows.{row_at}
 use Rattle.content_state.specs.Viewer.{viewer_of}
 use Rattle.page_secrets.specs.Passwords.{HaveOneUser}
 use Rattle.page_secrets.proofs.Likeness.{LookAlikeAt}

@@ -1,5 +1,5 @@
 use Rattle.std.proofs.Common.{◌∙◌, ap}
-use Rattle.content_state.specs.Rows.{menu_of}
+use Rattle.indexed_rows.specs.Rows.{menu_of}
 use Rattle.render_array.specs.Menus.{Shown, menu_view}
 use Rattle.render_array.specs.Pieces as pieces
 use Rattle.render_array.proofs.MenuLaws.{links_by}

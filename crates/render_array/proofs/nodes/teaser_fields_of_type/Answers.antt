@@ -1,5 +1,5 @@
 use Rattle.std.proofs.Common.{ap, ◌∙◌}
-use Rattle.content_state.specs.Rows.{type_of}
+use Rattle.indexed_rows.specs.Rows.{type_of}
 use Rattle.render_canvas.proofs.Fields.{has_field}
 use Rattle.render_canvas.proofs.Run.{each_none, each_item, each_all}
 use Rattle.render_array.proofs.nodes.teaser_fields_of_type.Goals as goal

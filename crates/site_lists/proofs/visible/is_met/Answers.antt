@@ -1,6 +1,6 @@
 use Rattle.std.proofs.Common.{◌∙◌, ap}
 use Rattle.std.specs.List.{list_any}
-use Rattle.content_state.specs.Rows.{user_of}
+use Rattle.indexed_rows.specs.Rows.{user_of}
 use Rattle.site_lists.specs.Visible.{has_role}
 use Rattle.site_lists.proofs.Roles.{met_by_names}
 use Rattle.site_lists.proofs.visible.is_met.Goals as goal

@@ -8,5 +8,5 @@ use Rattle.render_canvas.proofs.canvas.Canvas.candidates.Goals as goal
 pub returns-in-Ok-clause-shows : goal.returns-in-Ok-clause-shows
 unfolding candidate_rows
 returns-in-Ok-clause-shows c =
-    by_result (next _ c.by_lists.ensures done)
+    by_result (next _ c.by_lists.ensures (next _ c.by_terms.ensures done))
     (rw (← c.self.view_is) (c.in-Ok.ensures.ids ∙ sym ((candidates_answer c.args.listing.now c.args.moment _).0)))

@@ -2,7 +2,7 @@ use Rattle.std.proofs.Common.{◌≡◌, ap, sym, subst, arith}
 use Rattle.std.specs.Prelude.{Some}
 use Rattle.std.specs.Option.{IsSome}
 use Rattle.cacheability.specs.Cacheability.{merged}
-use Rattle.content_state.specs.Rows.{node_of}
+use Rattle.indexed_rows.specs.Rows.{node_of}
 use Rattle.site_access.specs.Access.{type_in, node_type_of, field_of, owner_in, access_to_found_field}
 use Rattle.site_access.specs.Depends.{found_field_depends}
 use Rattle.site_access.specs.Noting.{decision_of}

@@ -1,7 +1,7 @@
 use Rattle.std.proofs.Common.{◌≡◌, sym, ◌∙◌, ap, subst}
 use Rattle.std.specs.Prelude.{Some}
 use Rattle.cacheability.specs.declared.context.Context.TheVariants as context
-use Rattle.content_state.specs.Rows.{menu_of}
+use Rattle.indexed_rows.specs.Rows.{menu_of}
 use Rattle.content_state.specs.Context.{trail_in}
 use Rattle.render_canvas.proofs.Run.{asked}
 use Rattle.render_canvas.proofs.canvas.Canvas.trail.Goals as goal

@@ -1,7 +1,7 @@
 use Rattle.std.proofs.Common.{[], ◌++◌, ◌≡◌, ◌∙◌, sym, ap, subst, arith}
 use Rattle.std.specs.Prelude.{All}
 use Rattle.std.specs.Option.{IsSome}
-use Rattle.content_state.specs.Rows.{node_of}
+use Rattle.indexed_rows.specs.Rows.{node_of}
 use Rattle.site_access.specs.Viewing.{viewable_of}
 use Rattle.content_state.specs.Context.{Visit}
 use Rattle.render_canvas.proofs.Taken.{nodes_noted}
