@@ -3,6 +3,7 @@ use Rattle.std.proofs.Common.{ℕ, List, [], ◌∷◌, ◌++◌, ◌≡◌, ◌
 use Rattle.std.proofs.lemmas.Grind.{take_at_read}
 use Rattle.std.specs.Prelude.{sum_by}
 use Rattle.std.proofs.lemmas.List.Sums.{sum_by-append, sum_by-cons}
+use Rattle.cacheability.specs.declared.cacheability.Cacheability.{Cacheability}
 use Rattle.html_out.specs.declared.part.Segment.{Segment}
 use Rattle.html_out.specs.Part.{Part, Text, Hole as Open}
 use Rattle.html_out.specs.Segment.{part_of, parts_of}
@@ -20,8 +21,10 @@ use Rattle.render_canvas.specs.Canvas.{Keeps}
 use Rattle.render_array.specs.Whole.{count_with}
 use Rattle.render_canvas.proofs.BoardLaws.{finished, pieces_of-append, places-append, places_of_bytes}
 use Rattle.render_canvas.proofs.Run.{Keeps-refl, Keeps-trans, Made-kept}
+use Rattle.render_array.specs.Built.{TellsExactly}
 use Rattle.renderer.specs.declared.filled.Filled.{Filled}
-use Rattle.renderer.specs.Filled.{needs_of, IsWhole, Appends, Takes, Joins}
+use Rattle.renderer.specs.Filled.{needs_of, met_in, TellsMore, IsWhole, Appends, Takes, Joins}
+use Rattle.renderer.proofs.Telling.{tells_none, tells_places, tells_open, tells_one, tells_child, tells_filled}
 
 -- what fills places stays so where more is needed
 pub fills_kept : (fill : Filling) (v : Visit) (old new : Needs) (outer shown : List Piece) (attached : List Library) → Keeps old new → Fills fill v old outer shown attached → Fills fill v new outer shown attached
@@ -105,6 +108,7 @@ joins_none fill counts v f = record {
   not_over = λ h. h;
   status = refl;
   fills = (refl, refl);
+  told = tells_none f.cacheability f.cacheability refl;
   counted = λ count is. is ∙ min_zero count;
 }
 
@@ -121,6 +125,7 @@ joins_then fill counts v a b old mid new first second = record {
   status = second.status ∙ first.status;
   fills = fills_append fill v (needs_of new) a b first.shown second.shown first.attached second.attached
       (fills_kept fill v (needs_of mid) (needs_of new) a first.shown first.attached second.kept first.fills) second.fills;
+  told = tells_places fill v (open_places a) (open_places b) (open_places (a ++ b)) old.cacheability mid.cacheability new.cacheability (places-append a b) first.told second.told;
   counted = λ count is.
       second.counted (count + sum_by counts (open_places a)) (first.counted count is)
       ∙ ap (λ n. min n 18446744073709551615) (total count);
@@ -160,6 +165,7 @@ joins_bytes fill counts v bs old new a = subst (λ p. Joins fill counts v p old 
   not_over = λ h. subst (λ n. v.moment ≤ n) (sym a.last) h;
   status = a.status;
   fills = fills_bytes fill v (needs_of new) bs;
+  told = subst (λ hs. TellsMore (met_in fill v hs) old.cacheability new.cacheability) (sym (places_of_bytes bs)) (tells_none old.cacheability new.cacheability a.cacheability);
   counted = λ count is. a.built ∙ is ∙ min_zero count
       ∙ ap (λ n. min (count + n) 18446744073709551615) (sym (ap (sum_by counts) (places_of_bytes bs)));
 })
@@ -175,6 +181,7 @@ joins_open fill counts v h old new stays count a = record {
   not_over = λ x. subst (λ n. v.moment ≤ n) (sym a.last) x;
   status = a.status;
   fills = subst (λ o. FillsPlace o v (needs_of new) h (Fills fill v (needs_of new) []) (Place h ∷ []) []) (sym stays) (record { rest = []; shown_is = refl; follows = (refl, refl) });
+  told = tells_open fill v h old.cacheability new.cacheability stays a.cacheability;
   counted = λ total is. a.built ∙ is ∙ min_zero total
       ∙ ap (λ n. min (total + n) 18446744073709551615) (sym (one_place counts h ∙ count));
 }
@@ -202,6 +209,7 @@ joins_child fill counts v h p count child old new stands count_is whole takes = 
         (record { tags = λ t g. (takes.tags t).1 (inr g); contexts = λ c g. (takes.contexts c).1 (inr g); last = least_second new.last old.last child.last takes.last }) made.made;
     follows = (refl, refl);
   });
+  told = tells_one fill v h p old.cacheability new.cacheability stands (tells_child p v count child old new whole takes);
   counted = λ total is. total_of new.built old.built child.built total count takes.built is whole.counted
       ∙ ap (λ n. min (total + n) 18446744073709551615) (sym (one_place counts h ∙ count_is));
 }
@@ -238,6 +246,9 @@ whole_of fill counts v p b old new builds segments libraries cacheability last s
         (subst (λ l. SameMembers (l ++ joins.attached) new.libraries.items) libraries (record { there = joins.libraries.back; back = joins.libraries.there }));
   };
   not_over = joins.not_over (subst (λ n. v.moment ≤ n) (sym last) builds.not_over);
+  exact = tells_filled fill v p old.cacheability new.cacheability
+      (subst (λ (c : Cacheability). TellsExactly p v c) (sym cacheability) builds.exact)
+      (subst (λ hs. TellsMore (met_in fill v hs) old.cacheability new.cacheability) builds.places joins.told);
   counted = joins.counted 1 one ∙ ap (λ l. min (1 + sum_by counts l) 18446744073709551615) builds.places;
 }
   where

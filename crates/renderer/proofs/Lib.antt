@@ -1,3 +1,4 @@
+pub mod Telling
 pub mod Joining
 pub mod Standing
 pub mod Texts

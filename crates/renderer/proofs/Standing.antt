@@ -67,7 +67,7 @@ pub record StaysAt (below : ℕ) (v : Visit) (h : Hole) : Type 0 where
   pub fill : shown_below below h ≡ None
   pub count : count_below below v h ≡ 0
 
-empty_at : (below : ℕ) (v : Visit) (h : Hole) → plan_at h ≡ None → StaysAt below v h
+pub empty_at : (below : ℕ) (v : Visit) (h : Hole) → plan_at h ≡ None → StaysAt below v h
 empty_at below v h none = elim (leb_tells (suc (level h)) below) [
   | inl e ↦ record {
     fill = some_below below (level h) h refl e.1 ∙ ap (option_map (filled_in (shown_below (level h)))) none;

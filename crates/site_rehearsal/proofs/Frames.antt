@@ -3,7 +3,10 @@ use Rattle.std.proofs.Common.{ℕ, List, [], ◌∷◌, ◌++◌, ◌≡◌, ref
 use Rattle.std.specs.Prelude.{if◌then◌else◌, option_map, sum_by}
 use Rattle.std.proofs.lemmas.List.Sums.{sum_by-cons}
 use Rattle.cacheability.specs.declared.cacheability.Cacheability.{Cacheability}
+use Rattle.cacheability.specs.declared.max_age.MaxAge.TheVariants.{Permanent}
 use Rattle.cacheability.specs.declared.tag.Tag.{Tag}
+use Rattle.cacheability.specs.InOrder.{HasBoth}
+use Rattle.cacheability.specs.MaxAge.{least}
 use Rattle.content_rows.specs.declared.row.Block.{Block}
 use Rattle.content_rows.specs.declared.row.BlockKind.{BlockKind}
 use Rattle.content_rows.specs.declared.row.BlockKind.TheVariants as kind
@@ -20,23 +23,25 @@ use Rattle.content_state.specs.declared.element.Depth.TheVariants as depth
 use Rattle.html_out.specs.Part.{Part as OfSegment}
 use Rattle.content_state.specs.Read.{answer, cover, BlockRow}
 use Rattle.content_state.specs.Context.{Visit}
-use Rattle.content_state.specs.Met.{met, result_of}
+use Rattle.content_state.specs.Met.{Met, met, met_both, met_nothing, result_of}
 use Rattle.content_state.specs.Plan.{Piece, Place, Plan, Done, Write, Attach, Reading, Asking, Clock, Part, Needs, Made, AllIn, part, reading}
 use Rattle.content_state.specs.Places.{filled_in, Fills, FillsPlace, SameMembers, MakesWhole}
 use Rattle.content_state.proofs.Filled.{in_append, in_left, in_right, same_refl, same_trans, filled}
 use Rattle.content_state.proofs.Made.{Made-then}
+use Rattle.content_state.proofs.Meets.{least_permanent, met-bind}
 use Rattle.page_meaning.specs.Lazy.{Tells, is_lazy_listing, is_lazy_kind, is_lazy_block, is_lazy}
 use Rattle.page_meaning.specs.Meaning.{open_if, in_frame as shown_in_frame, framed, FramesAreFilled}
 use Rattle.render_canvas.specs.Board.{pieces_of}
 use Rattle.render_canvas.specs.Canvas.{Keeps}
-use Rattle.render_canvas.proofs.Run.{Keeps-trans, Made-kept}
+use Rattle.render_canvas.proofs.Run.{Keeps-trans, Made-kept, both_none}
 use Rattle.render_array.specs.declared.element.Element.TheVariants as element
 use Rattle.render_array.specs.Whole.{shown_below, count_below, whole, element_count}
 use Rattle.renderer.specs.declared.filled.Filled.{Filled}
-use Rattle.renderer.specs.Filled.{needs_of, IsWhole, Appends, Takes, Joins}
+use Rattle.renderer.specs.Filled.{needs_of, met_in, TellsMore, IsWhole, Appends, Takes, Joins}
 use Rattle.renderer.proofs.Joining.{keeps_same, joins_open, joins_child}
 use Rattle.renderer.proofs.Standing.{StandsAt, stands}
-use Rattle.site_rehearsal.specs.Framing.{Makes, Begins, TellsOpen, in_frame, stays_open, count_in_frame}
+use Rattle.renderer.proofs.Telling.{tells_none, tells_then, tells_one, tells_child}
+use Rattle.site_rehearsal.specs.Framing.{Makes, FillsFrame, Begins, TellsOpen, in_frame, stays_open, count_in_frame}
 
 -- ---- whether a block is lazy
 
@@ -88,6 +93,32 @@ reads_made (Attach l k) v needs only tags = absurd only
 reads_made (Clock age k) v needs only tags = absurd only
 reads_made (Part h k) v needs only tags = absurd only
 
+-- nothing but tags is met where only rows are read
+reads_contexts : {A : Type 0} (p : Plan A) (v : Visit) → OnlyReads p v → (met p v).contexts ≡ []
+reads_contexts (Done a) v only = refl
+reads_contexts (Reading r k) v only = reads_contexts (k (answer v.rows r)) v only
+reads_contexts (Asking c k) v only = absurd only
+reads_contexts (Write bs k) v only = absurd only
+reads_contexts (Attach l k) v only = absurd only
+reads_contexts (Clock age k) v only = absurd only
+reads_contexts (Part h k) v only = absurd only
+
+reads_age : {A : Type 0} (p : Plan A) (v : Visit) → OnlyReads p v → (met p v).age ≡ Permanent
+reads_age (Done a) v only = refl
+reads_age (Reading r k) v only = reads_age (k (answer v.rows r)) v only
+reads_age (Asking c k) v only = absurd only
+reads_age (Write bs k) v only = absurd only
+reads_age (Attach l k) v only = absurd only
+reads_age (Clock age k) v only = absurd only
+reads_age (Part h k) v only = absurd only
+
+lazy_tells : (name : List ℕ) (v : Visit) (old new : Cacheability) (lazy : Bool) → Tells (is_lazy name) v old lazy new → TellsMore (met (is_lazy name) v) old new
+lazy_tells name v old new lazy tells = record {
+  tags = tells.tags;
+  contexts = subst (λ cs. HasBoth old.contexts cs new.contexts) (sym (reads_contexts (is_lazy name) v (only_reads name v))) (both_none old.contexts new.contexts tells.contexts);
+  age = tells.age ∙ sym (least_permanent old.max_age) ∙ ap (least old.max_age) (sym (reads_age (is_lazy name) v (only_reads name v)));
+}
+
 lazy_made : (name : List ℕ) (v : Visit) (old mid : Cacheability) (lazy : Bool) (needs : Needs) → Tells (is_lazy name) v old lazy mid → ((t : Tag) → Contains mid.tags t → Contains needs.tags t) → Made (is_lazy name) v lazy [] [] needs
 lazy_made name v old mid lazy needs tells held =
     subst (λ b. Made (is_lazy name) v b [] [] needs) (sym tells.result)
@@ -105,6 +136,9 @@ pub record Told (v : Visit) (f : Fragment) (left : Bool) (old mid : Filled) : Ty
   pub last : mid.last ≡ old.last
   pub status : mid.status ≡ old.status
   pub built : mid.built ≡ old.built
+  pub asked : Met
+  pub tells : TellsMore asked old.cacheability mid.cacheability
+  pub meets : (p : Plan (Option ℕ)) → met (shown_in_frame f p) v ≡ met_both asked (met (open_if left f p) v)
   pub made : (p : Plan (Option ℕ)) (status : Option ℕ) (own : List Piece) (attached : List Library) (needs : Needs) → ((t : Tag) → Contains mid.cacheability.tags t → Contains needs.tags t)
       → Made (open_if left f p) v status own attached needs → Made (shown_in_frame f p) v status own attached needs
 
@@ -118,6 +152,9 @@ told_kept v f left old mid closed stays same is = record {
   last = ap (λ (x : Filled). x.last) is;
   status = ap (λ (x : Filled). x.status) is;
   built = ap (λ (x : Filled). x.built) is;
+  asked = met_nothing;
+  tells = tells_none old.cacheability mid.cacheability (ap (λ (x : Filled). x.cacheability) is);
+  meets = λ p. ap (λ (g : Plan (Option ℕ) → Plan (Option ℕ)). met (g p) v) same ∙ ap (λ b. met (open_if b f p) v) (sym closed);
   made = λ p status own attached needs held made.
       subst (λ (g : Plan (Option ℕ) → Plan (Option ℕ)). Made (g p) v status own attached needs) (sym same)
       (subst (λ b. Made (open_if b f p) v status own attached needs) closed made);
@@ -136,6 +173,10 @@ told_open state v (fragment.Block name) left old c rows tells = record {
   last = refl;
   status = refl;
   built = refl;
+  asked = met (is_lazy name) v;
+  tells = lazy_tells name v old.cacheability c left (tells v rows);
+  meets = λ p. met-bind (is_lazy name) (λ lazy. open_if lazy (fragment.Block name) p) v
+      ∙ ap (λ b. met_both (met (is_lazy name) v) (met (open_if b (fragment.Block name) p) v)) (sym (tells v rows).result);
   made = λ p status own attached needs held made.
       Made-then (is_lazy name) (λ lazy. open_if lazy (fragment.Block name) p) v left status [] own [] attached needs
       (lazy_made name v old.cacheability c left needs (tells v rows) held) made;
@@ -197,6 +238,20 @@ left_open : (v : Visit) (f : Fragment) (p : Plan (Option ℕ)) (needs : Needs) �
 unfolding part
 left_open v f p needs = ([], refl, (refl, refl, refl))
 
+-- what is met there is told
+tells_there : (v : Visit) (path : List ℕ) (f : Fragment) (left : Bool) (old mid : Filled) (new : Cacheability) → Told v f left old mid → TellsMore (met (open_if left f (whole path (element.Fragment f))) v) mid.cacheability new
+    → TellsMore (met_in in_frame v (hole.Fragment f ∷ [])) old.cacheability new
+tells_there v path f left old mid new told there =
+    tells_one in_frame v (hole.Fragment f) (shown_in_frame f (whole path (element.Fragment f))) old.cacheability new
+    (ap (option_map (shown_in_frame f)) (stands_there f path v).fill)
+    (subst (λ (m : Met). TellsMore m old.cacheability new) (sym (told.meets (whole path (element.Fragment f))))
+    (tells_then told.asked (met (open_if left f (whole path (element.Fragment f))) v) old.cacheability mid.cacheability new told.tells there))
+
+open_tells : (v : Visit) (f : Fragment) (p : Plan (Option ℕ)) (old new : Cacheability) → new ≡ old → TellsMore (met (open_if true f p) v) old new
+unfolding part
+open_tells v f p old new same =
+    let none = tells_none old new same in record { tags = none.tags; contexts = none.contexts; age = none.age }
+
 -- a lazy block's place stays open
 pub joins_lazy : (v : Visit) (path : List ℕ) (f : Fragment) (old mid new : Filled) → Told v f true old mid → Appends (Place (hole.Fragment f) ∷ []) mid new → Joins in_frame (count_in_frame v) v (Place (hole.Fragment f) ∷ []) old new
 joins_lazy v path f old mid new told a = record {
@@ -211,6 +266,7 @@ joins_lazy v path f old mid new told a = record {
   fills = fills_one v (needs_of new) f (whole path (element.Fragment f)) None (Place (hole.Fragment f) ∷ []) [] (stands_there f path v).fill
       (told.made (whole path (element.Fragment f)) None (Place (hole.Fragment f) ∷ []) [] (needs_of new)
       (λ t h. subst (λ (c : Cacheability). Contains c.tags t) (sym a.cacheability) h) (left_open v f (whole path (element.Fragment f)) (needs_of new)));
+  told = tells_there v path f true old mid new.cacheability told (open_tells v f (whole path (element.Fragment f)) mid.cacheability new.cacheability a.cacheability);
   counted = λ n is. (let one = counts_one v f true told.open_is in let before = told.built in let then_built = a.built in omega arith);
 }
 
@@ -245,6 +301,7 @@ joins_fragment v path f child old mid new told is takes = record {
   status = j.status ∙ told.status;
   fills = refills v (needs_of new) (hole.Fragment f) (shown_in_frame f) (whole path (element.Fragment f)) (shown_below 5 (hole.Fragment f)) j.shown j.attached s.fill
       (λ status own libraries made. told.made (whole path (element.Fragment f)) status own libraries (needs_of new) j.kept.tags made) j.fills;
+  told = tells_there v path f false old mid new.cacheability told (tells_child (whole path (element.Fragment f)) v (element_count path v (element.Fragment f)) child mid new is takes);
   counted = λ n same.
       let counts = j.counted n (told.built ∙ same) in
       let one = counts_one v f false told.open_is in
@@ -296,5 +353,16 @@ page_of_frame law path v frame old new is begins joins = record {
     full = filled (shown_below 5) (framed path) v frame.status (pieces_of frame.segments) is.makes.attached (needs_of new) joins.shown joins.attached
         (Made-kept (framed path) v frame.status (pieces_of frame.segments) is.makes.attached (needs_of frame) (needs_of new) kept is.makes.made) joins.fills
 
+    shown_is : pieces_of new.segments ≡ joins.shown
+    shown_is = joins.appended ∙ ap (λ (s : List (OfSegment Hole)). pieces_of s ++ joins.shown) begins.segments
+
+-- and it shows the frame, its places filled in
+pub fills_frame : (v : Visit) (frame old new : Filled) → Begins frame old → Joins (shown_below 5) (count_below 5 v) v (pieces_of frame.segments) old new → FillsFrame v frame new
+fills_frame v frame old new begins joins = record {
+  attached = joins.attached;
+  libraries = subst (λ (l : List Library). SameMembers new.libraries.items (l ++ joins.attached)) begins.libraries joins.libraries;
+  fills = subst (λ (s : List Piece). Fills (shown_below 5) v (needs_of new) (pieces_of frame.segments) s joins.attached) (sym shown_is) joins.fills;
+}
+  where
     shown_is : pieces_of new.segments ≡ joins.shown
     shown_is = joins.appended ∙ ap (λ (s : List (OfSegment Hole)). pieces_of s ++ joins.shown) begins.segments

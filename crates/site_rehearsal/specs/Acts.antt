@@ -1,12 +1,15 @@
 -- What each act of a requester answers, and what it leaves.
 -- https://www.drupal.org/docs/drupal-apis/cache-api/cache-api
-use Rattle.std.specs.Prelude.{ℕ, List, ◌≡◌, ◌↔◌, Bool, true, false, Option, Some, None, Ok, IsTrue}
+use Rattle.std.specs.Prelude.{ℕ, List, ◌++◌, ◌≡◌, ◌≤◌, ◌↔◌, Bool, true, false, Option, Some, None, Ok, IsTrue}
 use Rattle.std.specs.Arc.{arc_value}
 use Rattle.content_state.specs.State.{State}
 use Rattle.content_state.specs.Viewer.{viewer_of}
 use Rattle.content_state.specs.declared.ask.Ask.{Ask}
 use Rattle.content_state.specs.declared.element.Library.{Library}
-use Rattle.content_state.specs.Plan.{Piece, Shows}
+use Rattle.content_state.specs.Context.{Visit}
+use Rattle.content_state.specs.Plan.{Piece, Plan, Needs, Shows}
+use Rattle.content_state.specs.Places.{Filling, Fills}
+use Rattle.cacheability.specs.declared.cacheability.Cacheability.{Cacheability}
 use Rattle.cacheability.specs.declared.context.Context.{Context}
 use Rattle.site_commands.specs.declared.answer.Answer.{Answer}
 use Rattle.site_commands.specs.declared.answer.Answer.TheVariants as answer
@@ -16,18 +19,21 @@ use Rattle.cache_entries.specs.declared.kept.Bin.{Bin}
 use Rattle.cache_entries.specs.declared.kept.Bin.TheVariants as bin
 use Rattle.cache_entries.specs.declared.kept.Found.{Found}
 use Rattle.cache_entries.specs.declared.kept.Found.TheVariants as found
-use Rattle.cache_entries.specs.Entries.{IsFresh}
+use Rattle.cache_entries.specs.Entries.{IsFresh, pieces_of}
 use Rattle.fragment_cache.specs.Bins.{Bins, Thing, Whole, Towards, LooksIn, KeepsIn}
 use Rattle.element_entries.specs.Keeping.{second_contexts}
+use Rattle.element_entries.specs.Making.{Bubbles}
+use Rattle.page_meaning.specs.Meaning.{meaning}
 use Rattle.render_array.specs.declared.element.Element.{Element}
 use Rattle.render_array.specs.declared.element.Element.TheVariants as element
-use Rattle.render_array.specs.Whole.{whole}
+use Rattle.render_array.specs.Built.{TellsExactly}
+use Rattle.render_array.specs.Whole.{whole, shown_below, element_level}
 use Rattle.render_array.specs.Shown.{visit_of, meta_text, IsFilled}
 use Rattle.site_hall.specs.Stock.{bins_in}
 use Rattle.site_hall.specs.Hall.{HallView, with_stock, number_of, Answers}
 use Rattle.site_hall.specs.Looked.{IsSoundIn, LooksUp}
 use Rattle.site_hall.specs.Ready.{newest_of_hall}
-use Rattle.site_rehearsal.specs.Seats.{Draft, Seat, IsMade, key_by, first_of}
+use Rattle.site_rehearsal.specs.Seats.{Draft, Seat, IsMade, visit_of_draft, key_by, first_of}
 use Rattle.site_rehearsal.specs.declared.turn.Act.{Act}
 use Rattle.site_rehearsal.specs.declared.turn.Act.TheVariants as act
 use Rattle.site_rehearsal.specs.declared.turn.Reply.{Reply}
@@ -68,6 +74,29 @@ pub record IsBuiltFor (element : Element) (state : State) (ask : Ask) (now : ℕ
   pub moment_is : draft.entry.made_moment ≡ now
   pub subject_is : draft.subject ≡ subject_of element ask
   pub bin_is : draft.bin ≡ bin_of element
+
+-- What is kept says what bubbles of just what its plan met on a visit: no tag, no context and no age of anything else.
+pub record SaysJust (p : Plan (Option ℕ)) (v : Visit) (said : Cacheability) : Type 0 where
+  pub needed : Cacheability
+  pub exact : TellsExactly p v needed
+  pub bubbles : Bubbles v needed said
+
+abbrev pub SaysAll : Draft → Type 0
+SaysAll draft = SaysJust (meaning draft.subject) (visit_of_draft draft) draft.entry.cacheability
+
+-- Pieces whose places are filled in by what stands there on a visit, with these libraries and those of the places, are this text.
+pub record FillsText (fill : Filling) (v : Visit) (pieces : List Piece) (libraries : List Library) (text : List ℕ) : Type 0 where
+  pub shown : List Piece
+  pub attached : List Library
+  pub needs : Needs
+  pub not_over : v.moment ≤ needs.last
+  pub fills : Fills fill v needs pieces shown attached
+  pub filled : IsFilled (meta_text (libraries ++ attached)) shown text
+
+-- the entry's text, its places filled in, is the text that was told
+abbrev pub IsTextOf : Element → Draft → List ℕ → Type 0
+IsTextOf element draft text =
+    FillsText (shown_below (element_level element)) (visit_of_draft draft) (pieces_of draft.entry.segments) draft.entry.libraries text
 
 -- ---- keeping
 
@@ -124,7 +153,7 @@ Acts (act.Look bin key ask now) (reply.Look found fresh) n old seat new seat' =
     × (seat' ≡ seat)
 Acts (act.Build element ask now) (reply.Build text) n old seat new seat' =
     (new ≡ old) × IsShownAs element seat.state ask now text
-    × ((draft : Draft) × IsBuiltFor element seat.state ask now draft × IsMade draft
-    × (seat' ≡ record seat { built = Some draft }))
+    × ((draft : Draft) × IsBuiltFor element seat.state ask now draft × IsMade draft × SaysAll draft
+    × IsTextOf element draft text × (seat' ≡ record seat { built = Some draft }))
 Acts act.Keep (reply.Keep kept) n old seat new seat' = KeepsBuilt seat.built kept old new × (seat' ≡ seat)
 Acts _ _ n old seat new seat' = ⊥

@@ -1,14 +1,16 @@
 -- Elements that were put together, on the way to what is kept of them.
-use Rattle.std.specs.Prelude.{ℕ, List}
+use Rattle.std.specs.Prelude.{ℕ, List, ◌≡◌}
 use Rattle.content_state.specs.State.{State}
 use Rattle.content_state.specs.declared.ask.Ask.{Ask}
 use Rattle.content_state.specs.declared.ask.Viewer.{Viewer}
 use Rattle.content_state.specs.Places.{MakesWhole}
 use Rattle.cache_contexts.specs.Values.{visit_on}
+use Rattle.cache_entries.specs.declared.entry.Entry.{Entry}
 use Rattle.cache_entries.specs.Entries.{IsClosed}
 use Rattle.page_meaning.specs.Meaning.{meaning}
 use Rattle.render_canvas.specs.Board.{pieces_of}
 use Rattle.render_array.specs.declared.element.Element.{Element}
+use Rattle.render_array.specs.Built.{TellsExactly}
 use Rattle.render_array.specs.Shown.{meta_text, OnlyMeta, IsFilled}
 use Rattle.renderer.specs.declared.filled.Filled.{Filled}
 use Rattle.renderer.specs.Filled.{needs_of}
@@ -23,6 +25,12 @@ joined_of f = record { segments = f.segments; cacheability = f.cacheability; lib
 pub record IsKeptOf (element : Element) (state : State) (viewer : Viewer) (ask : Ask) (now : ℕ) (f : Filled) : Type 0 where
   pub makes : MakesWhole (meaning (subject_of element ask)) (visit_on state viewer ask now) f.status (pieces_of f.segments) f.libraries.items (needs_of f)
   pub closed : IsClosed (subject_of element ask) (pieces_of f.segments)
+  pub exact : TellsExactly (meaning (subject_of element ask)) (visit_on state viewer ask now) f.cacheability
+
+-- its entry has what is shown and attached
+pub record HasTextOf (f : Filled) (e : Entry) : Type 0 where
+  pub segments : e.segments ≡ f.segments
+  pub libraries : e.libraries ≡ f.libraries.items
 
 -- the text of it, where no place but that of the libraries is open
 abbrev pub IsText : Filled → List ℕ → Type 0

@@ -1,15 +1,16 @@
 -- The page of a path as it is kept for whoever views it, under way and done.
-use Rattle.std.specs.Prelude.{ℕ, [], ◌≡◌, ◌≤◌, Bool, false, Option, if◌then◌else◌}
+use Rattle.std.specs.Prelude.{ℕ, List, [], ◌++◌, ◌≡◌, ◌≤◌, Bool, false, Option, if◌then◌else◌}
 use Rattle.cacheability.specs.declared.cacheability.Cacheability.{Cacheability}
 use Rattle.content_state.specs.State.{State}
 use Rattle.content_state.specs.declared.element.Fragment.{Fragment}
 use Rattle.content_state.specs.declared.element.Fragment.TheVariants as fragment
 use Rattle.content_state.specs.declared.element.Hole.{Hole}
 use Rattle.content_state.specs.declared.element.Hole.TheVariants as hole
+use Rattle.content_state.specs.declared.element.Library.{Library}
 use Rattle.content_state.specs.Context.{Visit}
 use Rattle.content_state.specs.Met.{result_of}
 use Rattle.content_state.specs.Plan.{Plan}
-use Rattle.content_state.specs.Places.{Filling, MakesWhole}
+use Rattle.content_state.specs.Places.{Filling, Fills, SameMembers, MakesWhole}
 use Rattle.page_meaning.specs.Lazy.{is_lazy, TellsOn}
 use Rattle.page_meaning.specs.Meaning.{for_everybody}
 use Rattle.render_canvas.specs.Board.{pieces_of}
@@ -47,6 +48,12 @@ TellsOpen state (fragment.Menu name) old left new = (left ≡ false) × (new ≡
 TellsOpen state (fragment.Listing name where_placed) old left new = (left ≡ false) × (new ≡ old)
 TellsOpen state (fragment.TermListing t) old left new = (left ≡ false) × (new ≡ old)
 TellsOpen state (fragment.Node n mode) old left new = (left ≡ false) × (new ≡ old)
+
+-- the whole page shows the frame, its places filled in, and attaches its libraries and theirs
+pub record FillsFrame (v : Visit) (frame page : Filled) : Type 0 where
+  pub attached : List Library
+  pub libraries : SameMembers page.libraries.items (frame.libraries.items ++ attached)
+  pub fills : Fills (shown_below (element_level element.Page)) v (needs_of page) (pieces_of frame.segments) (pieces_of page.segments) attached
 
 -- what was put together so far, with nothing shown yet
 pub record Begins (from new : Filled) : Type 0 where

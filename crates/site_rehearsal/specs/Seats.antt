@@ -6,6 +6,7 @@ use Rattle.content_state.specs.declared.ask.Ask.{Ask}
 use Rattle.content_state.specs.declared.ask.Viewer.{Viewer}
 use Rattle.content_state.specs.declared.commit.Commit.{Commit}
 use Rattle.content_state.specs.Ask.{IsAsk}
+use Rattle.content_state.specs.Context.{Visit}
 use Rattle.cacheability.specs.declared.context.Context.{Context}
 use Rattle.cache_contexts.specs.Values.{visit_on, valued}
 use Rattle.cache_entries.specs.declared.entry.Entry.{Entry}
@@ -25,12 +26,13 @@ pub record Draft : Type 0 where
   pub subject : Subject
   pub entry : Entry
 
+-- the visit that it was built for
+abbrev pub visit_of_draft : Draft → Visit
+visit_of_draft draft = visit_on draft.state draft.viewer draft.ask draft.entry.made_moment
+
 -- its key, with the values that these contexts had
 abbrev pub key_by : Draft → List Context → Key
-key_by draft contexts = record {
-  subject = draft.subject;
-  values = map (valued (visit_on draft.state draft.viewer draft.ask draft.entry.made_moment)) contexts;
-}
+key_by draft contexts = record { subject = draft.subject; values = map (valued (visit_of_draft draft)) contexts }
 
 -- the contexts of its first key
 abbrev pub first_of : Draft → List Context

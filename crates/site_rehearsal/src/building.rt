@@ -6,10 +6,12 @@ ghost use Rattle.content_state.specs.Viewer.{viewer_of as named_viewer};
 ghost use Rattle.element_entries.specs.Making.{IsEntryOf};
 ghost use Rattle.page_meaning.specs.Meaning.{framed};
 ghost use Rattle.render_array.specs.declared.element.Element.TheVariants as element_is;
+ghost use Rattle.render_array.specs.Whole.{shown_below, element_level};
+ghost use Rattle.render_canvas.specs.Board.{pieces_of};
 ghost use Rattle.site_rehearsal.specs.Visitors.{visit};
 ghost use Rattle.site_rehearsal.specs.Seats.{IsMade};
-ghost use Rattle.site_rehearsal.specs.Acts.{subject_of, bin_of, IsShownAs, IsBuiltFor};
-ghost use Rattle.site_rehearsal.specs.Building.{joined_of, IsKeptOf, IsText};
+ghost use Rattle.site_rehearsal.specs.Acts.{subject_of, bin_of, IsShownAs, IsBuiltFor, SaysAll, FillsText, IsTextOf};
+ghost use Rattle.site_rehearsal.specs.Building.{joined_of, IsKeptOf, HasTextOf, IsText};
 ghost use Rattle.site_rehearsal.specs.Framing.{Makes};
 
 use crate::framing::{frame, whole_page};
@@ -69,7 +71,8 @@ fn text_of(alloc: Global, filled: &Filled) -> Result<Text, AllocError>
 fn page_text(alloc: Global, visitor: &Visitor<'_>, frame: &Filled) -> Result<Text, AllocError>
     requires viewer { visitor.now.viewer.now ≡ named_viewer visitor.now.state.now.rows visitor.now.ask.now.cookie visitor.now.moment }
     requires frame { Makes (framed visitor.now.ask.now.path) (visit visitor.now) frame.now }
-    ensures { IfOk result (λ text. IsShownAs element_is.Page visitor.now.state.now visitor.now.ask.now visitor.now.moment text) }
+    ensures shown { IfOk result (λ text. IsShownAs element_is.Page visitor.now.state.now visitor.now.ask.now visitor.now.moment text) }
+    ensures filled { IfOk result (λ text. FillsText (shown_below (element_level element_is.Page)) (visit visitor.now) (pieces_of frame.now.segments) frame.now.libraries.items text) }
 {
     let page = whole_page(alloc, visitor, frame)?;
     text_of(alloc, &page)
@@ -123,6 +126,8 @@ fn draft_of(
     requires kept { IsKeptOf element (arc_value state.now) viewer.now ask.now now filled }
     ensures built { IfOk result (λ draft. IsBuiltFor element (arc_value state.now) ask.now now draft) }
     ensures made { IfOk result (λ draft. IsMade draft) }
+    ensures says { IfOk result (λ draft. SaysAll draft) }
+    ensures has { IfOk result (λ draft. HasTextOf filled draft.entry) }
 {
     let account = Account::new(alloc, state, viewer)?;
     let reader = Reader::new(state, &account, ask, now);
@@ -158,6 +163,8 @@ fn built_fragment(
     ensures shown { IfOk result (λ made. IsShownAs (element_is.Fragment fragment.now) (arc_value state.now) ask.now now made.1) }
     ensures built { IfOk result (λ made. IsBuiltFor (element_is.Fragment fragment.now) (arc_value state.now) ask.now now made.0) }
     ensures made { IfOk result (λ made. IsMade made.0) }
+    ensures says { IfOk result (λ made. SaysAll made.0) }
+    ensures text { IfOk result (λ made. IsTextOf (element_is.Fragment fragment.now) made.0 made.1) }
 {
     let viewer = viewer_of(state, ask, now);
     let filled = fill(alloc, state, &viewer, ask, now, element_of(fragment))?;
@@ -185,6 +192,8 @@ fn built_page(
     ensures shown { IfOk result (λ made. IsShownAs element_is.Page (arc_value state.now) ask.now now made.1) }
     ensures built { IfOk result (λ made. IsBuiltFor element_is.Page (arc_value state.now) ask.now now made.0) }
     ensures made { IfOk result (λ made. IsMade made.0) }
+    ensures says { IfOk result (λ made. SaysAll made.0) }
+    ensures text { IfOk result (λ made. IsTextOf element_is.Page made.0 made.1) }
 {
     let viewer = viewer_of(state, ask, now);
     let visitor = Visitor {
@@ -212,6 +221,8 @@ pub(crate) fn built(
     ensures shown { IfOk result (λ made. IsShownAs element (arc_value state.now) ask.now now made.1) }
     ensures built { IfOk result (λ made. IsBuiltFor element (arc_value state.now) ask.now now made.0) }
     ensures made { IfOk result (λ made. IsMade made.0) }
+    ensures says { IfOk result (λ made. SaysAll made.0) }
+    ensures text { IfOk result (λ made. IsTextOf element made.0 made.1) }
 {
     match element {
         Element::Page => built_page(alloc, state, ask, now),

@@ -6,10 +6,11 @@ ghost use Rattle.content_state.specs.declared.element.Hole.TheVariants as hole_i
 ghost use Rattle.page_meaning.specs.Meaning.{framed};
 ghost use Rattle.render_canvas.specs.Board.{pieces_of};
 ghost use Rattle.render_array.specs.declared.element.Element.TheVariants as element_is;
+ghost use Rattle.render_array.specs.Built.{TellsExactly};
 ghost use Rattle.render_array.specs.Whole.{whole};
 ghost use Rattle.renderer.specs.Filled.{Joins};
 ghost use Rattle.site_rehearsal.specs.Visitors.{visit};
-ghost use Rattle.site_rehearsal.specs.Framing.{Makes, Begins, TellsOpen, in_frame, count_in_frame};
+ghost use Rattle.site_rehearsal.specs.Framing.{Makes, FillsFrame, Begins, TellsOpen, in_frame, count_in_frame};
 
 use crate::visitor::Visitor;
 use cacheability::Cacheability;
@@ -98,7 +99,8 @@ fn add_all(
 
 /// The page of a path as it is kept for whoever views it: the places of lazy blocks stay open.
 pub(crate) fn frame(alloc: Global, visitor: &Visitor<'_>) -> Result<Filled, AllocError>
-    ensures { IfOk result (λ f. Makes (framed visitor.now.ask.now.path) (visit visitor.now) f) }
+    ensures makes { IfOk result (λ f. Makes (framed visitor.now.ask.now.path) (visit visitor.now) f) }
+    ensures exact { IfOk result (λ f. TellsExactly (framed visitor.now.ask.now.path) (visit visitor.now) f.cacheability) }
 {
     let Built {
         segments,
@@ -149,7 +151,8 @@ pub(crate) fn whole_page(
     frame: &Filled,
 ) -> Result<Filled, AllocError>
     requires { Makes (framed visitor.now.ask.now.path) (visit visitor.now) frame.now }
-    ensures { IfOk result (λ f. Makes (whole visitor.now.ask.now.path element_is.Page) (visit visitor.now) f) }
+    ensures makes { IfOk result (λ f. Makes (whole visitor.now.ask.now.path element_is.Page) (visit visitor.now) f) }
+    ensures fills { IfOk result (λ f. FillsFrame (visit visitor.now) frame.now f) }
 {
     let mut page = begun(alloc, frame)?;
     add_parts(

@@ -3,7 +3,8 @@ ghost use Rattle.std.specs.Prelude.{◌≡◌, ◌≢◌, ℕ, IfOk, IfErr, OnOk
 ghost use Rattle.std.specs.Arc.{arc_value};
 ghost use Rattle.std.specs.Ordering.{nat_cmp};
 ghost use Rattle.std.specs.BTreeMap.{get};
-ghost use Rattle.content_state.specs.SiteRules.{AreValidRows, IsRefusal};
+ghost use Rattle.indexed_rows.specs.Rows.{AreValidRows};
+ghost use Rattle.content_state.specs.SiteRules.{IsRefusal};
 ghost use Rattle.site_keeper.specs.Memory.{made_of};
 ghost use Rattle.site_hall.specs.Opened.{stock_in, opened_in};
 ghost use Rattle.site_rehearsal.specs.Seats.{seat_or};
