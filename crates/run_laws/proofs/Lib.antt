@@ -1,2 +1,3 @@
 mod Reading
 pub mod Completing
+pub mod Servers

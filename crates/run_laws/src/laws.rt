@@ -1,5 +1,6 @@
 //! Completeness.
 ghost use Rattle.run_laws.specs.Complete.{ConnectionsComplete, WorkersComplete};
+ghost use Rattle.run_laws.specs.Served.{ServersComplete};
 
 /// The law that a connection whose input is known ends as the requests of its input do, with a reply to each of them, where
 /// neither reading nor writing failed; or memory was wanting.
@@ -11,4 +12,10 @@ pub fn connections_complete()
 /// them, where neither of its two ends failed; or memory was wanting.
 pub fn workers_complete()
     ensures { WorkersComplete }
+{}
+
+/// The law of many workers over one hall: the same of each connection of each of them; one stopped early exactly where its door
+/// failed; and that the keeper failed was answered only where the hall's count of its faults rose.
+pub fn servers_complete()
+    ensures { ServersComplete }
 {}

@@ -1,12 +1,12 @@
 -- What the crew did, worker by worker.
-use Rattle.std.proofs.Common.{◌≡◌, ◌∙◌, ◌+◌, ◌==◌, ◌&&◌, ◌++◌, ℕ, List, [], ◌∷◌, Bool, All, map, length, drop, sum_by, option_to_list, refl, ap, sym, subst, arith}
+use Rattle.std.proofs.Common.{◌≡◌, ◌∙◌, ◌+◌, ◌==◌, ◌&&◌, ◌++◌, ◌≤◌, ◌⊎◌, ℕ, List, [], ◌∷◌, Bool, All, map, length, drop, sum_by, option_to_list, refl, ap, sym, subst, arith, inl, inr}
 use Rattle.std.proofs.lemmas.Bool.{ne_eqb}
 use Rattle.std.proofs.lemmas.List.Sums.{sum_by-cons}
 use Rattle.std.proofs.lemmas.List.Elements.{All-nil, All-cons, All-head, All-tail}
 use Rattle.std.specs.List.{list_all}
 use Rattle.site_hall.specs.Hall.{HallView}
 use Rattle.site_house.specs.History.{History}
-use Rattle.site_house.specs.House.{IsSublist, by_pass}
+use Rattle.site_house.specs.House.{CountRose, IsSublist, by_pass}
 use Rattle.site_http.specs.Work.{Bench, Serves, Works}
 use Rattle.site_http.specs.declared.worker.Worked.{Worked}
 use Rattle.site_http.specs.declared.worker.Worked.TheVariants as worked
@@ -32,6 +32,11 @@ claimed_of : (w : Worked) (old new : Bench) (claims-after : ℕ) (works : Works 
 unfolding count_of
 claimed_of worked.NoMore old new claims-after works = let claimed = works.claimed in omega arith
 claimed_of worked.DoorFault old new claims-after works = let claimed = works.claimed in omega arith
+
+-- a count that rose to a front of another rose to that
+rose_to : (keepers old middle new : ℕ) → (keepers ≡ 0) ⊎ CountRose old middle → middle ≤ new → (keepers ≡ 0) ⊎ CountRose old new
+rose_to keepers old middle new (inl none) below = inl none
+rose_to keepers old middle new (inr rose) below = inr (omega arith)
 
 whole_of : (w : Worked) (rest : Bool) (more : ℕ) → rest ≡ (more == 0) → (had_no_more w && rest) ≡ (faulted w + more == 0)
 whole_of worked.NoMore rest more same = let all : more ≡ 0 + more = omega arith in same ∙ ap (λ n. n == 0) all
@@ -95,6 +100,7 @@ module _ (law : Grows) (old new : HallView) (footing : Footing) (opened : footin
         none_out = did.none_out;
         moments = did.moments;
         words = did.words;
+        cause = rose_to has.keepers old.faults note.faults new.faults (subst (λ hall. (has.keepers ≡ 0) ⊎ CountRose hall.faults note.faults) opened did.moves.cause) knows.faults;
         own = subst (λ n. IsSublist (by_pass n (drop (length old.log) new.log ++ option_to_list new.pending)) note.handed) number_is
             (subst (λ n. IsSublist (by_pass note.number (drop n new.log ++ option_to_list new.pending)) note.handed) length_is knows.own);
       }

@@ -1,10 +1,10 @@
 -- What many workers do over one hall.
-use Rattle.std.specs.Prelude.{ℕ, zero, suc, List, [], ◌∷◌, ◌++◌, ◌≡◌, ◌+◌, ◌<◌, Bool, true, false, All, map, length, drop, sum_by, option_to_list, None}
+use Rattle.std.specs.Prelude.{ℕ, zero, suc, List, [], ◌∷◌, ◌++◌, ◌≡◌, ◌+◌, ◌<◌, ◌⊎◌, Bool, true, false, All, map, length, drop, sum_by, option_to_list, None}
 use Rattle.std.specs.List.{list_all}
 use Rattle.content_state.specs.Replay.{Begins}
 use Rattle.content_state.specs.declared.commit.Commit.{Commit}
 use Rattle.site_house.specs.History.{History}
-use Rattle.site_house.specs.House.{IsSublist, by_pass}
+use Rattle.site_house.specs.House.{CountRose, IsSublist, by_pass}
 use Rattle.site_hall.specs.Hall.{HallView}
 use Rattle.site_io.specs.Series.{GivesInTurn, last_moment, last_word}
 use Rattle.site_http.specs.Work.{Bench, ServesOne, Follows, CountsDoor}
@@ -61,8 +61,9 @@ history_in hall number log = record { base = hall.base; log = log; pass = number
 
 -- A worker began with what the hall had published at the opening, and served its connections over the log of the hall at the end,
 -- of which it had seen a front. Its door failed exactly where it stopped for that; no connection is out; its clock and its chance
--- gave in turn. Its edits in that log, those past the opening that bear its number, and the pending one where that bears it, are of
--- those that its connections handed in, in that order.
+-- gave in turn. One of its edits was answered that the keeper failed only where the hall's count of the keeper's faults rose. Its
+-- edits in that log, those past the opening that bear its number, and the pending one where that bears it, are of those that its
+-- connections handed in, in that order.
 pub record IsShift (old new : HallView) (shift : Shift) : Type 0 where
   pub serves : ServesOver (history_in old shift.number new.log) shift.count
       (bench_of shift.before [] 0 (history_in old shift.number old.log))
@@ -72,6 +73,7 @@ pub record IsShift (old new : HallView) (shift : Shift) : Type 0 where
   pub none_out : shift.after.is_out ≡ false
   pub moments : GivesInTurn last_moment shift.before.moments shift.after.moments shift.before.given shift.after.given
   pub words : GivesInTurn last_word shift.before.chances shift.after.chances shift.before.words shift.after.words
+  pub cause : (shift.keepers ≡ 0) ⊎ CountRose old.faults new.faults
   pub own : IsSublist (by_pass shift.number (drop (length old.log) new.log ++ option_to_list new.pending)) shift.handed
 
 -- ---- all workers
