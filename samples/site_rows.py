@@ -94,8 +94,9 @@ class Site:
             "name": name, "roles": list(roles), "salt": salt, "status": status,
         })
 
-    def term(self, key, name, description="", status=True):
-        self._number("term", key, {"description": description, "name": name, "status": status})
+    def term(self, key, name, description="", parent=None, status=True):
+        """A term under the one of the word `parent`, or at the top."""
+        self._number("term", key, {"description": description, "name": name, "parent": parent, "status": status})
 
     def node(self, type, key, title, fields, at, by=None, changed=None, path=None, terms=(), refs=(), grants=(), promote=False,
              sticky=False, status=True, vid=1):
@@ -125,13 +126,15 @@ class Site:
 
     def rows_in_order(self):
         """All rows in the order of their cells, each with the kind of its cell."""
-        nodes = self.ids["node"]
+        nodes, terms = self.ids["node"], self.ids["term"]
         rows = dict(self.rows)
         rows[("seq", "")] = {kind: len(self.ids[kind]) + 1 for kind in NUMBERED}
         for kind, name in sorted(rows, key=place):
             row = dict(rows[(kind, name)], cell=f"{kind}:{name}" if name else kind)
             if kind == "node":
                 row["refs"] = [nodes[key] for key in row["refs"]]
+            if kind == "term" and row["parent"]:
+                row["parent"] = terms[row["parent"]]
             yield kind, row
 
     def lines(self):

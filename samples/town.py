@@ -63,10 +63,11 @@ def people(town):
 
 def topics(town):
     town.term("river", "River and ferry", "Whatever floats, sinks, leaks or is moored with the wrong knot.")
-    town.term("market", "Market", "Wednesday on the Cornhill, by the mistake of a saint.")
-    town.term("library", "Library", "Books, kites, ladders and the second-best punch bowl.")
+    town.term("market", "Market", "Wednesday on the Cornhill, by the mistake of a saint.", parent="council")
+    town.term("library", "Library", "Books, kites, ladders and the second-best punch bowl.", parent="council")
     town.term("council", "Council", "Nine members, one clerk, and the stove that decides how long they sit.")
-    town.term("green", "Meadows and gardens", "The four meadows, the goats that mow them, and the gardens that the goats would like to.")
+    town.term("green", "Meadows and gardens", "The four meadows, the goats that mow them, and the gardens that the goats would like to.",
+              parent="council")
     town.term("past", "Old times", "As told by whoever is oldest in the room.")
     town.term("ideas", "Ideas without a date", "Kept by the clerk until somebody seconds them.", status=False)
 

@@ -27,6 +27,7 @@ fn term(rt: &impl Abort, alloc: Global) -> Row {
     Row::Term(Term {
         description: no_text(alloc),
         name: text(rt, alloc, b"Fruit"),
+        parent: None,
         status: true,
         uuid: text(rt, alloc, b"t-1"),
     })

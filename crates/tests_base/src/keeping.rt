@@ -1,5 +1,5 @@
 //! What a keeper in memory holds as it is made, once a batch is kept, and where calls fail.
-ghost use Rattle.content_state.specs.SiteRules.{AreValidRows};
+ghost use Rattle.indexed_rows.specs.Rows.{AreValidRows};
 ghost use Rattle.site_keeper.specs.Keeper.{held_of, with_batch};
 
 use crate::starting::rows;

@@ -1,6 +1,6 @@
 //! A new site with a session, and what is wanted of it.
 ghost use Rattle.std.specs.Prelude.{◌≡◌, IfOk};
-ghost use Rattle.content_state.specs.SiteRules.{AreValidRows};
+ghost use Rattle.indexed_rows.specs.Rows.{AreValidRows};
 
 use cache_entries::{Key, Subject};
 use cacheability::Name;

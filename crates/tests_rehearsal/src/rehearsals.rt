@@ -1,7 +1,7 @@
 //! What is kept by one requester, and found by another.
 ghost use Rattle.std.specs.Prelude.{IfOk, All};
 ghost use Rattle.content_state.specs.Ask.{IsAsk};
-ghost use Rattle.content_state.specs.SiteRules.{AreValidRows};
+ghost use Rattle.indexed_rows.specs.Rows.{AreValidRows};
 ghost use Rattle.site_rehearsal.specs.Rehearsed.{MayAct, MayTake};
 
 use crate::site::{club, name, second};

@@ -1,6 +1,6 @@
 //! What keepers hold of two sites.
 ghost use Rattle.std.specs.Prelude.{IfOk};
-ghost use Rattle.content_state.specs.SiteRules.{AreValidRows};
+ghost use Rattle.indexed_rows.specs.Rows.{AreValidRows};
 
 use cacheability::Name;
 use content_rows::{

@@ -17,7 +17,7 @@ use std::thread::Threads;
 use std::{fs, io};
 
 /// The files of cases.
-const FILES: [&str; 12] = [
+const FILES: [&str; 14] = [
     "program.cases",
     "jobs.cases",
     "serving.cases",
@@ -27,9 +27,11 @@ const FILES: [&str; 12] = [
     "pages.cases",
     "lists.cases",
     "access.cases",
+    "parents.cases",
     "model_rows.cases",
     "model_pages.cases",
     "model_edits.cases",
+    "model_parents.cases",
 ];
 
 /// Runs a case, and tells each section of it that differs, a line each.

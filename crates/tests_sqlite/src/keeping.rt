@@ -13,7 +13,7 @@ const TABLES: &str =
     "CREATE TABLE cell_row(cell TEXT PRIMARY KEY, body TEXT NOT NULL); CREATE TABLE cachetags(tag TEXT PRIMARY KEY, invalidations BLOB NOT NULL)";
 
 /// A store that has these rows too is loaded as that.
-const BROKEN: [(&str, Result<u64, KeeperFault>); 11] = [
+const BROKEN: [(&str, Result<u64, KeeperFault>); 14] = [
     ("INSERT INTO cell_row VALUES ('head', '12')", Ok(12)),
     (
         "INSERT INTO cell_row VALUES ('head', '012')",
@@ -41,6 +41,18 @@ const BROKEN: [(&str, Result<u64, KeeperFault>); 11] = [
     ),
     (
         "INSERT INTO cell_row VALUES ('seq', '{')",
+        Err(KeeperFault::Failed),
+    ),
+    (
+        "INSERT INTO cell_row VALUES ('term:1', '{\"cell\":\"term:1\",\"description\":\"\",\"name\":\"T\",\"status\":true,\"uuid\":\"t-1\"}')",
+        Ok(0),
+    ),
+    (
+        "INSERT INTO cell_row VALUES ('term:1', '{\"cell\":\"term:1\",\"description\":\"\",\"name\":\"T\",\"parent\":null,\"status\":true,\"uuid\":\"t-1\"}')",
+        Ok(0),
+    ),
+    (
+        "INSERT INTO cell_row VALUES ('term:1', '{\"cell\":\"term:1\",\"description\":\"\",\"name\":\"T\",\"parent\":0,\"status\":true,\"uuid\":\"t-1\"}')",
         Err(KeeperFault::Failed),
     ),
     (

@@ -15,7 +15,7 @@ const ROWS: &[u8] = b"{\"cell\":\"seq\",\"node\":4,\"term\":4,\"user\":8}
 {\"cell\":\"user:1\",\"created\":0,\"digest\":null,\"grants\":[],\"name\":\"admin\",\"roles\":[],\"salt\":\"\",\"status\":true,\"uuid\":\"u-1\"}
 {\"cell\":\"user:2\",\"created\":0,\"digest\":null,\"grants\":[],\"name\":\"two\",\"roles\":[],\"salt\":\"\",\"status\":true,\"uuid\":\"u-2\"}
 {\"cell\":\"user:7\",\"created\":0,\"digest\":null,\"grants\":[],\"name\":\"seven\",\"roles\":[],\"salt\":\"\",\"status\":true,\"uuid\":\"u-7\"}
-{\"cell\":\"term:3\",\"description\":\"\",\"name\":\"T\",\"status\":true,\"uuid\":\"t-3\"}
+{\"cell\":\"term:3\",\"description\":\"\",\"name\":\"T\",\"parent\":null,\"status\":true,\"uuid\":\"t-3\"}
 {\"cell\":\"node:1\",\"changed\":100,\"created\":100,\"fields\":{},\"grants\":[],\"path\":\"/about\",\"promote\":true,\"refs\":[],\"status\":true,\"sticky\":false,\"terms\":[],\"title\":\"First\",\"type\":\"page\",\"uid\":1,\"uuid\":\"n-1\",\"vid\":1}
 {\"cell\":\"node:2\",\"changed\":100,\"created\":100,\"fields\":{},\"grants\":[],\"path\":null,\"promote\":false,\"refs\":[2],\"status\":true,\"sticky\":false,\"terms\":[],\"title\":\"Second\",\"type\":\"page\",\"uid\":1,\"uuid\":\"n-2\",\"vid\":1}
 {\"cell\":\"node:3\",\"changed\":100,\"created\":100,\"fields\":{},\"grants\":[],\"path\":null,\"promote\":false,\"refs\":[],\"status\":false,\"sticky\":false,\"terms\":[],\"title\":\"Third\",\"type\":\"page\",\"uid\":2,\"uuid\":\"n-3\",\"vid\":1}
