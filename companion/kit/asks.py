@@ -137,6 +137,20 @@ class NullOr(Ask):
 
 
 @dataclass(frozen=True)
+class MayLack(Ask):
+    """The value of a key that may be left out, as in rows of earlier releases: what is left out is null."""
+
+    other: Ask
+
+    @property
+    def words(self) -> str:  # type: ignore[override]
+        return self.other.words
+
+    def faults(self, value: Any, place: str) -> Iterator[Fault]:
+        yield from self.other.faults(value, place)
+
+
+@dataclass(frozen=True)
 class Columns(Ask):
     """An object with exactly these keys."""
 
@@ -219,6 +233,6 @@ def object_faults(
         else:
             for fault in ask.faults(value[name], front + name):
                 yield name, fault
-    for name in keys:
-        if name not in value:
-            yield name, Fault("missing", front + name, f"the key {name!r} isn't there; wanted is {keys[name].words}")
+    for name, ask in keys.items():
+        if name not in value and not isinstance(ask, MayLack):
+            yield name, Fault("missing", front + name, f"the key {name!r} isn't there; wanted is {ask.words}")

@@ -10,7 +10,7 @@ from typing import Any, Mapping, Optional
 from .cells import NUMBERED, Cell
 from .lint import look
 from .rowfile import in_order, read_rows, rows_file
-from .site_rules import site_faults
+from .site_rules import MOST_TERMS_DEEP, depth_of, site_faults
 from .tables import OF_KIND
 from .texts import Paths, as_line
 from .trouble import Trouble
@@ -75,16 +75,31 @@ class Document:
         self.rows[Cell("seq")] = {**seq, kind: given + 1}
         return str(given)
 
-    def term(self, name: str, description: str = "") -> int:
-        """The term of a name, which is made where it isn't there."""
+    def term(self, name: str, description: str = "", parent: Optional[int] = None) -> int:
+        """The term of a name, which is made where it isn't there, below a parent if one is named."""
         name = as_line(name)
         cell = self.find("term", "name", name)
         if cell is None:
-            row = {"description": description, "name": name, "status": True, "uuid": universal_id("term", name)}
+            row = {
+                "description": description, "name": name, "parent": parent, "status": True, "uuid": universal_id("term", name),
+            }  # fmt: skip
             if self.find("term", "uuid", row["uuid"]):
                 row["uuid"] = str(uuid.uuid4())
             cell = self.put("term", self.number("term"), row)
         return cell.number
+
+    def put_below(self, number: int, parent: int) -> bool:
+        """Puts a term that stands at the top below another one; not where that makes a circle, or a term too deep."""
+        cell = Cell("term", str(number))
+        row = self.rows[cell]
+        if row.get("parent") is not None:
+            return row["parent"] == parent
+        self.rows[cell] = {**row, "parent": parent}
+        depths = [depth_of(self.rows, it) for it in self.rows if it.kind == "term"]
+        if all(depth is not None and depth <= MOST_TERMS_DEEP for depth in depths):
+            return True
+        self.rows[cell] = row
+        return False
 
     def user(self, name: str, created: int, roles: tuple[str, ...] = (), password: Optional[tuple[str, str]] = None) -> int:
         """The user of a name, who is made where there is none, and can't log in unless there is a salt and a digest."""

@@ -153,6 +153,8 @@ def _term_values(given: argparse.Namespace) -> dict[str, Any]:
         values["name"] = given.name
     if given.description is not None:
         values["description"] = text_or_file(given.description)
+    if "parent" in given:
+        values["parent"] = given.parent
     if given.status is not None:
         values["status"] = given.status
     return values
@@ -280,6 +282,9 @@ def _add_terms(top: Adder) -> None:
     others[1].add_argument("--name")
     for it in others:
         it.add_argument("--description", metavar="TEXT", help="what it means; @FILE reads it from a file")
+        it.add_argument(
+            "--parent", type=_optional_number, default=argparse.SUPPRESS, metavar="T", help="the term that it stands below; an empty one: none"
+        )
         add_flag(it, "status", "publish", "draft", ("everybody may see it", "who looks after terms alone may see it"))
     terms.add("delete", "remove a term", term_delete).add_argument("term", type=_number, metavar="T")
 

@@ -160,8 +160,8 @@ def add_nodes(builder: Builder, heads: list[str], records: list[Record], given: 
 
 
 def add_terms(builder: Builder, heads: list[str], records: list[Record], given: argparse.Namespace) -> None:
-    """Terms: columns name and description."""
-    _need(heads, ("name",), ("name", "description", "old"), given)
+    """Terms: columns name, description and parent."""
+    _need(heads, ("name",), ("name", "description", "parent", "old"), given)
     for record in records:
         name = as_line(record["name"])
         is_new = builder.site.find("term", "name", name) is None
@@ -169,6 +169,10 @@ def add_terms(builder: Builder, heads: list[str], records: list[Record], given: 
         builder.counts["new term" if is_new else "unchanged term"] += 1
         for old in parts(record.get("old", "")):
             builder.redirects.add_with_slash(old, f"/taxonomy/term/{number}")
+        if record.get("parent", "").strip():
+            parent = builder.site.term(as_line(record["parent"]))
+            if not builder.site.put_below(number, parent):
+                builder.note(f"term {name!r} can't stand below {record['parent']!r}: it has a parent, or would be its own, or too deep")
 
 
 def add_users(builder: Builder, heads: list[str], records: list[Record], given: argparse.Namespace) -> None:

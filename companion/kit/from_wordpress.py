@@ -68,6 +68,14 @@ class Converter:
             self.builder.counts["new term" if is_new else "unchanged term"] += 1
             self.terms[topic.taxonomy, topic.slug] = number
             self._redirect_topic(topic, f"/taxonomy/term/{number}")
+        for topic in self.export.topics:
+            self._place(topic)
+
+    def _place(self, topic: wxr.Topic) -> None:
+        """Puts a category below its parent."""
+        parent = self.terms.get((topic.taxonomy, topic.parent)) if topic.parent else None
+        if parent is not None and not self.builder.site.put_below(self.terms[topic.taxonomy, topic.slug], parent):
+            self.builder.note(f"{topic.name!r} can't stand below {topic.parent!r}: it has a parent, or would be its own, or too deep")
 
     def _redirect_topic(self, topic: wxr.Topic, path: str) -> None:
         """The addresses of a topic, which the export doesn't tell: those that WordPress gives by default."""

@@ -24,7 +24,7 @@ ABOUT = {
     "role": "A role: what those who have it may do. `anonymous` is for whoever isn't logged in, `authenticated` for whoever is; both are always "
     "there. Removing a role takes it from nobody's row, and gives nothing any more.",
     "user": "Somebody who may log in. User 1 may do everything. There is no removing of users; block them.",
-    "term": "A topic, whose page lists the nodes that have it.",
+    "term": "A topic, whose page lists the nodes that have it or a term below it.",
     "node": "A page or a piece of news: something with a title and fields.",
     "menu": "A menu. Blocks show it.",
     "listing": "A list of nodes, ten a page, at a path of its own, in blocks, or both. Sticky nodes come first, then the newest.",
@@ -58,6 +58,7 @@ MEANINGS: Mapping[str, Mapping[str, str]] = {
     "term": {
         "description": "what it means; may be empty",
         "name": "its title",
+        "parent": "the number of the term above it; null, or left out: none. At most 9 deep",
         "status": "whether everybody may see its page and its name",
         "uuid": "a universal id; no two terms have the same",
     },
@@ -84,7 +85,7 @@ MEANINGS: Mapping[str, Mapping[str, str]] = {
         "path": "where it is found; null: in blocks alone",
         "promoted": "whether it shows promoted nodes alone",
         "recent": "nodes of the last so many seconds alone; null: of all times",
-        "term": "nodes with this term alone; null: with any or none",
+        "term": "nodes with this term or one below it alone; null: with any or none",
         "title": "its title",
         "types": "nodes of these types alone; none: of all",
     },
@@ -135,7 +136,7 @@ An edit over HTTP may leave keys out. What is said of none of them:
 |---|---|---|
 | a new node | `title`, `type`, `uuid` | `created` is now, `status` and `promote` are true, `sticky` is false, `uid` is who is logged in; no fields, grants, refs, terms or path |
 | a change of a node | `vid`, the version that was looked at | stays as it is; in `fields`, each field that isn't named stays too, and null takes a value away |
-| a new term | `name`, `uuid` | `description` is empty, `status` is true |
+| a new term | `name`, `uuid` | `description` is empty, `parent` is null, `status` is true |
 | a new user | `name`, `uuid` | `status` is true; no grants, roles or password (`pass`) |
 | a change of a term or a user | nothing | stays as it is |
 | a role, type, block, menu, listing, the settings | all keys but `cell` | nothing may be: the row is replaced |

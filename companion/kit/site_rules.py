@@ -10,6 +10,7 @@ from .cells import NUMBERED, Cell
 Rows = Mapping[Cell, Optional[Mapping[str, Any]]]
 """Rows by their cells. One that is wrong by itself is None: it is there, and nothing is asked of it."""
 
+MOST_TERMS_DEEP = 9
 REQUIRED = (Cell("site"), Cell("seq"), Cell("role", "anonymous"), Cell("role", "authenticated"))
 
 
@@ -64,6 +65,7 @@ def _cell_faults(rows: Rows, holders: Holders, cell: Cell, row: Mapping[str, Any
         yield from holders.taken("user uuid", row["uuid"], cell, "uuid")
         yield from holders.taken("user name", row["name"], cell, "name")
     elif cell.kind == "term":
+        yield from _tree_faults(rows, cell, row)
         yield from holders.taken("term uuid", row["uuid"], cell, "uuid")
     elif cell.kind == "node":
         yield from _node_faults(rows, holders, cell, row)
@@ -79,6 +81,40 @@ def _seq_faults(rows: Rows, cell: Cell, row: Mapping[str, Any]) -> Iterator[Site
         if row[kind] <= greatest:
             said = f"the next {kind} would be {row[kind]}, and {kind}:{greatest} is there; wanted is {greatest + 1} or more"
             yield SiteFault(cell, "range", kind, said)
+
+
+def _tree_faults(rows: Rows, cell: Cell, row: Mapping[str, Any]) -> Iterator[SiteFault]:
+    """The faults of the way up from a term: its parent isn't there, it comes round in a circle, it is too long."""
+    if row.get("parent") is None:
+        return
+    if Cell("term", str(row["parent"])) not in rows:
+        yield SiteFault(cell, "absent", "parent", f"there is no term:{row['parent']}")
+    depth = depth_of(rows, cell)
+    if depth is None:
+        yield SiteFault(cell, "cycle", "parent", "its parents lead round in a circle")
+    elif depth > MOST_TERMS_DEEP:
+        yield SiteFault(cell, "deep", "parent", f"it stands {depth} deep; at most {MOST_TERMS_DEEP} are allowed")
+
+
+def _above(rows: Rows, cell: Cell) -> Cell | None:
+    parent = (rows.get(cell) or {}).get("parent")
+    return None if parent is None else Cell("term", str(parent))
+
+
+def way_up(rows: Rows, cell: Cell) -> list[Cell]:
+    """A term, its parent and so on, each once; one that isn't there is the last."""
+    way: list[Cell] = []
+    at: Cell | None = cell
+    while at is not None and at not in way:
+        way.append(at)
+        at = _above(rows, at)
+    return way
+
+
+def depth_of(rows: Rows, cell: Cell) -> int | None:
+    """How deep a term stands, 1 at the top; none where its parents lead round. A parent that isn't there counts."""
+    way = way_up(rows, cell)
+    return len(way) if _above(rows, way[-1]) is None else None
 
 
 def _node_faults(rows: Rows, holders: Holders, cell: Cell, row: Mapping[str, Any]) -> Iterator[SiteFault]:

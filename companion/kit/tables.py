@@ -5,7 +5,7 @@ from __future__ import annotations
 from typing import Mapping
 
 from . import forms
-from .asks import Ask, Columns, Each, Flag, NullOr, Text, Texts, Whole
+from .asks import Ask, Columns, Each, Flag, MayLack, NullOr, Text, Texts, Whole
 from .cells import GREATEST_ID
 
 LAST_MOMENT = 4_102_444_800
@@ -64,7 +64,13 @@ USER: Mapping[str, Ask] = {
     "status": Flag(),
     "uuid": UUID,
 }
-TERM: Mapping[str, Ask] = {"description": BODY, "name": TITLE, "status": Flag(), "uuid": UUID}
+TERM: Mapping[str, Ask] = {
+    "description": BODY,
+    "name": TITLE,
+    "parent": MayLack(NullOr(ID)),
+    "status": Flag(),
+    "uuid": UUID,
+}
 NODE: Mapping[str, Ask] = {
     "changed": MOMENT,
     "created": MOMENT,

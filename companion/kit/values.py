@@ -5,7 +5,7 @@ from __future__ import annotations
 import json
 from typing import Any, Mapping, Optional
 
-from .asks import Ask, Columns, Each, Flag, NullOr, Text, Texts, Whole, object_faults
+from .asks import Ask, Columns, Each, Flag, MayLack, NullOr, Text, Texts, Whole, object_faults
 from .rowfile import read_bytes
 from .trouble import Trouble
 
@@ -27,6 +27,8 @@ def pair(word: str) -> tuple[str, str]:
 
 def value_for(ask: Ask, word: str, key: str) -> Any:
     """The value that a word says, for what a key is to be."""
+    if isinstance(ask, MayLack):
+        return value_for(ask.other, word, key)
     if isinstance(ask, NullOr):
         return None if word in ("", "null") else value_for(ask.other, word, key)
     if isinstance(ask, Text):

@@ -8,6 +8,7 @@ from typing import Any, Callable, Iterator, Mapping
 from .asks import guess
 from .cells import NUMBERED, Cell
 from .forms import FRONT
+from .site_rules import way_up
 from .site_view import Rows, may_visitors_see, paths_of, route
 
 ASKED = (
@@ -155,13 +156,14 @@ def _unseen(rows: Rows) -> Iterator[Warning]:
             yield Warning("unseen", cell, "it has no path, and no block shows it")
 
 
-def _lists(listing: Mapping[str, Any], node: Mapping[str, Any]) -> bool:
+def _lists(rows: Rows, listing: Mapping[str, Any], node: Mapping[str, Any]) -> bool:
     """Whether a listing shows a node, its moment aside."""
     if listing["promoted"] and not node["promote"]:
         return False
     if listing["types"] and node["type"] not in listing["types"]:
         return False
-    return listing["term"] is None or listing["term"] in node["terms"]
+    wanted = listing["term"]
+    return wanted is None or any(Cell("term", str(wanted)) in way_up(rows, Cell("term", str(term))) for term in node["terms"])
 
 
 def _linked_cells(rows: Rows) -> set[Cell]:
@@ -173,7 +175,7 @@ def _linked_cells(rows: Rows) -> set[Cell]:
     linked.update(Cell("node", str(ref)) for _, node in nodes for ref in node["refs"])
     linked.update(cell for cell, node in nodes if any(Cell("term", str(term)) in rows for term in node["terms"]))
     listings = [listing for _, listing in of_kind(rows, "listing")]
-    linked.update(cell for cell, node in nodes if any(_lists(listing, node) for listing in listings))
+    linked.update(cell for cell, node in nodes if any(_lists(rows, listing, node) for listing in listings))
     linked.update(
         Cell("listing", block["name"]) for _, block in of_kind(rows, "block") if block["kind"] == "listing"
     )

@@ -166,6 +166,24 @@ class Mutator:
         self.chance.shuffle(links)
         self.rows.append({"cell": "menu:zz", "label": "Deep", "links": links})
 
+    def tree(self) -> None:
+        """Terms that stand deep, whose parents lead round or aren't there, or that lack the key."""
+        deep = self.chance.choice((1, 8, 9, 10, 11))
+        ids = [str(number) for number in range(50, 50 + deep)]
+        ends = (None, int(ids[-1]), int(ids[0]), 99, 1)
+        parents = [self.chance.choice(ends) if self.chance.random() < 0.5 else None, *map(int, ids[:-1])]
+        rows = [
+            {"cell": f"term:{it}", "description": "", "name": "T", "parent": up, "status": True, "uuid": f"deep-{it}"}
+            for it, up in zip(ids, parents)
+        ]
+        if self.chance.random() < 0.3:
+            del rows[-1]["parent"]
+        self.chance.shuffle(rows)
+        self.rows += rows
+        for row in self.rows:
+            if row.get("cell") == "seq" and isinstance(row.get("term"), int) and self.chance.random() < 0.9:
+                row["term"] = 100
+
     def break_byte(self) -> None:
         """A byte less, more, or another one."""
         number = self.chance.randrange(len(self.lines))
@@ -208,7 +226,7 @@ class Mutator:
             self.lines.insert(number, odd)
 
     OF_ROWS: tuple[Callable[["Mutator"], None], ...] = (
-        *[change] * 9, *[move] * 3, remove, add, recell, drop, drop, double, double, shuffle, chain,
+        *[change] * 9, *[move] * 3, remove, add, recell, drop, drop, double, double, shuffle, chain, tree, tree,
     )  # fmt: skip
     OF_LINES: tuple[Callable[["Mutator"], None], ...] = (break_byte, break_byte, raw_value, raw_value, raw_line)
 
@@ -242,7 +260,10 @@ def small_site() -> list[Row]:
         rows.append({**user, "cell": f"user:{number}", "name": f"u{number}", "uuid": f"u-{number}"})
     rows[-1].update(digest="a" * 64, salt="b" * 32)
     for number in (1, 2):
-        rows.append({"cell": f"term:{number}", "description": "D\nE", "name": f"T{number}", "status": True, "uuid": f"t-{number}"})
+        parent = 1 if number == 2 else None
+        rows.append(
+            {"cell": f"term:{number}", "description": "D\nE", "name": f"T{number}", "parent": parent, "status": True, "uuid": f"t-{number}"}
+        )
     for number, path in ((1, "/a"), (2, "/b/c"), (3, None)):
         rows.append({**node, "cell": f"node:{number}", "path": path, "title": f"N{number}", "uuid": f"n-{number}"})
     links = [

@@ -99,13 +99,13 @@ class FromCsv(support.Case):
     def test_terms_users_and_links(self) -> None:
         site = self.new_site()
         for kind, text in (
-            ("terms", "name,description\nRaces,Who came first\n"),
+            ("terms", "name,description,parent\nRaces,Who came first,Sport\nSport,,\n"),
             ("users", "name,roles\nCy,editor\n"),
             ("links", "title,path,under,weight\nFirst,/news,,3\nBelow,/welcome,First,\n"),
         ):
             self.run_kit("from-csv", self.write("t.csv", text), "--rows", kind, "--into", site, "-o", site)
         rows = rows_of(site)
-        self.assertEqual(rows["term:1"]["name"], "Races")
+        self.assertEqual([(rows[f"term:{at}"]["name"], rows[f"term:{at}"]["parent"]) for at in (1, 2)], [("Races", 2), ("Sport", None)])
         self.assertEqual((rows["user:2"]["roles"], rows["user:2"]["digest"]), (["editor"], None))
         links = {link["path"]: link for link in rows["menu:main"]["links"]}
         self.assertEqual(links["/welcome"]["parent"], links["/news"]["id"])

@@ -37,6 +37,9 @@ class WordPress(support.Case):
         self.assertEqual(nodes["Race report 4"]["fields"]["summary"], "In short: report 4.")
         terms = [rows[f"term:{number}"]["name"] for number in race["terms"]]
         self.assertIn("wet", terms)
+        parents = {row["name"]: row["parent"] for cell, row in rows.items() if cell.startswith("term:")}
+        numbers = {row["name"]: int(cell[5:]) for cell, row in rows.items() if cell.startswith("term:")}
+        self.assertEqual((parents["Juniors"], parents["Races"]), (numbers["Races"], None))
         for title in ("Not yet", "Committee", "A secret post", "Coming soon"):
             self.assertFalse(nodes[title]["status"], title)
         self.assertNotIn("Thrown away", nodes)
