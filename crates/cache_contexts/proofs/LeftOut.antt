@@ -13,7 +13,7 @@ use Rattle.content_state.specs.State.{State}
 use Rattle.content_state.specs.declared.ask.Ask.{Ask}
 use Rattle.content_state.specs.declared.ask.Viewer.{Viewer}
 use Rattle.content_state.specs.Ask.{IsAsk, path_of, query_of}
-use Rattle.content_state.specs.Rows.{role_of, user_of, site_of}
+use Rattle.indexed_rows.specs.Rows.{role_of, user_of, site_of}
 use Rattle.content_state.specs.Route.{root_path, front_in}
 use Rattle.content_state.specs.Viewer.{roles_of, present_roles}
 use Rattle.content_state.specs.Read.{SiteRow, UserRow, RoleRow}

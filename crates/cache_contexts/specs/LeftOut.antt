@@ -11,7 +11,7 @@ use Rattle.content_state.specs.declared.ask.Viewer.{Viewer}
 use Rattle.content_state.specs.Ask.{IsAsk}
 use Rattle.content_state.specs.Context.{Visit, value, above, dropped_tags}
 use Rattle.content_state.specs.Plan.{CoversContext}
-use Rattle.content_state.specs.SiteRules.{InOrder}
+use Rattle.indexed_rows.specs.Rows.{InOrder}
 use Rattle.state_commits.specs.Edits.{after, SameCounts}
 use Rattle.cache_contexts.specs.Values.{visit_on}
 

@@ -2,7 +2,7 @@
 ghost use Rattle.std.specs.Prelude.{◌≡◌, ℕ, IfOk, codes, map};
 ghost use Rattle.content_state.specs.Context.{is_front, trail_in, value as value_on};
 ghost use Rattle.content_state.specs.Route.{front_path};
-ghost use Rattle.content_state.specs.Rows.{menu_of};
+ghost use Rattle.indexed_rows.specs.Rows.{menu_of};
 ghost use Rattle.content_state.specs.Viewer.{roles_of};
 ghost use Rattle.site_lists.specs.Paging.{value_in};
 ghost use Rattle.site_access.specs.Account.{IsAccountOf};

@@ -12,7 +12,8 @@ use Rattle.content_state.specs.declared.commit.Commit.{Commit}
 use Rattle.content_state.specs.Ask.{IsAsk}
 use Rattle.content_state.specs.Context.{Visit}
 use Rattle.content_state.specs.Plan.{Plan}
-use Rattle.content_state.specs.SiteRules.{InOrder, IsValidState}
+use Rattle.indexed_rows.specs.Rows.{InOrder}
+use Rattle.content_state.specs.SiteRules.{IsValidState}
 use Rattle.state_commits.specs.Edits.{after}
 use Rattle.cache_contexts.specs.Values.{visit_on, valued}
 use Rattle.cache_entries.specs.declared.entry.Entry.{Entry}

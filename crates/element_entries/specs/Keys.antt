@@ -11,7 +11,7 @@ use Rattle.content_rows.specs.declared.row.Row.{Row}
 use Rattle.content_state.specs.declared.element.Fragment.{Fragment}
 use Rattle.content_state.specs.declared.element.Fragment.TheVariants as fragment
 use Rattle.content_state.specs.Context.{Visit}
-use Rattle.content_state.specs.Rows.{block_of}
+use Rattle.indexed_rows.specs.Rows.{block_of}
 use Rattle.cache_contexts.specs.Values.{visit_on, valued}
 use Rattle.cache_entries.specs.declared.key.Key.{Key}
 use Rattle.cache_entries.specs.declared.key.Subject.{Subject}

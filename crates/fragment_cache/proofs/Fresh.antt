@@ -6,7 +6,8 @@ use Rattle.cacheability.specs.declared.context.Context.TheVariants as context
 use Rattle.cacheability.specs.declared.tag.Tag.{Tag}
 use Rattle.content_state.specs.State.{State}
 use Rattle.content_state.specs.declared.commit.Commit.{Commit}
-use Rattle.content_state.specs.SiteRules.{InOrder, IsValidState}
+use Rattle.indexed_rows.specs.Rows.{InOrder}
+use Rattle.content_state.specs.SiteRules.{IsValidState}
 use Rattle.content_state.specs.Context.{Visit, Value, value}
 use Rattle.content_state.specs.Plan.{AllIn}
 use Rattle.content_state.specs.Read.{Read, PathRoute, SiteRow, UserRow, RoleRow, cover}

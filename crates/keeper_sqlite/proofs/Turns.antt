@@ -6,7 +6,7 @@ use Rattle.store_six.specs.Calls.{Tells, Passes, Nothing, Begins, Changes, Commi
 use Rattle.content_rows.specs.CellText.{cell_text}
 use Rattle.content_rows.specs.declared.cell.Cell.{Cell}
 use Rattle.content_rows.specs.declared.row.Row.{Row}
-use Rattle.content_state.specs.Write.{Write}
+use Rattle.indexed_rows.specs.Write.{Write}
 use Rattle.store_six.specs.Tables.{Tables, IsRemoved, OnCells}
 use Rattle.store_six.specs.declared.fault.StoreFault.{StoreFault}
 use Rattle.store_six.specs.declared.fault.StoreFault.TheVariants as store_fault

@@ -7,7 +7,7 @@ use Rattle.content_rows.specs.CellText.{cell_text}
 use Rattle.content_rows.specs.ValidRow.{IsValidRow}
 use Rattle.content_rows.specs.declared.cell.Cell.{Cell}
 use Rattle.content_rows.specs.declared.row.Row.{Row}
-use Rattle.content_state.specs.Write.{Write}
+use Rattle.indexed_rows.specs.Write.{Write}
 use Rattle.json_keys.specs.declared.checked.Checked.TheVariants as checked
 use Rattle.keeper_sqlite.specs.Numbers.{head_in, count_in}
 use Rattle.row_json.specs.Reading.{reading, written}

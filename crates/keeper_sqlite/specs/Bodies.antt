@@ -6,7 +6,7 @@ use Rattle.serde_json.specs.Read.{read}
 use Rattle.content_rows.specs.CellText.{cell_text}
 use Rattle.content_rows.specs.declared.cell.Cell.{Cell}
 use Rattle.content_rows.specs.declared.row.Row.{Row}
-use Rattle.content_state.specs.Rows.{with_row}
+use Rattle.indexed_rows.specs.Rows.{with_row}
 use Rattle.json_keys.specs.declared.checked.Checked.{Checked}
 use Rattle.json_keys.specs.declared.checked.Checked.TheVariants as checked
 use Rattle.row_json.specs.Reading.{reading}

@@ -1,8 +1,7 @@
 //! What is read of a store of two tables.
 ghost use Rattle.std.specs.Prelude.{◌≡◌, ◌≢◌, Some, None, map, option_map, IfOk, OnOk, IsErrOf};
 ghost use Rattle.content_rows.specs.ValidRow.{IsValidRow};
-ghost use Rattle.content_state.specs.Rows.{with_row};
-ghost use Rattle.content_state.specs.SiteRules.{AreValidRows};
+ghost use Rattle.indexed_rows.specs.Rows.{with_row, AreValidRows};
 ghost use Rattle.site_keeper.specs.declared.fault.KeeperFault.TheVariants as keeper_fault;
 ghost use Rattle.store_six.specs.At.{at};
 ghost use Rattle.keeper_sqlite.specs.Bodies.{with_entry_of, with_tag_of};

@@ -10,7 +10,7 @@ use Rattle.tag_counts.specs.Counts.{sum_of}
 use Rattle.content_state.specs.State.{State}
 use Rattle.content_state.specs.declared.commit.Commit.{Commit}
 use Rattle.content_state.specs.Replay.{replay}
-use Rattle.content_state.specs.SiteRules.{InOrder}
+use Rattle.indexed_rows.specs.Rows.{InOrder}
 use Rattle.content_state.specs.Plan.{Piece, Byte, Place}
 use Rattle.content_state.specs.Places.{open_places, MakesWhole}
 use Rattle.cache_contexts.specs.Values.{visit_on, valued}

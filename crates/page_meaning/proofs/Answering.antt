@@ -9,7 +9,7 @@ use Rattle.cacheability.specs.InOrder.{AddsItem}
 use Rattle.content_rows.specs.declared.row.Block.{Block}
 use Rattle.content_rows.specs.declared.row.Listing.{Listing}
 use Rattle.content_state.specs.Read.{Read, Answer, BlockRow, ListingRow, answer, cover}
-use Rattle.content_state.specs.Rows.{block_of, listing_of}
+use Rattle.indexed_rows.specs.Rows.{block_of, listing_of}
 use Rattle.content_state.specs.Context.{Visit}
 use Rattle.content_state.specs.Plan.{Plan, Done, Reading, reading}
 use Rattle.content_state.specs.Met.{met}

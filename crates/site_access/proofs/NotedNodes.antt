@@ -20,7 +20,7 @@ use Rattle.content_rows.specs.declared.cell.Cell.{Cell}
 use Rattle.content_rows.specs.declared.row.Row.{Row}
 use Rattle.content_rows.specs.declared.row.Node.{Node}
 use Rattle.content_state.specs.declared.ask.Viewer.{Viewer}
-use Rattle.content_state.specs.Rows.{node_of}
+use Rattle.indexed_rows.specs.Rows.{node_of}
 use Rattle.content_state.specs.Viewer.{may, bypass_node_access, access_content}
 use Rattle.content_state.proofs.Meets.{least_permanent}
 use Rattle.content_state.proofs.Filled.{in_append, in_left, in_right}

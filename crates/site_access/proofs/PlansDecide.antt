@@ -17,7 +17,7 @@ use Rattle.content_rows.specs.declared.row.FieldRow.{FieldRow}
 use Rattle.content_rows.specs.declared.permission.ViewGrants.TheVariants as view_grants
 use Rattle.content_rows.specs.Permission.{has, records_of, granted, grants_of}
 use Rattle.content_state.specs.declared.ask.Viewer.{Viewer}
-use Rattle.content_state.specs.Rows.{node_of, type_of, user_of}
+use Rattle.indexed_rows.specs.Rows.{node_of, type_of, user_of}
 use Rattle.content_state.specs.Read.{NodeRow, TypeRow}
 use Rattle.content_state.specs.Context.{Visit}
 use Rattle.content_state.specs.Viewer.{may, present_roles, view_grants_of, viewer_permissions, bypass_node_access, access_content, view_own_unpublished, administer_nodes}

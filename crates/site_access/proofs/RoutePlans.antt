@@ -6,7 +6,7 @@ use Rattle.cacheability.specs.declared.context.Context.TheVariants as context
 use Rattle.cacheability.specs.Cacheability.{always_same}
 use Rattle.content_state.specs.declared.route.Route.{Route}
 use Rattle.content_state.specs.declared.route.Route.TheVariants as route
-use Rattle.content_state.specs.Rows.{term_of, user_of}
+use Rattle.indexed_rows.specs.Rows.{term_of, user_of}
 use Rattle.content_state.specs.Read.{TermRow, UserRow}
 use Rattle.content_state.specs.Context.{Visit}
 use Rattle.content_state.specs.Viewer.{may, access_content}

@@ -26,7 +26,7 @@ use Rattle.content_state.specs.Context.{Visit}
 use Rattle.content_state.specs.Plan.{Plan, Made}
 use Rattle.content_rows.specs.declared.row.Node.{Node}
 use Rattle.content_rows.specs.declared.permission.ViewGrants.{ViewGrants}
-use Rattle.content_state.specs.Rows.{node_of}
+use Rattle.indexed_rows.specs.Rows.{node_of}
 use Rattle.content_state.specs.Viewer.{may, view_grants_of, bypass_node_access, access_content}
 use Rattle.site_access.specs.Access.{Access, Allowed, Denied, by_rules, votes_in, access_to_node}
 use Rattle.site_access.specs.Plans.{grants_allow}

@@ -16,7 +16,7 @@ use Rattle.content_rows.specs.declared.row.NodeType.{NodeType}
 use Rattle.content_rows.specs.declared.row.FieldRow.{FieldRow}
 use Rattle.content_rows.specs.Permission.{records_of, grants_of, granted}
 use Rattle.content_state.specs.declared.ask.Viewer.{Viewer}
-use Rattle.content_state.specs.Rows.{type_of, node_of, user_of}
+use Rattle.indexed_rows.specs.Rows.{type_of, node_of, user_of}
 use Rattle.content_state.specs.Viewer.{present_roles, may, bypass_node_access, access_content, view_own_unpublished, administer_nodes}
 
 -- an answer: allowed, or denied for a reason

@@ -4,7 +4,7 @@
 use Rattle.std.specs.Prelude.{ℕ, List, ◌≡◌, ◌↔◌, Contains}
 use Rattle.cacheability.specs.declared.op.Op.{Op}
 use Rattle.cacheability.specs.declared.cacheability.Cacheability.{Cacheability}
-use Rattle.content_state.specs.Rows.{node_of}
+use Rattle.indexed_rows.specs.Rows.{node_of}
 use Rattle.content_state.specs.Context.{Visit}
 use Rattle.content_state.specs.Plan.{Plan}
 use Rattle.content_state.specs.Met.{result_of, met}

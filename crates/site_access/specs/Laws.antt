@@ -7,7 +7,7 @@ use Rattle.content_state.specs.Context.{Visit}
 use Rattle.content_state.specs.Plan.{Piece, Plan, Needs, Made}
 use Rattle.site_access.specs.Access.{access_to_node, access_to_create, access_to_found_field, owner_in, field_of}
 use Rattle.site_access.specs.Plans.{node_access, create_access, field_access}
-use Rattle.content_state.specs.Rows.{node_of}
+use Rattle.indexed_rows.specs.Rows.{node_of}
 
 -- what the plan gives on a visit, if it gives anything, is x
 abbrev pub GivesOnly : {A : Type 0} → Plan A → Visit → A → Type 0

@@ -9,7 +9,7 @@ use Rattle.content_rows.specs.declared.cell.Cell.{Cell}
 use Rattle.content_rows.specs.declared.row.Row.{Row}
 use Rattle.content_rows.specs.declared.row.Term.{Term}
 use Rattle.content_state.specs.declared.ask.Viewer.{Viewer}
-use Rattle.content_state.specs.Rows.{term_of}
+use Rattle.indexed_rows.specs.Rows.{term_of}
 use Rattle.content_state.specs.Viewer.{may, access_content}
 use Rattle.content_state.specs.Read.{TermRow}
 use Rattle.content_state.specs.Context.{Visit}

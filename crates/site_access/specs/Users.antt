@@ -9,7 +9,7 @@ use Rattle.content_rows.specs.declared.cell.Cell.{Cell}
 use Rattle.content_rows.specs.declared.row.Row.{Row}
 use Rattle.content_rows.specs.declared.row.User.{User}
 use Rattle.content_state.specs.declared.ask.Viewer.{Viewer}
-use Rattle.content_state.specs.Rows.{user_of}
+use Rattle.indexed_rows.specs.Rows.{user_of}
 use Rattle.content_state.specs.Viewer.{may}
 use Rattle.content_state.specs.Read.{UserRow}
 use Rattle.content_state.specs.Context.{Visit}

@@ -1,6 +1,6 @@
 //! Access of a viewer, for those who ask once.
 ghost use Rattle.std.specs.Prelude.{◌≡◌, IfOk, IsSome};
-ghost use Rattle.content_state.specs.Rows.{node_of};
+ghost use Rattle.indexed_rows.specs.Rows.{node_of};
 ghost use Rattle.site_access.specs.Access.{access_to_node, access_to_create, access_to_field_of, field_of, node_type_of};
 ghost use Rattle.site_access.specs.Plans.{node_access as node_plan, create_access as create_plan, field_access as field_plan};
 ghost use Rattle.site_access.specs.Decided.{IsDecided};

@@ -1,7 +1,7 @@
 //! A viewer with what it may do.
 ghost use Rattle.std.specs.Prelude.{◌≡◌, IfOk, map, option_copied, if◌then◌else◌};
 ghost use Rattle.std.specs.List.{filter_map};
-ghost use Rattle.content_state.specs.Rows.{role_of};
+ghost use Rattle.indexed_rows.specs.Rows.{role_of};
 ghost use Rattle.content_state.specs.Viewer.{present_roles as roles_present, viewer_permissions, view_grants_of, may};
 ghost use Rattle.content_rows.specs.Permission.{grants_of as grants_by};
 ghost use Rattle.content_rows.specs.declared.permission.ViewGrants.TheVariants as view_grants_are;

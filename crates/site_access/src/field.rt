@@ -1,6 +1,6 @@
 //! Access to the fields of nodes.
 ghost use Rattle.std.specs.Prelude.{◌≡◌, IfOk, IsSome, option_copied, is_some};
-ghost use Rattle.content_state.specs.Rows.{node_of};
+ghost use Rattle.indexed_rows.specs.Rows.{node_of};
 ghost use Rattle.site_access.specs.Access.{access_to_field, access_to_field_of, field_permission as permission_of, field_in as field_named, field_of, node_type_of};
 ghost use Rattle.site_access.specs.Plans.{field_access};
 ghost use Rattle.site_access.specs.Decided.{IsDecided};

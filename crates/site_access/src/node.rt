@@ -2,7 +2,7 @@
 ghost use Rattle.std.specs.Prelude.{◌≡◌, ◌&&◌, ◌||◌, not, IfOk, IsSome, Some, None};
 ghost use Rattle.access_result.specs.declared.reason.Reason.TheVariants as reason_is;
 ghost use Rattle.access_result.specs.AccessResult.{or_result};
-ghost use Rattle.content_state.specs.Rows.{node_of};
+ghost use Rattle.indexed_rows.specs.Rows.{node_of};
 ghost use Rattle.content_state.specs.Viewer.{may, view_own_unpublished};
 ghost use Rattle.site_access.specs.Access.{owns as owns_by, any_content, own_content, by_rules, access_to_node, access_to_create};
 ghost use Rattle.site_access.specs.Plans.{node_access, create_access, grants_allow};

@@ -3,7 +3,7 @@
 ghost use Rattle.std.specs.Prelude.{◌≡◌, IfOk, OnOk, IsSome, is_some};
 ghost use Rattle.access_result.specs.declared.reason.Reason.TheVariants as reason_is;
 ghost use Rattle.cacheability.specs.Cacheability.{merged};
-ghost use Rattle.content_state.specs.Rows.{node_of, term_of, user_of};
+ghost use Rattle.indexed_rows.specs.Rows.{node_of, term_of, user_of};
 ghost use Rattle.content_state.specs.There.{IsThere};
 ghost use Rattle.site_access.specs.Access.{access_to_node, by_rules, access_to_field, access_to_field_of, field_permission as permission_of, field_of, node_type_of};
 ghost use Rattle.site_access.specs.Plans.{grants_allow as grants_allow_by};

@@ -1,6 +1,6 @@
 //! Access to users' profiles.
 ghost use Rattle.std.specs.Prelude.{◌≡◌, IfOk, IsSome};
-ghost use Rattle.content_state.specs.Rows.{user_of};
+ghost use Rattle.indexed_rows.specs.Rows.{user_of};
 ghost use Rattle.site_access.specs.Account.{IsAccountOf};
 ghost use Rattle.site_access.specs.Decided.{IsDecided};
 ghost use Rattle.site_access.specs.Depends.{access_of, told};

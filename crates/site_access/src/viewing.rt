@@ -2,7 +2,7 @@
 ghost use Rattle.std.specs.Prelude.{◌≡◌, ◌++◌, ◌∷◌, [], All, IsSome, OnOk};
 ghost use Rattle.cacheability.specs.Cacheability.{merged};
 ghost use Rattle.cacheability.specs.declared.op.Op.TheVariants as op_is;
-ghost use Rattle.content_state.specs.Rows.{node_of};
+ghost use Rattle.indexed_rows.specs.Rows.{node_of};
 ghost use Rattle.site_access.specs.Depends.{node_depends};
 ghost use Rattle.site_access.specs.Account.{IsAccountOf};
 ghost use Rattle.site_access.specs.Viewing.{viewable_of, NotesNodes};

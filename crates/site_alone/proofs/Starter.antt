@@ -9,7 +9,8 @@ use Rattle.content_rows.specs.ValidRow.{IsValidRow}
 use Rattle.content_rows.specs.Permission.{anonymous, authenticated}
 use Rattle.content_rows.proofs.StarterLemmas.{in_cell_order, starter_valid}
 use Rattle.content_state.specs.State.{State}
-use Rattle.content_state.specs.SiteRules.{InOrder, MeetsSiteRules, IsValidState}
+use Rattle.indexed_rows.specs.Rows.{InOrder}
+use Rattle.content_state.specs.SiteRules.{MeetsSiteRules, IsValidState}
 use Rattle.content_state.proofs.Faults.{found_present}
 use Rattle.site_alone.specs.Sites.{rows_of, starter_site}
 

@@ -4,7 +4,7 @@ use Rattle.std.specs.List.{fold}
 use Rattle.content_rows.specs.declared.cell.Cell.{Cell}
 use Rattle.content_rows.specs.declared.row.Row.{Row}
 use Rattle.content_rows.specs.StarterRows.{starter_rows}
-use Rattle.content_state.specs.Rows.{with_row}
+use Rattle.indexed_rows.specs.Rows.{with_row}
 use Rattle.content_state.specs.State.{State}
 
 -- the map of these rows: each is set in turn

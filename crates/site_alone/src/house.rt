@@ -1,6 +1,7 @@
 //! The house of a caller that is alone with a site.
 ghost use Rattle.std.specs.Prelude.{◌≡◌, IfOk};
-ghost use Rattle.content_state.specs.SiteRules.{AreValidRows, IsValidState};
+ghost use Rattle.indexed_rows.specs.Rows.{AreValidRows};
+ghost use Rattle.content_state.specs.SiteRules.{IsValidState};
 ghost use Rattle.site_keeper.specs.Steps.{stored_of};
 ghost use Rattle.site_hall.specs.Alone.{house_of};
 ghost use Rattle.site_alone.specs.House.{opened_on};

@@ -13,8 +13,7 @@ use Rattle.content_rows.specs.CellOrder.{cell_cmp}
 use Rattle.content_rows.specs.ValidRow.{IsValidRow}
 use Rattle.content_rows.specs.declared.cell.Cell.{Cell}
 use Rattle.content_rows.specs.declared.row.Row.{Row}
-use Rattle.content_state.specs.Rows.{with_row}
-use Rattle.content_state.specs.SiteRules.{AreValidRows}
+use Rattle.indexed_rows.specs.Rows.{with_row, AreValidRows}
 use Rattle.site_files.specs.Rows.{value_of}
 
 abbrev IsRight : Cell × Row → Type 0

@@ -5,7 +5,7 @@ use Rattle.serde_json.specs.Data.{Data, object}
 use Rattle.serde_json.specs.Read.{read}
 use Rattle.content_rows.specs.declared.cell.Cell.{Cell}
 use Rattle.content_rows.specs.declared.row.Row.{Row}
-use Rattle.content_state.specs.Rows.{row_at, with_row}
+use Rattle.indexed_rows.specs.Rows.{row_at, with_row}
 use Rattle.content_state.specs.SiteRules.{IsNoSite}
 use Rattle.json_keys.specs.declared.checked.Checked.{Checked}
 use Rattle.json_keys.specs.declared.checked.Checked.TheVariants as checked

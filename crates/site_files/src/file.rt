@@ -1,6 +1,7 @@
 //! The rows of a file, and the site that they are.
 ghost use Rattle.std.specs.Prelude.{◌≡◌, [], IfOk, IfErr, OnOk, Ok};
-ghost use Rattle.content_state.specs.SiteRules.{AreValidRows, IsValidState};
+ghost use Rattle.indexed_rows.specs.Rows.{AreValidRows};
+ghost use Rattle.content_state.specs.SiteRules.{IsValidState};
 ghost use Rattle.site_files.specs.Faults.{IsCause, fault_of};
 ghost use Rattle.site_files.specs.Rows.{rows_of, IsToldBy, IsFileFault, IsSiteFault};
 

@@ -3,7 +3,7 @@ ghost use Rattle.std.specs.Prelude.{◌≡◌, IfOk, IfErr, OnOk, Ok, Some, opti
 ghost use Rattle.std.specs.Arc.{arc_value};
 ghost use Rattle.serde_json.specs.View.{view};
 ghost use Rattle.content_rows.specs.ValidRow.{IsValidRow};
-ghost use Rattle.content_state.specs.SiteRules.{AreValidRows};
+ghost use Rattle.indexed_rows.specs.Rows.{AreValidRows};
 ghost use Rattle.site_files.specs.declared.fault.LineFault.TheVariants as fault;
 ghost use Rattle.site_files.specs.declared.fault.ReadFault.TheVariants as why;
 ghost use Rattle.site_files.specs.Rows.{row_of_line, row_told, value_of, with_one_more, IsLineFault};

@@ -7,8 +7,7 @@ use Rattle.std.specs.Str.{bytes_eq}
 use Rattle.content_rows.specs.declared.cell.Cell.{Cell}
 use Rattle.content_rows.specs.declared.row.Row.{Row}
 use Rattle.row_json.specs.Reading.{written}
-use Rattle.content_state.specs.Rows.{with_row}
-use Rattle.content_state.specs.SiteRules.{InOrder}
+use Rattle.indexed_rows.specs.Rows.{with_row, InOrder}
 use Rattle.json_keys.specs.declared.rule.Rule.TheVariants as rule
 use Rattle.site_files.specs.Lines.{lines, lines_from, is_one_line, longest}
 use Rattle.site_files.specs.Rows.{row_of_line, row_told, value_of, with_one_more, with_line, go_on, rows_from}

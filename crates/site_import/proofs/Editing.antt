@@ -8,10 +8,11 @@ use Rattle.content_rows.specs.CellOrder.{cell_cmp}
 use Rattle.content_rows.specs.declared.cell.Cell.{Cell}
 use Rattle.content_rows.specs.declared.row.Row.{Row}
 use Rattle.tag_counts.specs.Counts.{IsInOrder}
-use Rattle.content_state.specs.Replay.{step, written}
-use Rattle.content_state.specs.SiteRules.{AreValidRows, InOrder, MeetsSiteRules}
+use Rattle.indexed_rows.specs.Write.{written, Write}
+use Rattle.content_state.specs.Replay.{step}
+use Rattle.indexed_rows.specs.Rows.{AreValidRows, InOrder}
+use Rattle.content_state.specs.SiteRules.{MeetsSiteRules}
 use Rattle.content_state.specs.State.{State}
-use Rattle.content_state.specs.Write.{Write}
 use Rattle.content_state.specs.declared.commit.Commit.{Commit}
 use Rattle.content_state.specs.declared.site_rules.Refusal.{Refusal}
 use Rattle.content_state.specs.declared.site_rules.Refusal.TheVariants as refusal

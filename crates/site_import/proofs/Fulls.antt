@@ -9,7 +9,7 @@ use Rattle.cacheability.specs.declared.tag.Tag.{Tag}
 use Rattle.tag_counts.proofs.Tags.{tag_cmp_exact}
 use Rattle.content_state.specs.Replay.{tags_of_commit, tags_of_write}
 use Rattle.content_state.specs.State.{State}
-use Rattle.content_state.specs.Write.{Write}
+use Rattle.indexed_rows.specs.Write.{Write}
 use Rattle.state_commits.specs.Apply.{full_tag}
 use Rattle.site_import.specs.Changes.{edit_of}
 use Rattle.site_import.specs.Full.{finds_full, first_full_cell, is_full}

@@ -5,9 +5,8 @@ use Rattle.std.proofs.lemmas.List.{take-append-le}
 use Rattle.content_rows.specs.ValidRow.{IsValidRow}
 use Rattle.content_rows.specs.declared.cell.Cell.{Cell}
 use Rattle.content_rows.specs.declared.row.Row.{Row}
-use Rattle.content_state.specs.Rows.{row_at}
-use Rattle.content_state.specs.SiteRules.{AreValidRows, InOrder}
-use Rattle.content_state.specs.Write.{Write}
+use Rattle.indexed_rows.specs.Rows.{row_at, AreValidRows, InOrder}
+use Rattle.indexed_rows.specs.Write.{Write}
 use Rattle.site_io.specs.Told.{after, AddsFront}
 use Rattle.site_import.specs.Changes.{is_change, write_of, writes_of, KeepsUnchanged}
 use Rattle.site_import.specs.Lines.{ended_line, export_text, TellsItsRow}

@@ -13,8 +13,7 @@ use Rattle.content_rows.specs.CellOrder.{cell_cmp}
 use Rattle.content_rows.specs.ValidRow.{IsValidRow}
 use Rattle.content_rows.specs.declared.cell.Cell.{Cell}
 use Rattle.content_rows.specs.declared.row.Row.{Row}
-use Rattle.content_state.specs.Rows.{row_at}
-use Rattle.content_state.specs.SiteRules.{AreValidRows}
+use Rattle.indexed_rows.specs.Rows.{row_at, AreValidRows}
 use Rattle.json_keys.specs.declared.checked.Checked.TheVariants as checked
 use Rattle.row_json.specs.Reading.{reading, written}
 use Rattle.site_files.specs.Rows.{row_or_fault, row_told, value_of}

@@ -12,9 +12,8 @@ use Rattle.content_rows.specs.CellOrder.{cell_cmp}
 use Rattle.content_rows.specs.ValidRow.{IsValidRow}
 use Rattle.content_rows.specs.declared.cell.Cell.{Cell}
 use Rattle.content_rows.specs.declared.row.Row.{Row}
-use Rattle.content_state.specs.Replay.{written}
-use Rattle.content_state.specs.Rows.{row_at}
-use Rattle.content_state.specs.SiteRules.{AreValidRows, InOrder}
+use Rattle.indexed_rows.specs.Write.{written}
+use Rattle.indexed_rows.specs.Rows.{row_at, AreValidRows, InOrder}
 use Rattle.state_commits.proofs.Entries.{below_apart, found_put_other, ordered_put}
 use Rattle.site_files.proofs.RowLaws.{stays_valid}
 use Rattle.site_import.specs.Changes.{is_change, with_entry, merged, write_of, writes_of, KeepsUnchanged}

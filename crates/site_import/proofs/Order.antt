@@ -11,8 +11,7 @@ use Rattle.content_rows.proofs.CellLemmas.{cell_cmp_total}
 use Rattle.content_rows.specs.CellOrder.{cell_cmp}
 use Rattle.content_rows.specs.declared.cell.Cell.{Cell}
 use Rattle.content_rows.specs.declared.row.Row.{Row}
-use Rattle.content_state.specs.Rows.{row_at, with_row}
-use Rattle.content_state.specs.SiteRules.{InOrder}
+use Rattle.indexed_rows.specs.Rows.{row_at, with_row, InOrder}
 
 abbrev Stored : Type 0
 Stored = List (Cell × Row)

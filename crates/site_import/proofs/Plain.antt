@@ -132,7 +132,7 @@ row_plain (row.NodeType r) = and (list field_data field r.fields) (and (text r.l
 row_plain (row.Role r) = and flag (and (list grant_data grant r.grants) (and (text r.label) (and (list text_data text r.permissions) none)))
 row_plain (row.User r) =
     and (whole r.created) (and (maybe text_data text r.digest) (and (list grant_data grant r.grants) (and (text r.name) (and (list text_data text r.roles) (and (text r.salt) (and flag (and (text r.uuid) none)))))))
-row_plain (row.Term r) = and (text r.description) (and (text r.name) (and flag (and (text r.uuid) none)))
+row_plain (row.Term r) = and (text r.description) (and (text r.name) (and (maybe whole_data whole r.parent) (and flag (and (text r.uuid) none))))
 row_plain (row.Node r) =
     and (whole r.changed) (and (whole r.created) (and (object_plain (texts_plain r.fields no_members none)) (and (list grant_row_data grant_row r.grants) (and (maybe text_data text r.path)
     (and flag (and (list whole_data whole r.refs) (and flag (and flag (and (list whole_data whole r.terms) (and (text r.title) (and (text r.node_type) (and (whole r.uid) (and (text r.uuid) (and (whole r.vid) none))))))))))))))

@@ -3,8 +3,8 @@ use Rattle.std.specs.Prelude.{List, [], ◌≡◌, Bool, true, false, not, Optio
 use Rattle.std.specs.Str.{bytes_eq}
 use Rattle.content_rows.specs.declared.cell.Cell.{Cell}
 use Rattle.content_rows.specs.declared.row.Row.{Row}
-use Rattle.content_state.specs.Rows.{row_at, with_row}
-use Rattle.content_state.specs.Write.{Write}
+use Rattle.indexed_rows.specs.Rows.{row_at, with_row}
+use Rattle.indexed_rows.specs.Write.{Write}
 use Rattle.content_state.specs.declared.commit.Commit.{Commit}
 use Rattle.site_import.specs.Lines.{line}
 

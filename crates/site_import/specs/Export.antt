@@ -2,7 +2,7 @@
 use Rattle.std.specs.Prelude.{List, [], ◌≡◌, Ok}
 use Rattle.content_rows.specs.declared.cell.Cell.{Cell}
 use Rattle.content_rows.specs.declared.row.Row.{Row}
-use Rattle.content_state.specs.SiteRules.{InOrder}
+use Rattle.indexed_rows.specs.Rows.{InOrder}
 use Rattle.site_files.specs.Rows.{rows_of}
 use Rattle.site_import.specs.Changes.{commit_of, edit_of}
 use Rattle.site_import.specs.Lines.{line, export_text, AllTellTheirRow, FitAFile, TellsItsRow}

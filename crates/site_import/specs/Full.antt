@@ -6,7 +6,7 @@ use Rattle.content_rows.specs.declared.cell.Cell.{Cell}
 use Rattle.tag_counts.specs.Counts.{count_of}
 use Rattle.content_state.specs.Replay.{tags_of_write}
 use Rattle.content_state.specs.State.{State}
-use Rattle.content_state.specs.Write.{Write}
+use Rattle.indexed_rows.specs.Write.{Write}
 
 -- whether the count of a tag is the greatest u64
 abbrev pub is_full : List (Tag × ℕ) → Tag → Bool

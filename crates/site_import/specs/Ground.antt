@@ -1,6 +1,6 @@
 -- What a file is imported onto.
 use Rattle.std.specs.Prelude.{[]}
-use Rattle.content_state.specs.SiteRules.{AreValidRows}
+use Rattle.indexed_rows.specs.Rows.{AreValidRows}
 use Rattle.content_state.specs.State.{State}
 use Rattle.site_import.specs.declared.onto.Onto.{Onto}
 use Rattle.site_import.specs.declared.onto.Onto.TheVariants as onto

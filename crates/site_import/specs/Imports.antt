@@ -6,7 +6,7 @@ use Rattle.content_rows.specs.declared.row.Row.{Row}
 use Rattle.content_state.specs.Replay.{step, IsCommit}
 use Rattle.content_state.specs.SiteRules.{IsNoSite, IsValidState, MeetsSiteRules}
 use Rattle.content_state.specs.State.{State}
-use Rattle.content_state.specs.Write.{Write}
+use Rattle.indexed_rows.specs.Write.{Write}
 use Rattle.content_state.specs.declared.site_rules.NotASite.{NotASite}
 use Rattle.state_commits.specs.Apply.{full_tag}
 use Rattle.site_files.specs.Rows.{rows_of, IsToldBy}

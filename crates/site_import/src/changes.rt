@@ -1,8 +1,8 @@
 //! What the rows of a file change where some rows stand.
 ghost use Rattle.std.specs.Prelude.{◌≡◌, All, IfOk, OnOk, fold};
 ghost use Rattle.content_rows.specs.ValidRow.{IsValidRow};
-ghost use Rattle.content_state.specs.Replay.{written};
-ghost use Rattle.content_state.specs.SiteRules.{AreValidRows, InOrder};
+ghost use Rattle.indexed_rows.specs.Write.{written};
+ghost use Rattle.indexed_rows.specs.Rows.{AreValidRows, InOrder};
 ghost use Rattle.site_import.specs.Changes.{is_change, writes_of, KeepsUnchanged};
 
 use crate::line::is_same;

@@ -2,7 +2,8 @@
 ghost use Rattle.std.specs.Prelude.{◌≡◌, None, IfOk, IfErr, OnOk};
 ghost use Rattle.std.specs.Arc.{arc_value};
 ghost use Rattle.content_state.specs.Replay.{step, IsCommit};
-ghost use Rattle.content_state.specs.SiteRules.{AreValidRows, IsValidState, MeetsSiteRules};
+ghost use Rattle.indexed_rows.specs.Rows.{AreValidRows};
+ghost use Rattle.content_state.specs.SiteRules.{IsValidState, MeetsSiteRules};
 ghost use Rattle.state_commits.specs.Apply.{full_tag};
 ghost use Rattle.site_files.specs.Rows.{IsToldBy};
 ghost use Rattle.site_import.specs.Changes.{merged, writes_of};

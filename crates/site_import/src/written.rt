@@ -1,6 +1,6 @@
 //! Files of the rows of a state.
 ghost use Rattle.std.specs.Prelude.{◌≡◌, IfErr, OnErr, OnOk};
-ghost use Rattle.content_state.specs.SiteRules.{AreValidRows};
+ghost use Rattle.indexed_rows.specs.Rows.{AreValidRows};
 ghost use Rattle.site_io.specs.Told.{after, AddsFront};
 ghost use Rattle.site_import.specs.Export.{ComesBack};
 ghost use Rattle.site_import.specs.Faults.{IsExportCause};

@@ -20,7 +20,8 @@ use Rattle.content_rows.specs.declared.cell.Cell.{Cell}
 use Rattle.content_rows.specs.declared.row.Row.{Row}
 use Rattle.content_state.specs.State.{State}
 use Rattle.content_state.specs.declared.commit.Commit.{Commit}
-use Rattle.content_state.specs.Replay.{step, tags_of_commit, written, tags_of_write}
+use Rattle.indexed_rows.specs.Write.{written}
+use Rattle.content_state.specs.Replay.{step, tags_of_commit, tags_of_write}
 use Rattle.site_keeper.specs.declared.stored.Stored.{Stored}
 use Rattle.site_keeper.specs.Keeper.{with_batch, with_entry}
 use Rattle.site_keeper.specs.Steps.{stored_of, batch_of, raised}

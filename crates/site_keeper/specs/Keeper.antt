@@ -3,7 +3,7 @@ use Rattle.std.specs.Prelude.{ℕ, List, [], ◌∷◌, ◌++◌, ◌≡◌, ◌
 use Rattle.std.specs.List.{fold}
 use Rattle.cacheability.specs.declared.tag.Tag.{Tag}
 use Rattle.tag_counts.specs.Counts.{with_count}
-use Rattle.content_state.specs.Replay.{written}
+use Rattle.indexed_rows.specs.Write.{written}
 use Rattle.site_keeper.specs.declared.fault.KeeperFault.{KeeperFault}
 use Rattle.site_keeper.specs.declared.fault.KeeperFault.TheVariants as keeper_fault
 use Rattle.site_keeper.specs.declared.stored.Stored.{Stored}

@@ -8,7 +8,7 @@ use std::alloc::Global;
 
 /// What keeps the rows of a site. An implementor owns what it keeps them in: it holds no `&mut`.
 pub trait Keeper {
-    ghost use Rattle.content_state.specs.SiteRules.{AreValidRows};
+    ghost use Rattle.indexed_rows.specs.Rows.{AreValidRows};
     ghost use Rattle.site_keeper.specs.Keeper.{Kept, with_batch, and_batch, IfTold, CountsFault, LeavesBatch, StaysSteadfast};
 
     /// What it was made of and the batches that it kept since, where it tells them.

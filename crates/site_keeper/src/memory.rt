@@ -1,6 +1,6 @@
 //! A keeper in memory.
 ghost use Rattle.std.specs.Prelude.{◌≡◌, ◌≤◌, ◌↔◌, [], Some, None, IsSome, OnOk, OnErr, IfOk, IfErr, IsErrOf};
-ghost use Rattle.content_state.specs.SiteRules.{AreValidRows};
+ghost use Rattle.indexed_rows.specs.Rows.{AreValidRows};
 ghost use Rattle.site_keeper.specs.Keeper.{held_of, with_batch, and_batch, CountsFault, LeavesBatch, StaysSteadfast};
 ghost use Rattle.site_keeper.specs.Memory.{
   Calls as CallsValue,
@@ -96,7 +96,7 @@ pub struct MemoryKeeper {
 }
 
 impl Model for MemoryKeeper {
-    ghost use Rattle.content_state.specs.SiteRules.{AreValidRows};
+    ghost use Rattle.indexed_rows.specs.Rows.{AreValidRows};
     ghost use Rattle.site_keeper.specs.Keeper.{held_of};
     ghost use Rattle.site_keeper.specs.Memory.{MemoryKeeper as MemoryKeeperValue};
 

@@ -1,8 +1,8 @@
 //! All that a keeper holds.
 ghost use Rattle.std.specs.Prelude.{◌≡◌, ◌↔◌, IfOk, OnOk, IsTrue};
 ghost use Rattle.std.specs.List.{fold};
-ghost use Rattle.content_state.specs.Replay.{written};
-ghost use Rattle.content_state.specs.SiteRules.{AreValidRows};
+ghost use Rattle.indexed_rows.specs.Write.{written};
+ghost use Rattle.indexed_rows.specs.Rows.{AreValidRows};
 ghost use Rattle.site_keeper.specs.Keeper.{with_batch, with_entry};
 
 use crate::batch::Batch;

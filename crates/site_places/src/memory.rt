@@ -2,7 +2,7 @@
 ghost use Rattle.std.specs.Prelude.{◌≡◌, ◌≤◌, ◌<◌, ◌+◌, false, IfErr, IfOk, IfSome, OnErr, OnOk, Some, is_none, length, map, option_map};
 ghost use Rattle.std.specs.String.{string_bytes};
 ghost use Rattle.site_io.specs.Memory.{up};
-ghost use Rattle.content_state.specs.SiteRules.{AreValidRows};
+ghost use Rattle.indexed_rows.specs.Rows.{AreValidRows};
 ghost use Rattle.site_places.specs.Place.{
   door_given,
   file_at,
@@ -100,7 +100,7 @@ pub struct MemoryStore {
 
 impl Model for MemoryStore {
     ghost use Rattle.std.specs.String.{string_bytes};
-    ghost use Rattle.content_state.specs.SiteRules.{AreValidRows};
+    ghost use Rattle.indexed_rows.specs.Rows.{AreValidRows};
     ghost use Rattle.site_places.specs.Place.{Store};
 
     ghost Value = { Store };

@@ -1,7 +1,7 @@
 use Rattle.std.proofs.Common.{sym, subst}
 use Rattle.content_rows.specs.ValidRow.{IsValidRow}
 use Rattle.content_rows.specs.declared.row.Row.{Row}
-use Rattle.content_state.specs.SiteRules.{AreValidRows}
+use Rattle.indexed_rows.specs.Rows.{AreValidRows}
 use Rattle.keeper_sqlite.proofs.RightRows.{stays_right}
 use Rattle.keeper_sqlite.proofs.finding.add_row.Goals as goal
 

@@ -1,5 +1,5 @@
 use Rattle.std.proofs.Common.{◌≡◌, drop}
-use Rattle.content_state.specs.SiteRules.{AreValidRows}
+use Rattle.indexed_rows.specs.Rows.{AreValidRows}
 use Rattle.keeper_sqlite.proofs.finding.take_rows.Given as goal
 use Rattle.keeper_sqlite.specs.Found.{with_rows}
 

@@ -2,7 +2,7 @@ use Rattle.std.proofs.Common.{sym, ◌∙◌, ap, subst, false, Option}
 use Rattle.std.proofs.lemmas.Result.{IfOk-weaker}
 use Rattle.std.specs.Option.{option_copied}
 use Rattle.content_rows.specs.declared.row.Block.{Block}
-use Rattle.content_state.specs.Rows.{block_of}
+use Rattle.indexed_rows.specs.Rows.{block_of}
 use Rattle.page_meaning.specs.Lazy.{is_lazy_block, Tells}
 use Rattle.page_meaning.proofs.Answering.{adds_tag, tells_nothing, block_told}
 use Rattle.page_meaning.proofs.lazy.is_lazy.Goals as goal

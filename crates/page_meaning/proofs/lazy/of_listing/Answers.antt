@@ -1,6 +1,6 @@
 use Rattle.std.proofs.Common.{ℕ, List, sym, ◌∙◌, ap, subst, Option}
 use Rattle.std.specs.Option.{option_copied}
-use Rattle.content_state.specs.Rows.{listing_of}
+use Rattle.indexed_rows.specs.Rows.{listing_of}
 use Rattle.page_meaning.specs.Lazy.{is_lazy_listing, Tells}
 use Rattle.page_meaning.proofs.Answering.{adds_tag, listing_told}
 use Rattle.page_meaning.proofs.lazy.of_listing.Goals as goal

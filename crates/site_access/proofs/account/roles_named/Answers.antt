@@ -3,7 +3,7 @@ use Rattle.std.specs.List.{filter_map, cons_option}
 use Rattle.std.proofs.lemmas.List.{take_more, map-append, append-nil}
 use Rattle.std.proofs.lemmas.List.Elements.{filter_map-append}
 use Rattle.content_rows.specs.declared.row.Role.{Role}
-use Rattle.content_state.specs.Rows.{role_of}
+use Rattle.indexed_rows.specs.Rows.{role_of}
 use Rattle.site_access.proofs.account.roles_named.Goals as goal
 use Rattle.site_access.proofs.account.roles_named.Goals.{in-Some+in_ok-push, in_default}
 

@@ -1,6 +1,6 @@
 use Rattle.std.proofs.Common.{◌≡◌, take, map}
 use Rattle.std.specs.List.{filter_map}
-use Rattle.content_state.specs.Rows.{role_of}
+use Rattle.indexed_rows.specs.Rows.{role_of}
 use Rattle.site_access.proofs.account.roles_named.Given as goal
 
 abbrev pub invariant-names : goal.invariant-names

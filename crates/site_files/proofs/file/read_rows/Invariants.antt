@@ -1,5 +1,5 @@
 use Rattle.std.proofs.Common.{◌≡◌}
-use Rattle.content_state.specs.SiteRules.{AreValidRows}
+use Rattle.indexed_rows.specs.Rows.{AreValidRows}
 use Rattle.site_io.specs.Told.{before}
 use Rattle.site_files.proofs.LineLaws.{ReadSoFar}
 use Rattle.site_files.proofs.file.read_rows.Given as goal

@@ -1,7 +1,7 @@
 use Rattle.std.proofs.Common.{◌≡◌, ◌∙◌, ◌++◌, List, [], ◌∷◌, ap, sym, subst, append-nil, append_assoc}
 use Rattle.content_rows.specs.declared.cell.Cell.{Cell}
 use Rattle.content_rows.specs.declared.row.Row.{Row}
-use Rattle.content_state.specs.Write.{Write}
+use Rattle.indexed_rows.specs.Write.{Write}
 use Rattle.site_import.specs.Changes.{is_change, writes_of, KeepsUnchanged}
 use Rattle.site_import.proofs.Left.{all_so_far, no_write, none_so_far, one_so_far, one_write, shared_write, KeptSoFar, Stored}
 use Rattle.site_import.proofs.changes.changes_of.Goals as goal

@@ -1,5 +1,5 @@
 use Rattle.std.proofs.Common.{◌≡◌, ◌++◌}
-use Rattle.content_state.specs.SiteRules.{InOrder}
+use Rattle.indexed_rows.specs.Rows.{InOrder}
 use Rattle.site_import.specs.Changes.{writes_of}
 use Rattle.site_import.proofs.Left.{KeptSoFar, Stored}
 use Rattle.site_import.proofs.changes.changes_of.Given as goal

@@ -1,5 +1,5 @@
 use Rattle.std.proofs.Common.{◌∙◌, ap}
-use Rattle.content_state.specs.Rows.{row_at}
+use Rattle.indexed_rows.specs.Rows.{row_at}
 use Rattle.site_import.proofs.LineTells.{keeps_unchanged}
 use Rattle.site_import.proofs.changes.is_change.Goals as goal
 

@@ -1,5 +1,5 @@
 use Rattle.std.proofs.Common.{◌≡◌, take, fold}
-use Rattle.content_state.specs.Replay.{written}
+use Rattle.indexed_rows.specs.Write.{written}
 use Rattle.site_import.proofs.changes.rows_after.Given as goal
 
 -- so far the writes so far are made

@@ -2,7 +2,7 @@ use Rattle.std.proofs.Common.{◌≡◌, ◌∙◌, List, sym, ap, subst}
 use Rattle.std.proofs.lemmas.Result.{err_from_is_err_and}
 use Rattle.std.specs.Arc.{arc_value}
 use Rattle.content_state.specs.SiteRules.{MeetsSiteRules}
-use Rattle.content_state.specs.Write.{Write}
+use Rattle.indexed_rows.specs.Write.{Write}
 use Rattle.site_import.specs.Changes.{merged, writes_of}
 use Rattle.site_import.specs.Full.{first_full_cell}
 use Rattle.site_import.specs.Imports.{IsJudgement}

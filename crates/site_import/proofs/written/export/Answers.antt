@@ -1,7 +1,7 @@
 use Rattle.std.proofs.Common.{◌≡◌, ◌∙◌, refl, sym, subst}
 use Rattle.content_rows.specs.declared.cell.Cell.{Cell}
 use Rattle.content_rows.specs.declared.row.Row.{Row}
-use Rattle.content_state.specs.SiteRules.{InOrder}
+use Rattle.indexed_rows.specs.Rows.{InOrder}
 use Rattle.site_import.specs.Lines.{TellsItsRow}
 use Rattle.site_import.proofs.ComingBack.{comes_back}
 use Rattle.site_import.proofs.Left.{all_so_far, all_written, front_written, none_so_far, none_written, on_err, one_so_far, one_written, Stored, ToldSoFar, WrittenSoFar}

@@ -1,5 +1,5 @@
 use Rattle.std.proofs.Common.{◌≡◌}
-use Rattle.content_state.specs.SiteRules.{InOrder}
+use Rattle.indexed_rows.specs.Rows.{InOrder}
 use Rattle.site_import.proofs.Left.{ToldSoFar, WrittenSoFar}
 use Rattle.site_import.proofs.written.export.Given as goal
 

@@ -1,6 +1,6 @@
 use Rattle.std.proofs.Common.{◌≡◌, take}
 use Rattle.std.specs.List.{fold}
-use Rattle.content_state.specs.Replay.{written}
+use Rattle.indexed_rows.specs.Write.{written}
 use Rattle.site_keeper.proofs.stored.make_writes.Given as goal
 
 abbrev pub invariant-writes : goal.invariant-writes

@@ -3,7 +3,7 @@ use Rattle.std.specs.Prelude.{Result, Ok, Err, OnOk}
 use Rattle.std.specs.Option.{IsSome}
 use Rattle.std.proofs.lemmas.List.{length-drop, length-take-le}
 use Rattle.std.proofs.lemmas.List.Elements.{All-take, All-drop}
-use Rattle.content_state.specs.Rows.{node_of}
+use Rattle.indexed_rows.specs.Rows.{node_of}
 use Rattle.site_access.specs.Viewing.{viewable_of, NotesNodes}
 use Rattle.site_access.proofs.NotedNodes.{found_then, notes_beside, halves}
 use Rattle.site_access.proofs.account.Account.+note_viewable.Goals as goal

@@ -1,6 +1,6 @@
 use Rattle.std.proofs.Common.{◌≡◌, true, false, sym, ap, ◌∙◌, Some, option_copied}
 use Rattle.std.proofs.lemmas.Result.{IfOk-weaker}
-use Rattle.content_state.specs.Rows.{node_of}
+use Rattle.indexed_rows.specs.Rows.{node_of}
 use Rattle.content_state.specs.Viewer.{may, bypass_node_access, access_content}
 use Rattle.site_access.proofs.WholeResults.{voted}
 use Rattle.site_access.proofs.account.Account.decide_node.Goals as goal

@@ -2,7 +2,7 @@ use Rattle.std.proofs.Common.{◌≡◌, ◌++◌, ◌∷◌, ◌+◌, [], take,
 use Rattle.std.specs.Option.{IsSome}
 use Rattle.std.proofs.lemmas.List.{take_more}
 use Rattle.std.proofs.lemmas.List.Elements.{All-get_or}
-use Rattle.content_state.specs.Rows.{node_of}
+use Rattle.indexed_rows.specs.Rows.{node_of}
 use Rattle.site_access.specs.Viewing.{viewable_of, NotesNodes}
 use Rattle.site_access.proofs.NotedNodes.{notes_none, notes_one, notes_then, found_then}
 use Rattle.site_access.proofs.account.Account.note_few.Goals as goal
