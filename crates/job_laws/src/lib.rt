@@ -3,4 +3,4 @@
 
 mod laws;
 
-pub use laws::replays_complete;
+pub use laws::{replays_complete, runs_complete};
