@@ -72,7 +72,8 @@ pub fn over<S: Alter + Drop>(
 }
 
 /// A keeper over the store in the file at a path. It has not failed. Where no file is there, or the file was refused, it is
-/// `Refused`; what else it holds is refused as `tables_sqlite` refuses it. Nothing is made.
+/// `Refused`; what else it holds is refused as `tables_sqlite` refuses it. No file is made; SQLite writes its header into an
+/// empty one before that is refused.
 pub fn open_keeper(rt: &HostRuntime, path: &str) -> Result<FileKeeper, NoKeeper>
     ensures { IfOk result (λ keeper. keeper.1 ≡ 0) }
 {

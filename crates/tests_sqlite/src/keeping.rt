@@ -234,7 +234,7 @@ fn a_store_that_is_not_there_is_not_made(rt: HostRuntime) -> Result<(), Fail> {
     Ok(())
 }
 
-/// A file without a store is refused, and left as it is: an empty one, and one whose log was taken away.
+/// A file without a store is refused: an empty one, into which SQLite writes its header, and one whose log was taken away.
 #[test]
 fn a_file_without_a_store_is_refused(rt: HostRuntime) -> Result<(), Fail> {
     let refused = Err(KeeperFault::Failed);
