@@ -3,6 +3,7 @@ pub mod Logs
 pub mod Batches
 pub mod Verdicts
 pub mod Halls
+pub mod Keepers
 pub mod Readiness
 pub mod Sublists
 pub mod Callers

@@ -8,6 +8,7 @@ ghost use Rattle.indexed_rows.specs.Rows.{AreValidRows};
 ghost use Rattle.content_state.specs.SiteRules.{IsRefusal};
 ghost use Rattle.site_commands.specs.Right.{IsRight};
 ghost use Rattle.site_keeper.specs.Keeper.{IfTold};
+ghost use Rattle.site_keeper.specs.Steps.{stored_of};
 ghost use Rattle.site_hall.specs.Stock.{bins_in, tally_in, AreSound};
 ghost use Rattle.site_hall.specs.Hall.{IsHall, StaysSteadfast, Settles, Answers, Tells, number_of, settled_by};
 ghost use Rattle.site_hall.specs.Opened.{state_in, stock_in, opened_in, opened_with, IsBack};
@@ -286,6 +287,32 @@ impl<K: Keeper> Hall<K> {
             keeper,
         } = self;
         keeper
+    }
+
+    /// The hall with another keeper, which holds what was loaded, where no edit was published and none is pending; and the
+    /// keeper that it had. What is kept of pages stays.
+    pub fn with_keeper<L: Keeper>(self, keeper: L) -> (Hall<L>, K)
+        requires new { (self.log ≡ []) × (self.pending ≡ None) }
+        requires told { IfTold (L.kept keeper) (λ held. held ≡ stored_of self.base) }
+        ensures hall { result.0 ≡ opened_in self.stock (stored_of self.base) (L.kept keeper) (L.faults keeper) (L.steadfast keeper) }
+        ensures is_hall { IsHall result.0 }
+        ensures kept { K.kept result.1 ≡ self.kept }
+        ensures faults { K.faults result.1 ≡ self.faults }
+        ensures steadfast { K.steadfast result.1 ≡ self.steadfast }
+    {
+        let Hall {
+            log,
+            pending,
+            stock,
+            keeper: former,
+        } = self;
+        let hall = Hall {
+            log,
+            pending,
+            stock,
+            keeper,
+        };
+        (hall, former)
     }
 
     /// The number of the newest state.
