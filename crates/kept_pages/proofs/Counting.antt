@@ -95,8 +95,8 @@ one_more built count n is told = omega arith
 -- ---- what became of what is kept
 
 told_back : (r : Reader) (a b : Shelves) → StaysKept a b → (d : Bin) (x : Subject) (told : Option (List Context)) → IsToldBy r b d x told → IsToldBy r a d x told
-told_back r a b stays d x None none = λ c h. none c ((stays.things d).there _ h)
-told_back r a b stays d x (Some c) alone = record { there = (stays.things d).back _ alone.there; only = λ other h. alone.only other ((stays.things d).there _ h) }
+told_back r a b stays d x None none = λ two c h. none two c ((stays.things d).there _ h)
+told_back r a b stays d x (Some c) (two, alone) = (two, record { there = (stays.things d).back _ alone.there; only = λ other h. alone.only other ((stays.things d).there _ h) })
 
 goes_after : (r : Reader) (a b : Shelves) (t : Went) (c : Shelves) → StaysKept a b → Goes r b t c → Goes r a t c
 goes_after r a b Done c stays g = stays-then a b c stays g

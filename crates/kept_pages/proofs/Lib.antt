@@ -7,5 +7,6 @@ pub mod Taking
 pub mod Counting
 pub mod Lasting
 pub mod Pages
+pub mod FewPieces
 pub mod Timeless
 pub mod Most

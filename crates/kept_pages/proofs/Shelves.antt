@@ -1,5 +1,5 @@
 -- What a look and a keep do to what is kept.
-use Rattle.std.proofs.Common.{ℕ, List, [], ◌∷◌, ◌++◌, ◌≡◌, ◌≤◌, ◌<◌, ◌⊎◌, min, inl, inr, refl, sym, ◌∙◌, ap, subst, arith, Contains, Option, Some, None, IfSome, IsSomeAnd, MatchOption, option_copied, option_map, OnOk, Result, Ok, Err, Bor}
+use Rattle.std.proofs.Common.{ℕ, List, [], ◌∷◌, ◌++◌, ◌≡◌, ◌≤◌, ◌<◌, ◌⊎◌, min, inl, inr, refl, sym, ◌∙◌, ap, subst, arith, Contains, true, false, true≢false, Option, Some, None, IfSome, IsSomeAnd, MatchOption, option_copied, option_map, OnOk, Result, Ok, Err, Bor}
 use Rattle.std.proofs.lemmas.List.Elements.{All-head, All-tail}
 use Rattle.std.specs.Arc.{arc_value}
 use Rattle.std.specs.declared.sync.Arc.{Arc}
@@ -20,13 +20,13 @@ use Rattle.cache_entries.specs.declared.kept.Kept.{Kept as Offer}
 use Rattle.cache_entries.specs.Entries.{IsFresh}
 use Rattle.fragment_cache.specs.Bins.{Bins, Shelf, Thing, Whole, Towards, shelf_of, with_shelf, thing_of, thing_found, IsAbsent, MovesUp, LooksIn, Replaces, KeepsAt}
 use Rattle.element_entries.specs.Readers.{Reader}
-use Rattle.element_entries.specs.Keeping.{MayKeep, second_contexts}
+use Rattle.element_entries.specs.Keeping.{MayKeep}
 use Rattle.element_entries.specs.Keys.{visit, declared_by, first_by, first_contexts, key_by}
 use Rattle.element_entries.specs.declared.first.Declared.{Declared}
 use Rattle.site_house.specs.House.{HouseView}
 use Rattle.site_house.specs.Bins.{LooksAt, LooksUp, KeepsUnder, KeepsAt as KeepsInHouse, unkept_by}
 use Rattle.kept_pages.specs.declared.looking.Seen.{Seen}
-use Rattle.kept_pages.specs.Held.{Shelves, IsTold, first_of, looked_by, things_in, NothingLost, Rises, StaysKept, StandsFresh, HeldBy, Held, StandsAlone, SeenOnce, SeenIn, Landed, Puts, StandsBy, IsHeldBy, Offers, Closes}
+use Rattle.kept_pages.specs.Held.{Shelves, IsTold, first_of, things_in, NothingLost, Rises, StaysKept, StandsFresh, has_second, HeldBy, Held, StandsAlone, SeenOnce, SeenIn, Landed, Puts, StandsBy, second_in, IsHeldBy, Offers, Closes}
 
 pub stays-refl : (s : Shelves) → StaysKept s s
 stays-refl s = record { things = λ b. same_refl (things_in s b); dropped = refl; unkept = refl }
@@ -193,7 +193,7 @@ module _ (r : Reader) (old : Shelves) (b : Bin) (s : Subject) where
   abbrev first_key : Key
   first_key = first_of r s
 
-  pub seen_first : (key : Key) (seen : Seen) (new : HouseView) → key ≡ first_key → SeenOnce r old b key seen new → seen.told ≡ None → SeenIn r old b s (record { entry = seen.entry; told = None }) new
+  pub seen_first : (key : Key) (seen : Seen) (new : HouseView) → key ≡ first_key → SeenOnce r old b key seen new → (has_second b ≡ true → seen.told ≡ None) → SeenIn r old b s (record { entry = seen.entry; told = None }) new
   seen_first key seen new is once none =
       let t : SeenOnce r old b first_key seen new = subst (λ k. SeenOnce r old b k seen new) is once in
       record {
@@ -202,7 +202,7 @@ module _ (r : Reader) (old : Shelves) (b : Bin) (s : Subject) where
         stays = t.stays;
         held = held_of seen.entry t.here;
         not_held = λ e h. not_of t e h;
-        told = λ c h. t.not_towards none c h;
+        told = λ two c h. t.not_towards (none two) c h;
       }
     where
       held_of : (o : Option (Arc Entry Global)) → IfSome o (λ e. StandsFresh r (things_in old b) first_key (arc_value e)) → IfSome o (λ e. HeldBy r old b s (arc_value e))
@@ -211,7 +211,7 @@ module _ (r : Reader) (old : Shelves) (b : Bin) (s : Subject) where
 
       not_of : SeenOnce r old b first_key seen new → seen.entry ≡ None → Held r old b s → ⊥
       not_of t e (x, inl h) = t.not_here e x h
-      not_of t e (x, inr h) = t.not_towards none h.contexts h.redirect
+      not_of t e (x, inr (two, h)) = t.not_towards (none two) h.contexts h.redirect
 
   towards_is : (x y : List Context) → Towards x ≡ Towards y → x ≡ y
   towards_is x y e = cc
@@ -219,36 +219,36 @@ module _ (r : Reader) (old : Shelves) (b : Bin) (s : Subject) where
   whole_towards : (x : Entry) (y : List Context) → Whole x ≡ Towards y → ⊥
   whole_towards x y e = cc
 
-  pub seen_second : (mid : Shelves) (contexts : List Context) (two : Seen) (told : Arc (List Context) Global) (new : HouseView) → arc_value told ≡ contexts → StaysKept old mid → StandsAlone (things_in old b) first_key contexts
+  pub seen_second : (mid : Shelves) (contexts : List Context) (two : Seen) (told : Arc (List Context) Global) (new : HouseView) → has_second b ≡ true → arc_value told ≡ contexts → StaysKept old mid → StandsAlone (things_in old b) first_key contexts
       → SeenOnce r mid b (key_by (visit r) s contexts) two new → SeenIn r old b s (record { entry = two.entry; told = Some told }) new
-  seen_second mid contexts two told new same stays alone u = record {
+  seen_second mid contexts two told new has same stays alone u = record {
     after = u.after;
     is = u.is;
     stays = stays-then old mid u.after stays u.stays;
     held = held_of two.entry u.here;
     not_held = λ e h. not_of e h;
-    told = subst (λ c. StandsAlone (things_in old b) first_key c) (sym same) alone;
+    told = (has, subst (λ c. StandsAlone (things_in old b) first_key c) (sym same) alone);
   }
     where
       held_of : (o : Option (Arc Entry Global)) → IfSome o (λ e. StandsFresh r (things_in mid b) (key_by (visit r) s contexts) (arc_value e)) → IfSome o (λ e. HeldBy r old b s (arc_value e))
       held_of None h = tt
-      held_of (Some e) h = inr (record { contexts = contexts; redirect = alone.there; second = record { there = (stays.things b).back _ h.there; fresh = h.fresh } })
+      held_of (Some e) h = inr (has, record { contexts = contexts; redirect = alone.there; second = record { there = (stays.things b).back _ h.there; fresh = h.fresh } })
 
       not_of : two.entry ≡ None → Held r old b s → ⊥
       not_of e (x, inl h) = whole_towards x contexts (alone.only (Whole x) h.there)
-      not_of e (x, inr h) =
+      not_of e (x, inr (_, h)) =
           let those = towards_is h.contexts contexts (alone.only (Towards h.contexts) h.redirect) in
           u.not_here e x (record {
             there = (stays.things b).there _ (subst (λ cs. Contains (things_in old b) (key_by (visit r) s cs, Whole x)) those h.second.there);
             fresh = h.second.fresh;
           })
 
-  pub seen_both : (first second : Key) (one two : Seen) (contexts : Arc (List Context) Global) (mid new : HouseView)
+  pub seen_both : (first second : Key) (one two : Seen) (contexts : Arc (List Context) Global) (mid new : HouseView) → has_second b ≡ true
       → first ≡ first_key → (o : SeenOnce r old b first one mid) → one.told ≡ Some contexts
       → second ≡ key_by (visit r) s (arc_value contexts) → SeenOnce r o.after b second two new
       → SeenIn r old b s (record { entry = two.entry; told = Some contexts }) new
-  seen_both first second one two contexts mid new is o some is2 t =
-      seen_second o.after (arc_value contexts) two contexts new refl o.stays
+  seen_both first second one two contexts mid new has is o some is2 t =
+      seen_second o.after (arc_value contexts) two contexts new has refl o.stays
       (subst (λ k. StandsAlone (things_in old b) k (arc_value contexts)) is
       (subst (λ (x : Option (Arc (List Context) Global)). IfSome x (λ c. StandsAlone (things_in old b) first (arc_value c))) some o.towards))
       (subst (λ k. SeenOnce r o.after b k two new) is2 t)
@@ -375,22 +375,26 @@ put_told house new b key key' kept thing result keeps is same old told =
 
 -- ---- one entry is offered
 
+-- something has a second key in a bin that has such keys
+in_second : (b : Bin) (first : List Context) (told : Option (List Context)) (contexts those : List Context) → second_in b first told contexts ≡ Some those → has_second b ≡ true
+in_second bin.Fragments first told contexts those is = refl
+in_second bin.Dynamic first told contexts those is = refl
+in_second bin.Anonymous first told contexts those is = absurd (cc)
+
 -- what stands so is held
-pub stands_held : (r : Reader) (shelves : Shelves) (b : Bin) (s : Subject) (second : Option (List Context)) (e : Entry) → StandsBy r (things_in shelves b) s second e → HeldBy r shelves b s e
-stands_held r shelves b s None e h = inl h
-stands_held r shelves b s (Some contexts) e (h, inl redirect) = inr (record { contexts = contexts; redirect = redirect; second = h })
-stands_held r shelves b s (Some contexts) e (h, inr same) = inl (subst (λ k. StandsFresh r (things_in shelves b) k e) (sym same) h)
+stands_so : (r : Reader) (shelves : Shelves) (b : Bin) (s : Subject) (second : Option (List Context)) (e : Entry) → ((contexts : List Context) → second ≡ Some contexts → has_second b ≡ true) → StandsBy r (things_in shelves b) s second e → HeldBy r shelves b s e
+stands_so r shelves b s None e has h = inl h
+stands_so r shelves b s (Some contexts) e has (h, inl redirect) = inr (has contexts refl, record { contexts = contexts; redirect = redirect; second = h })
+stands_so r shelves b s (Some contexts) e has (h, inr same) = inl (subst (λ k. StandsFresh r (things_in shelves b) k e) (sym same) h)
+
+pub stands_held : (r : Reader) (shelves : Shelves) (b : Bin) (s : Subject) (first : List Context) (told : Option (List Context)) (contexts : List Context) (e : Entry) → StandsBy r (things_in shelves b) s (second_in b first told contexts) e → HeldBy r shelves b s e
+stands_held r shelves b s first told contexts e = stands_so r shelves b s (second_in b first told contexts) e (in_second b first told contexts)
 
 -- contexts that are lent are the same
 pub lent : (o : Option (Arc (List Context) Global)) (given : Option (Bor (List Context))) → MatchOption o (given ≡ None) (λ x. IsSomeAnd given (λ y. y.now ≡ arc_value x)) → option_copied given ≡ option_map arc_value o
 lent None given same = ap option_copied same
 lent (Some x) None h = absurd h
 lent (Some x) (Some y) h = ap Some h
-
--- where there is no second key, the first one was looked at last
-pub looked_first : (first : List Context) (told : Option (List Context)) (contexts : List Context) → second_contexts first told contexts ≡ None → looked_by first told ≡ first
-looked_first first None contexts none = refl
-looked_first first (Some c) contexts none = absurd (let same = none in cc)
 
 -- the contexts of a second key, if there is one
 pub no_second : (o : Option (Arc (List Context) Global)) (second : Option (List Context)) → o ≡ None → option_map arc_value o ≡ second → second ≡ None
@@ -400,7 +404,7 @@ pub one_second : (o : Option (Arc (List Context) Global)) (second : Option (List
 one_second o second x is same = sym same ∙ ap (option_map arc_value) is
 
 module _ (r : Reader) (old : Shelves) (b : Bin) (s : Subject) (e : Entry) (fresh : IsFresh r.state r.viewer r.ask r.moment e) where
-  pub offered_first : (told : Option (List Context)) (new : HouseView) → second_contexts (first_contexts r.state.rows s) told e.cacheability.contexts ≡ None → Puts old b (first_of r s) (Whole e) new → Offers r old b s told e new
+  pub offered_first : (told : Option (List Context)) (new : HouseView) → second_in b (first_contexts r.state.rows s) told e.cacheability.contexts ≡ None → Puts old b (first_of r s) (Whole e) new → Offers r old b s told e new
   offered_first told new is p = record {
     after = p.after;
     is = p.is;
@@ -411,7 +415,7 @@ module _ (r : Reader) (old : Shelves) (b : Bin) (s : Subject) (e : Entry) (fresh
     };
   }
 
-  pub offered_second : (told : Option (List Context)) (contexts : List Context) (mid new : HouseView) → second_contexts (first_contexts r.state.rows s) told e.cacheability.contexts ≡ Some contexts
+  pub offered_second : (told : Option (List Context)) (contexts : List Context) (mid new : HouseView) → second_in b (first_contexts r.state.rows s) told e.cacheability.contexts ≡ Some contexts
       → (p : Puts old b (first_of r s) (Towards contexts) mid) → Puts p.after b (key_by (visit r) s contexts) (Whole e) new → Offers r old b s told e new
   offered_second told contexts mid new is p q = record {
     after = q.after;

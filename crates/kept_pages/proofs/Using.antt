@@ -5,7 +5,7 @@ use Rattle.cache_entries.specs.declared.entry.Entry.{Entry}
 use Rattle.cache_entries.specs.declared.key.Subject.{Subject}
 use Rattle.cache_entries.specs.declared.kept.Bin.{Bin}
 use Rattle.element_entries.specs.Readers.{Reader}
-use Rattle.element_entries.specs.Keeping.{MayKeep, second_contexts}
+use Rattle.element_entries.specs.Keeping.{MayKeep}
 use Rattle.element_entries.specs.Keys.{first_contexts}
 use Rattle.site_house.specs.House.{HouseView}
 use Rattle.kept_pages.specs.Held.{Shelves, IsTold, NothingLost, Rises, StaysKept, HeldBy, Held, IsHeldBy, ClosesTo, Goes, AllHeld, JustHeld, RestIsBuilt, GoesTo}
@@ -15,11 +15,11 @@ use Rattle.kept_pages.proofs.Shelves.{rises-then, lost_first, lost_then, stands_
 -- what stays kept stays held
 pub stays_back : (r : Reader) (a b : Shelves) → StaysKept a b → (d : Bin) (x : Subject) (e : Entry) → HeldBy r b d x e → HeldBy r a d x e
 stays_back r a b stays d x e (inl k) = inl (record { there = (stays.things d).back _ k.there; fresh = k.fresh })
-stays_back r a b stays d x e (inr k) = inr (record { contexts = k.contexts; redirect = (stays.things d).back _ k.redirect; second = record { there = (stays.things d).back _ k.second.there; fresh = k.second.fresh } })
+stays_back r a b stays d x e (inr (two, k)) = inr (two, record { contexts = k.contexts; redirect = (stays.things d).back _ k.redirect; second = record { there = (stays.things d).back _ k.second.there; fresh = k.second.fresh } })
 
 pub stays_held : (r : Reader) (a b : Shelves) → StaysKept a b → (d : Bin) (x : Subject) → Held r a d x → Held r b d x
 stays_held r a b stays d x (e, inl k) = (e, inl (record { there = (stays.things d).there _ k.there; fresh = k.fresh }))
-stays_held r a b stays d x (e, inr k) = (e, inr (record { contexts = k.contexts; redirect = (stays.things d).there _ k.redirect; second = record { there = (stays.things d).there _ k.second.there; fresh = k.second.fresh } }))
+stays_held r a b stays d x (e, inr (two, k)) = (e, inr (two, record { contexts = k.contexts; redirect = (stays.things d).there _ k.redirect; second = record { there = (stays.things d).there _ k.second.there; fresh = k.second.fresh } }))
 
 stays_rises : (a b : Shelves) → StaysKept a b → Rises a b
 stays_rises a b stays = let d = stays.dropped in let u = stays.unkept in record { dropped = omega arith; unkept = omega arith }
@@ -54,16 +54,16 @@ one_of r new b c s x e held is =
     subst (λ y. Held r new c y) (sym is.1) (subst (λ d. Held r new d s) (sym is.0) (e, held))
 
 held_of : (r : Reader) (old new : Shelves) (b : Bin) (s : Subject) (told : Option (List Context)) (e : Entry) → IsHeldBy r old b s told e new → HeldBy r new b s e
-held_of r old new b s told e kept = stands_held r new b s (second_contexts (first_contexts r.state.rows s) told e.cacheability.contexts) e kept.held
+held_of r old new b s told e kept = stands_held r new b s (first_contexts r.state.rows s) told e.cacheability.contexts e kept.held
 
 kept_held : (r : Reader) (old new : Shelves) (b : Bin) (s : Subject) (told : Option (List Context)) (e : Entry) → IsHeldBy r old b s told e new → (c : Bin) (x : Subject) → Held r old c x → Held r new c x
 kept_held r old new b s told e kept c x (f, inl h) = elim (kept.others c _ h.there) [
   | inl there ↦ (f, inl (record { there = there; fresh = h.fresh }))
   | inr is ↦ one_of r new b c s x e (held_of r old new b s told e kept) is
 ]
-kept_held r old new b s told e kept c x (f, inr h) = elim (kept.others c _ h.redirect) [
+kept_held r old new b s told e kept c x (f, inr (two, h)) = elim (kept.others c _ h.redirect) [
   | inl redirect ↦ elim (kept.others c _ h.second.there) [
-    | inl there ↦ (f, inr (record { contexts = h.contexts; redirect = redirect; second = record { there = there; fresh = h.second.fresh } }))
+    | inl there ↦ (f, inr (two, record { contexts = h.contexts; redirect = redirect; second = record { there = there; fresh = h.second.fresh } }))
     | inr is ↦ one_of r new b c s x e (held_of r old new b s told e kept) is
   ]
   | inr is ↦ one_of r new b c s x e (held_of r old new b s told e kept) is

@@ -1,6 +1,6 @@
 -- What is kept for a reader, and what a look, a keep and a whole page do to it.
 -- https://www.drupal.org/docs/drupal-apis/cache-api/cache-api
-use Rattle.std.specs.Prelude.{ℕ, List, ◌≡◌, ◌≤◌, ◌<◌, ◌⊎◌, ◌+◌, min, Contains, Option, Some, None, IfSome, option_map}
+use Rattle.std.specs.Prelude.{ℕ, List, ◌≡◌, ◌≤◌, ◌<◌, ◌⊎◌, ◌+◌, min, Contains, Bool, true, false, Option, Some, None, IfSome, option_map, if◌then◌else◌}
 use Rattle.std.specs.Arc.{arc_value}
 use Rattle.cacheability.specs.declared.context.Context.{Context}
 use Rattle.content_state.specs.Met.{Met}
@@ -9,6 +9,7 @@ use Rattle.cache_entries.specs.declared.entry.Entry.{Entry}
 use Rattle.cache_entries.specs.declared.key.Key.{Key}
 use Rattle.cache_entries.specs.declared.key.Subject.{Subject}
 use Rattle.cache_entries.specs.declared.kept.Bin.{Bin}
+use Rattle.cache_entries.specs.declared.kept.Bin.TheVariants as bin
 use Rattle.cache_entries.specs.Entries.{IsFresh}
 use Rattle.fragment_cache.specs.Bins.{Bins, Thing, Whole, Towards, shelf_of}
 use Rattle.element_entries.specs.Readers.{Reader}
@@ -51,6 +52,14 @@ pub record StaysKept (old new : Shelves) : Type 0 where
 
 -- ---- what is held for a reader
 
+-- Whether what varies by more than its first contexts stands at a second key in this bin. The page of a target doesn't: what it
+-- varies by has one value for all who ask for that target without a session, until something changes, and then it is no longer
+-- fresh. A second key would tell nothing more apart, and take another room and another look.
+abbrev pub has_second : Bin → Bool
+has_second bin.Fragments = true
+has_second bin.Dynamic = true
+has_second bin.Anonymous = false
+
 -- the key that something is looked for by first
 abbrev pub first_of : Reader → Subject → Key
 first_of r s = key_by (visit r) s (first_contexts r.state.rows s)
@@ -60,7 +69,7 @@ pub record StandsFresh (r : Reader) (things : List (Key × Thing)) (key : Key) (
   pub there : Contains things (key, Whole e)
   pub fresh : IsFresh r.state r.viewer r.ask r.moment e
 
--- or at the second key, which the redirect at the first gives
+-- or at the second key, which the redirect at the first gives, in a bin that has second keys
 pub record StandsBehind (r : Reader) (things : List (Key × Thing)) (s : Subject) (e : Entry) : Type 0 where
   pub contexts : List Context
   pub redirect : Contains things (first_of r s, Towards contexts)
@@ -68,7 +77,8 @@ pub record StandsBehind (r : Reader) (things : List (Key × Thing)) (s : Subject
 
 -- what is held in a bin, by an entry
 abbrev pub HeldBy : Reader → Shelves → Bin → Subject → Entry → Type 0
-HeldBy r shelves b s e = StandsFresh r (things_in shelves b) (first_of r s) e ⊎ StandsBehind r (things_in shelves b) s e
+HeldBy r shelves b s e =
+    StandsFresh r (things_in shelves b) (first_of r s) e ⊎ ((has_second b ≡ true) × StandsBehind r (things_in shelves b) s e)
 
 abbrev pub Held : Reader → Shelves → Bin → Subject → Type 0
 Held r shelves b s = (e : Entry) × HeldBy r shelves b s e
@@ -90,10 +100,10 @@ pub record SeenOnce (r : Reader) (old : Shelves) (b : Bin) (key : Key) (seen : S
   pub not_here : seen.entry ≡ None → (e : Entry) → StandsFresh r (things_in old b) key e → ⊥
   pub not_towards : seen.told ≡ None → (c : List Context) → Contains (things_in old b) (key, Towards c) → ⊥
 
--- what a redirect at the first key tells, if one stands there
+-- what a redirect at the first key tells, if one stands there in a bin that has second keys; in the other one nothing is told
 abbrev pub IsToldBy : Reader → Shelves → Bin → Subject → Option (List Context) → Type 0
-IsToldBy r shelves b s None = (c : List Context) → Contains (things_in shelves b) (first_of r s, Towards c) → ⊥
-IsToldBy r shelves b s (Some c) = StandsAlone (things_in shelves b) (first_of r s) c
+IsToldBy r shelves b s None = has_second b ≡ true → (c : List Context) → Contains (things_in shelves b) (first_of r s, Towards c) → ⊥
+IsToldBy r shelves b s (Some c) = (has_second b ≡ true) × StandsAlone (things_in shelves b) (first_of r s) c
 
 -- the contexts of the key that was looked at last, by those of the first one and what a redirect told
 abbrev pub looked_by : List Context → Option (List Context) → List Context
@@ -104,7 +114,7 @@ looked_by first (Some contexts) = contexts
 abbrev pub IsLookedAt : Reader → Key → Option (List Context) → Type 0
 IsLookedAt r key told = key ≡ key_by (visit r) key.subject (looked_by (first_contexts r.state.rows key.subject) told)
 
--- a look at the first key, and at the second where a redirect gives it: it is held by what was seen, or isn't held; and what the
+-- a look at the first key, and at the second where a redirect gives it in a bin that has second keys: it is held by what was seen, or isn't held; and what the
 -- redirect told
 pub record SeenIn (r : Reader) (old : Shelves) (b : Bin) (s : Subject) (seen : Seen) (new : HouseView) : Type 0 where
   pub after : Shelves
@@ -136,9 +146,14 @@ StandsBy r things s (Some contexts) e =
     StandsFresh r things (key_by (visit r) s contexts) e
     × (Contains things (first_of r s, Towards contexts) ⊎ (first_of r s ≡ key_by (visit r) s contexts))
 
--- An entry is held, behind a redirect that takes over what was told; and nothing under keys of anything else changed.
+-- the contexts of the second key of something in a bin, if it has one there
+abbrev pub second_in : Bin → List Context → Option (List Context) → List Context → Option (List Context)
+second_in b first told contexts = if has_second b then second_contexts first told contexts else None
+
+-- An entry is held, at the first key, or behind a redirect that takes over what was told; and nothing under keys of anything else
+-- changed.
 pub record IsHeldBy (r : Reader) (old : Shelves) (b : Bin) (s : Subject) (told : Option (List Context)) (e : Entry) (new : Shelves) : Type 0 where
-  pub held : StandsBy r (things_in new b) s (second_contexts (first_contexts r.state.rows s) told e.cacheability.contexts) e
+  pub held : StandsBy r (things_in new b) s (second_in b (first_contexts r.state.rows s) told e.cacheability.contexts) e
   pub others : (c : Bin) (p : Key × Thing) → Contains (things_in old c) p → Contains (things_in new c) p ⊎ ((c ≡ b) × (p.0.subject ≡ s))
 
 -- an entry was to be kept: where nothing was lost it is held

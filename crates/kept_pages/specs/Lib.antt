@@ -3,5 +3,6 @@ pub mod Went
 pub mod Needed
 pub mod Joins
 pub mod Wholes
+pub mod Compact
 pub mod Lasting
 pub mod Held

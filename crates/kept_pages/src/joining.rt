@@ -98,7 +98,7 @@ pub fn add_bytes(joined: &mut Joined, shared: &Arc<Bytes>) -> Result<(), AllocEr
 }
 
 /// A hole behind the segments. For want of memory nothing is added.
-fn push_hole<T: Copy + Drop>(segments: &mut Segments<T>, hole: &T) -> Result<(), AllocError>
+pub fn push_hole<T: Copy + Drop>(segments: &mut Segments<T>, hole: &T) -> Result<(), AllocError>
     ensures { OnOk result (segments.new ≡ segments.old ++ Opening hole.now ∷ []) }
 {
     segments.push_hole(*hole)?;

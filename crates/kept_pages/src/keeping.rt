@@ -1,5 +1,5 @@
 //! Keeping what was built.
-ghost use Rattle.std.specs.Prelude.{◌≡◌, IfOk, OnOk};
+ghost use Rattle.std.specs.Prelude.{◌≡◌, IfOk, OnOk, option_map};
 ghost use Rattle.std.specs.Arc.{arc_value};
 ghost use Rattle.std.specs.Option.{option_copied};
 ghost use Rattle.cache_entries.specs.Entries.{IsHere, IsClosed};
@@ -8,13 +8,14 @@ ghost use Rattle.fragment_cache.specs.Bins.{thing_of};
 ghost use Rattle.page_meaning.specs.Meaning.{meaning};
 ghost use Rattle.render_canvas.specs.Board.{pieces_of};
 ghost use Rattle.site_house.specs.Bins.{MayBeKeptIn};
-ghost use Rattle.element_entries.specs.Keys.{visit, declared_by, key_by};
+ghost use Rattle.element_entries.specs.Keys.{visit, declared_by, first_by, key_by};
 ghost use Rattle.element_entries.specs.Making.{Bubbles};
 ghost use Rattle.kept_pages.specs.Houses.{Steady, Reads, IsMadeFor};
 ghost use Rattle.kept_pages.specs.Joins.{IsWhole};
-ghost use Rattle.kept_pages.specs.Held.{Shelves, IsTold, first_of, IsLookedAt, Puts, Offers, Closes};
+ghost use Rattle.kept_pages.specs.Held.{Shelves, IsTold, first_of, IsLookedAt, Puts, second_in, Offers, Closes};
 
 use crate::joining::{Child, Filled};
+use crate::looking::has_second;
 use cache_entries::{Bin, Entry, Kept, Key, Subject};
 use cacheability::{Context, OrderedSet};
 use element_entries::{
@@ -60,6 +61,23 @@ fn first_again(
     }
 }
 
+/// The contexts of the second key of something in a bin, where it has one there.
+fn second_in(
+    alloc: Global,
+    bin: Bin,
+    declared: Declared,
+    told: Option<&OrderedSet<Context>>,
+    contexts: &OrderedSet<Context>,
+) -> Result<Option<Arc<OrderedSet<Context>>>, AllocError>
+    ensures { IfOk result (λ second. option_map arc_value second ≡ second_in bin (first_by declared) (option_copied told.entry) contexts.now) }
+{
+    if has_second(bin) {
+        redirect_to(alloc, declared, told, contexts)
+    } else {
+        Ok(None)
+    }
+}
+
 /// Keeps something under a key, or lets it go where the house has no memory for it.
 fn offer<H: House>(alloc: Global, house: &mut H, bin: Bin, key: Key, kept: Kept)
     requires { MayBeKeptIn (H.sees house.old) key kept }
@@ -69,8 +87,8 @@ fn offer<H: House>(alloc: Global, house: &mut H, bin: Bin, key: Key, kept: Kept)
     let _kept = house.keep(alloc, bin, key, kept);
 }
 
-/// Keeps an entry: under its first key, or, where it varies by more, under its second one, behind a redirect that takes over the
-/// contexts that one told. The key is the one that was looked at last.
+/// Keeps an entry: under its first key, or, where it varies by more in a bin that has second keys, under its second one, behind a
+/// redirect that takes over the contexts that one told. The key is the one that was looked at last.
 fn keep<H: House>(
     alloc: Global,
     house: &mut H,
@@ -88,11 +106,12 @@ fn keep<H: House>(
 {
     let shared = Arc::try_clone(entry)?;
     let declared = declared_by(reader.state(), &key.subject);
-    match redirect_to(alloc, declared, told, &entry.cacheability.contexts)? {
-        None => offer(alloc, house, bin, key, Kept::Entry(shared)),
+    let behind = second_in(alloc, bin, declared, told, &entry.cacheability.contexts)?;
+    let first = first_again(alloc, reader, key, declared, told)?;
+    match behind {
+        None => offer(alloc, house, bin, first, Kept::Entry(shared)),
         Some(contexts) => {
-            let second = key_by_entry(alloc, reader, &key.subject, contexts.as_slice(), entry)?;
-            let first = first_again(alloc, reader, key, declared, told)?;
+            let second = key_by_entry(alloc, reader, &first.subject, contexts.as_slice(), entry)?;
             offer(alloc, house, bin, first, Kept::Redirect(contexts));
             offer(alloc, house, bin, second, Kept::Entry(shared));
         }

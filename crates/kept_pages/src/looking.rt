@@ -6,7 +6,7 @@ ghost use Rattle.cache_entries.specs.Entries.{IsHere};
 ghost use Rattle.page_meaning.specs.Meaning.{meaning};
 ghost use Rattle.element_entries.specs.Keys.{visit, declared_by, first_by, key_by};
 ghost use Rattle.kept_pages.specs.Houses.{Steady, Reads};
-ghost use Rattle.kept_pages.specs.Held.{Shelves, IsTold, looked_by, SeenOnce, SeenIn};
+ghost use Rattle.kept_pages.specs.Held.{Shelves, IsTold, has_second, looked_by, SeenOnce, SeenIn};
 
 use cache_entries::{Bin, Entry, Found, Key};
 use cacheability::{Context, OrderedSet};
@@ -53,8 +53,8 @@ fn look_once<H: House>(
     }
 }
 
-/// What is kept of something, where it may be shown: at its first key, by what it declares, or at the second that a redirect there gives. The key is
-/// lent, and is then the one that was looked at last: a path or a target is copied once, and what is built is kept under that key.
+/// What is kept of something, where it may be shown: at its first key, by what it declares, or, in a bin that has second keys, at the
+/// second one that a redirect there gives. The key is lent, and is then the one that was looked at last: a path or a target is copied once, and what is built is kept under that key.
 pub fn look<H: House>(
     alloc: Global,
     house: &mut H,
@@ -74,6 +74,9 @@ pub fn look<H: House>(
     let first = first_contexts(declared);
     let contexts = first.as_slice();
     let Seen { entry, told } = look_once(alloc, house, reader, bin, key, contexts)?;
+    if !has_second(bin) {
+        return Ok(Seen { entry, told: None });
+    }
     match told {
         None => Ok(Seen { entry, told: None }),
         Some(told) => {
@@ -84,6 +87,17 @@ pub fn look<H: House>(
                 told: Some(told),
             })
         }
+    }
+}
+
+/// Whether what varies by more than its first contexts stands at a second key in this bin. The page of a target stands at its first
+/// key alone: for those who ask for that target without a session, what it varies by has one value until it is stale.
+pub fn has_second(bin: Bin) -> bool
+    ensures { result ≡ has_second bin }
+{
+    match bin {
+        Bin::Fragments | Bin::Dynamic => true,
+        Bin::Anonymous => false,
     }
 }
 

@@ -1,8 +1,13 @@
 //! The page of a request.
 ghost use Rattle.std.specs.Prelude.{◌≡◌, ◌≤◌, IfOk, IsTrue, None, length, min};
+ghost use Rattle.std.specs.Option.{option_copied};
 ghost use Rattle.content_state.specs.Ask.{IsAsk};
+ghost use Rattle.content_state.specs.Met.{met_nothing};
 ghost use Rattle.content_state.specs.Viewer.{viewer_of as named_viewer};
 ghost use Rattle.cache_contexts.specs.Values.{visit_on};
+ghost use Rattle.cache_entries.specs.declared.entry.Entry.{Entry};
+ghost use Rattle.cache_entries.specs.declared.key.Subject.TheVariants as subject_is;
+ghost use Rattle.cache_entries.specs.declared.kept.Bin.TheVariants as bin_is;
 ghost use Rattle.render_canvas.specs.Board.{pieces_of};
 ghost use Rattle.render_array.specs.Shown.{IsPage, is_page_status, page_count};
 ghost use Rattle.element_entries.specs.Keys.{visit};
@@ -13,11 +18,16 @@ ghost use Rattle.kept_pages.specs.Wholes.{parts_in, libraries_in, status_in, las
 ghost use Rattle.kept_pages.specs.Joins.{MakesPage};
 ghost use Rattle.kept_pages.specs.Lasting.{Lasts};
 ghost use Rattle.kept_pages.specs.Needed.{OfWhole, OfTarget, OfRequest};
-ghost use Rattle.kept_pages.specs.Held.{Tells};
+ghost use Rattle.kept_pages.specs.Held.{IsLookedAt, Tells, BuiltUp};
 
-use crate::joining::{Child, Filled};
+use crate::compact::compact;
+use crate::joining::Filled;
+use crate::keeping::keep_filled;
+use crate::looking::Seen;
 use crate::pieces::Pieces;
-use crate::whole::{some_target, whole_page};
+use crate::whole::{look_for_target, whole_page};
+use cache_entries::{Bin, Key};
+use cacheability::{Context, OrderedSet};
 use content_state::{Ask, State, Viewer};
 use element_entries::Reader;
 use renderer::Parts;
@@ -107,8 +117,40 @@ fn shared_page<H: House>(
     ensures lasts { IfOk result (λ p. Lasts reader.now.state reader.now.ask reader.now.moment p.last p.status p.parts) }
     ensures told { IfOk result (λ p. Tells reader.now (OfTarget (visit reader.now)) (H.sees house.old) (H.sees house.new) 0 p.built) }
 {
-    let Child { entry, built } = some_target(alloc, house, reader)?;
-    page_of(alloc, reader, &Pieces::Kept(entry), built)
+    let (Seen { entry, told }, key) = look_for_target(alloc, house, reader)?;
+    match entry {
+        Some(entry) => page_of(alloc, reader, Pieces::Kept(&entry), 0),
+        None => built_page(alloc, house, reader, key, told.as_deref()),
+    }
+}
+
+/// The page of a target for nobody's session, which is put together, and kept where it may be. It shares the pieces that it is
+/// put together from; what is kept of it has its text in few pieces of its own, or, where there is no memory for them, in
+/// those.
+fn built_page<H: House>(
+    alloc: Global,
+    house: &mut H,
+    reader: &Reader<'_>,
+    key: Key,
+    told: Option<&OrderedSet<Context>>,
+) -> Result<Page, AllocError>
+    requires reads { Reads (H.sees house.old) reader.now }
+    requires nobody { reader.now.viewer.session ≡ None }
+    requires viewer { reader.now.viewer ≡ named_viewer reader.now.state.rows reader.now.ask.cookie reader.now.moment }
+    requires asked { key.subject ≡ subject_is.Target reader.now.ask.target }
+    requires looked { IsLookedAt reader.now key (option_copied told) }
+    ensures steady { Steady (H.sees house.old) (H.sees house.new) }
+    ensures page { IfOk result (λ p. IsPage reader.now.state.rows reader.now.ask reader.now.moment p.status p.parts) }
+    ensures length { IfOk result (λ p. p.length ≡ length p.parts) }
+    ensures status { IfOk result (λ p. IsTrue (is_page_status p.status)) }
+    ensures lasts { IfOk result (λ p. Lasts reader.now.state reader.now.ask reader.now.moment p.last p.status p.parts) }
+    ensures told { IfOk result (λ p. (kept : Entry) × BuiltUp reader.now met_nothing (OfWhole reader.now.ask.path (visit reader.now)) bin_is.Anonymous (subject_is.Target reader.now.ask.target) (option_copied told.entry) kept (H.sees house.old) (H.sees house.new) p.built) }
+{
+    let mut filled = whole_page(alloc, house, reader)?;
+    let page = page_of(alloc, reader, Pieces::Own(&filled.joined), filled.built)?;
+    let _compact = compact(alloc, &mut filled.joined);
+    keep_filled(alloc, house, reader, Bin::Anonymous, key, filled, told)?;
+    Ok(page)
 }
 
 /// The page of a request for whoever has a session: nothing of the whole is kept.
@@ -123,18 +165,18 @@ fn own_page<H: House>(alloc: Global, house: &mut H, reader: &Reader<'_>) -> Resu
     ensures told { IfOk result (λ p. Tells reader.now (OfWhole reader.now.ask.path (visit reader.now)) (H.sees house.old) (H.sees house.new) 0 p.built) }
 {
     let Filled { joined, built } = whole_page(alloc, house, reader)?;
-    page_of(alloc, reader, &Pieces::Own(joined), built)
+    page_of(alloc, reader, Pieces::Own(&joined), built)
 }
 
 /// The page that a whole one gives: the lines of its libraries are made last.
 fn page_of(
     alloc: Global,
     reader: &Reader<'_>,
-    pieces: &Pieces,
+    pieces: Pieces<'_>,
     built: u64,
 ) -> Result<Page, AllocError>
     requires viewer { reader.now.viewer ≡ named_viewer reader.now.state.rows reader.now.ask.cookie reader.now.moment }
-    requires makes { MakesPage (visit reader.now) (status_in pieces.now) (pieces_of (parts_in pieces.now)) (libraries_in pieces.now) (last_in pieces.now) }
+    requires makes { MakesPage (visit reader.now) (status_in pieces) (pieces_of (parts_in pieces)) (libraries_in pieces) (last_in pieces) }
     ensures page { IfOk result (λ p. IsPage reader.now.state.rows reader.now.ask reader.now.moment p.status p.parts) }
     ensures length { IfOk result (λ p. p.length ≡ length p.parts) }
     ensures status { IfOk result (λ p. IsTrue (is_page_status p.status)) }

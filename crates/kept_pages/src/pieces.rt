@@ -13,17 +13,17 @@ use renderer::{Parts, meta_text, shared_text};
 use std::alloc::{AllocError, Global};
 use std::sync::Arc;
 
-/// A whole page: one that was found or kept, or one that was put together for a session, of which nothing is kept.
-#[derive(Drop)]
-pub enum Pieces {
-    Kept(Arc<Entry>),
-    Own(Joined),
+/// A whole page: one that was found, or one that was put together.
+#[derive(Clone, Copy)]
+pub enum Pieces<'a> {
+    Kept(&'a Entry),
+    Own(&'a Joined),
 }
 
-impl Pieces {
+impl<'a> Pieces<'a> {
     /// What it shows.
-    pub fn parts(&self) -> &[Segment<Hole>]
-        ensures { parts_of result.now ≡ parts_in self.now }
+    pub fn parts(self) -> &'a [Segment<Hole>]
+        ensures { parts_of result.now ≡ parts_in self.entry }
     {
         match self {
             Pieces::Kept(entry) => entry.segments.parts(),
@@ -32,8 +32,8 @@ impl Pieces {
     }
 
     /// The libraries that it attaches.
-    pub fn libraries(&self) -> &[Library]
-        ensures { result.now ≡ libraries_in self.now }
+    pub fn libraries(self) -> &'a [Library]
+        ensures { result.now ≡ libraries_in self.entry }
     {
         match self {
             Pieces::Kept(entry) => entry.libraries.as_slice(),
@@ -42,8 +42,8 @@ impl Pieces {
     }
 
     /// Its status.
-    pub fn status(&self) -> Option<u16>
-        ensures { result ≡ status_in self.now }
+    pub fn status(self) -> Option<u16>
+        ensures { result ≡ status_in self.entry }
     {
         match self {
             Pieces::Kept(entry) => entry.status,
@@ -52,8 +52,8 @@ impl Pieces {
     }
 
     /// The last moment at which it may be shown.
-    pub fn last(&self) -> u64
-        ensures { result ≡ last_in self.now }
+    pub fn last(self) -> u64
+        ensures { result ≡ last_in self.entry }
     {
         match self {
             Pieces::Kept(entry) => entry.last,
@@ -63,8 +63,8 @@ impl Pieces {
 
     /// Its text, in the pieces that it is kept in, with the lines of its libraries at their place. `Err` only where memory is
     /// wanting.
-    pub fn text(&self, alloc: Global) -> Result<Parts, AllocError>
-        ensures { IfOk result (λ text. text ≡ text_of (meta_text (libraries_in self.now)) (parts_in self.now)) }
+    pub fn text(self, alloc: Global) -> Result<Parts, AllocError>
+        ensures { IfOk result (λ text. text ≡ text_of (meta_text (libraries_in self.entry)) (parts_in self.entry)) }
     {
         let lines = meta_text(alloc, self.libraries())?;
         let meta = Arc::new(alloc, Bytes::new(lines))?;

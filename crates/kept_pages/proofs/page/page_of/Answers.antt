@@ -11,7 +11,7 @@ unreachable-requires c = subst IsPageStatus (sym c.in-None.ensures) (status_ther
 pub returns-clause-page : goal.returns-clause-page
 returns-clause-page c =
     page_is c.args.reader.now _ _ _ _ c.requires.makes _ _ c.requires.viewer (sym c.in-Some.ensures)
-    (filled_parts _ _ (parts_in c.args.pieces.now) _ refl c.in_ok-parts.ensures)
+    (filled_parts _ _ (parts_in c.args.pieces) _ refl c.in_ok-parts.ensures)
 
 pub returns-clause-status : goal.returns-clause-status
 returns-clause-status c = status_is c.args.reader.now _ _ _ _ c.requires.makes _ (sym c.in-Some.ensures)
@@ -19,4 +19,4 @@ returns-clause-status c = status_is c.args.reader.now _ _ _ _ c.requires.makes _
 pub returns-clause-lasts : goal.returns-clause-lasts
 returns-clause-lasts c =
     rw c.last-last.ensures (page_lasts c.args.reader.now _ _ _ _ c.requires.makes _ _ c.requires.viewer (sym c.in-Some.ensures)
-    (filled_parts _ _ (parts_in c.args.pieces.now) _ refl c.in_ok-parts.ensures))
+    (filled_parts _ _ (parts_in c.args.pieces) _ refl c.in_ok-parts.ensures))
