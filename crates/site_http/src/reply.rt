@@ -14,6 +14,7 @@ use crate::shown::shown_page;
 use content_state::{Ask, State};
 use edit_replies::{bad_json_text, media_text};
 use http_heads::{CookieOut, Media, ReplyHead, reply_head};
+use kept_pages::Page;
 use site_house::House;
 use std::alloc::{AllocError, Global};
 
@@ -53,15 +54,16 @@ pub struct Reply {
     pub last: Option<u64>,
 }
 
-/// Until when the reply of a page of so many bytes may be given again that may be shown until a last moment: where no cookie was
-/// sent, the connection goes on, and the page isn't long.
-fn until(ask: &Ask, closing: bool, length: u128, last: u64) -> Option<u64>
-    ensures { IfSome result (λ l. (l ≡ last) × (closing ≡ false) × (ask.now.cookie ≡ None)) }
+/// Until when the reply of a page may be given again that may be shown until a last moment: where no cookie was sent, the
+/// connection goes on, and the page isn't long and was found. One that was built lies in many pieces; what is kept of it lies in
+/// few, and is found next time.
+fn until(ask: &Ask, closing: bool, page: &Page) -> Option<u64>
+    ensures { IfSome result (λ last. (last ≡ page.now.last) × (closing ≡ false) × (ask.now.cookie ≡ None)) }
 {
-    if closing || ask.cookie.is_some() || length > LONGEST {
+    if closing || ask.cookie.is_some() || page.length > LONGEST || page.built > 0 {
         None
     } else {
-        Some(last)
+        Some(page.last)
     }
 }
 
@@ -93,13 +95,14 @@ fn page_reply<H: House>(
         close: closing,
     };
     let head = head_of(alloc, &head)?;
+    let last = until(ask, closing, &page);
     Ok(Reply {
         given: Given::Page(PageReply {
             head,
             body: page.parts,
         }),
         built: page.built,
-        last: until(ask, closing, page.length, page.last),
+        last,
     })
 }
 

@@ -20,5 +20,5 @@ returns-clause-says g c =
 
 pub returns-clause-again : goal.returns-clause-again
 returns-clause-again g c =
-    again_until c.until.result c.args.state.now c.args.ask.now c.args.now c.in_ok-page.page.last c.in_ok-page.page.status c.args.closing c.in_ok-page.page.parts (c.in_ok-head.head.items ++ c.in_ok-page.page.parts)
-    c.until.ensures c.in_ok-page.ensures.lasts (search rules)
+    again_until c.until-last.result c.args.state.now c.args.ask.now c.args.now c.in_ok-page.page.last c.in_ok-page.page.status c.args.closing c.in_ok-page.page.parts (c.in_ok-head.head.items ++ c.in_ok-page.page.parts)
+    c.until-last.ensures c.in_ok-page.ensures.lasts (search rules)
