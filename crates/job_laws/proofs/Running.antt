@@ -42,7 +42,8 @@ use Rattle.site_cli.specs.Jobs.{ImportsOrNot, TellsOrNot, around_job, status_of_
 use Rattle.site_cli.specs.Outside.{Outside, HasCause, Starves}
 use Rattle.site_cli.specs.Run.{IsSiteOf, Replays, ReplaysFileOrStarves, ReplaysOrStarves, Runs, RunsWithCause, status_of}
 use Rattle.site_cli.specs.Serving.{HasServingCause, Serves, front_of, status_of_serve}
-use Rattle.site_cli.specs.Words.{usage, Asked, replay, serves, imports, exports, checks, drills}
+use Rattle.site_cli.specs.Words.{usage, Asked, replay, serves, imports, exports, checks, lists, drills}
+use Rattle.site_targets.specs.Targets.{targets_text}
 use Rattle.run_laws.specs.Complete.{StaysCounted}
 use Rattle.run_laws.proofs.Completing.{steady}
 use Rattle.run_laws.proofs.Servers.{servers}
@@ -410,6 +411,7 @@ faults (Some (serves what)) old new status does cause = of_serving old new statu
 faults (Some (imports path)) old new status does cause = of_job old new status cause
 faults (Some (exports path)) old new status does cause = of_job old new status cause
 faults (Some (checks path)) old new status does cause = of_job old new status cause
+faults (Some (lists path)) old new status does cause = of_job old new status cause
 faults (Some (drills number)) old new status does cause = of_job old new status cause
 
 completes : (asked : Option Asked) (old new : Outside) (status : ℕ) → Runs asked old new status → RunsWithCause asked old new status → NothingFails old new → NoneTold status → Completes asked old new status
@@ -422,6 +424,7 @@ completes (Some (serves what)) old new status does cause nothing told = served w
 completes (Some (imports path)) old new status does cause nothing told = imported path old new status does nothing told
 completes (Some (exports path)) old new status does cause nothing told = tells exported path old new status does nothing told
 completes (Some (checks path)) old new status does cause nothing told = tells checked path old new status does nothing told
+completes (Some (lists path)) old new status does cause nothing told = tells targets_text path old new status does nothing told
 completes (Some (drills number)) old new status does cause nothing told = drilled number old new status does told
 
 -- statuses that jobs don't have
@@ -480,6 +483,7 @@ words (Some (imports path)) old new status (inr (inl fails)) two = let seven = f
 words (Some (imports path)) old new status (inr (inr starves)) two = let nine = starves.status_is in absurd (omega arith)
 words (Some (exports path)) old new status does two = absurd (no_tell exported path old new status does two)
 words (Some (checks path)) old new status does two = absurd (no_tell checked path old new status does two)
+words (Some (lists path)) old new status does two = absurd (no_tell targets_text path old new status does two)
 words (Some (drills number)) old new status (inl does) two = absurd (no_drill does.ended 2 (inl refl) (sym does.status_is ∙ two))
 words (Some (drills number)) old new status (inr starves) two = let nine = starves.status_is in absurd (omega arith)
 
@@ -546,6 +550,7 @@ silent (Some (imports path)) old new status (inr (inl fails)) four = fails.sink
 silent (Some (imports path)) old new status (inr (inr starves)) four = starves.sink
 silent (Some (exports path)) old new status does four = silent_tell exported path old new status does four
 silent (Some (checks path)) old new status does four = silent_tell checked path old new status does four
+silent (Some (lists path)) old new status does four = silent_tell targets_text path old new status does four
 silent (Some (drills number)) old new status (inl does) four = absurd (no_drill does.ended 4 (inr refl) (sym does.status_is ∙ four))
 silent (Some (drills number)) old new status (inr starves) four = starves.sink
 

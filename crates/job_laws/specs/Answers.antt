@@ -18,13 +18,14 @@ use Rattle.site_alone.specs.Sites.{starter_site}
 use Rattle.serve_store.specs.Job.{IsOpened, ServedAt, ToServe}
 use Rattle.serve_store.specs.Stations.{StationsGiven}
 use Rattle.serve_store.specs.Texts.{listening_text, served_text}
+use Rattle.site_targets.specs.Targets.{targets_text}
 use Rattle.site_drill.specs.Drill.{IsDrilled, drill_requests, drill_site}
 use Rattle.site_drill.specs.Lines.{drill_text}
 use Rattle.site_drill.specs.Stops.{AreNoRequests}
 use Rattle.site_drill.specs.declared.figures.Figures.{Figures}
 use Rattle.site_cli.specs.Outside.{Outside}
 use Rattle.site_cli.specs.Run.{IsSiteOf, Replays, Runs, RunsWithCause}
-use Rattle.site_cli.specs.Words.{usage, Asked, replay, serves, imports, exports, checks, drills}
+use Rattle.site_cli.specs.Words.{usage, Asked, replay, serves, imports, exports, checks, lists, drills}
 use Rattle.run_laws.specs.Complete.{StaysCounted}
 use Rattle.run_laws.specs.Served.{AnswerFor}
 use Rattle.job_laws.specs.Complete.{RepliesToAll}
@@ -192,6 +193,7 @@ Completes (Some (serves what)) old new status = ServesOrFaults what old new stat
 Completes (Some (imports path)) old new status = ImportsOrFaults path old new status
 Completes (Some (exports path)) old new status = TellsOrFaults exported path old new status
 Completes (Some (checks path)) old new status = TellsOrFaults checked path old new status
+Completes (Some (lists path)) old new status = TellsOrFaults targets_text path old new status
 Completes (Some (drills number)) old new status = DrillsOrFaults number old new status
 
 -- What the program answers has its cause: 2 comes only where the words name no job; with 4 nothing was printed; where a fault is

@@ -12,7 +12,7 @@ use Rattle.serve_store.specs.Job.{ToServe}
 use Rattle.site_cli.specs.Serving.{HasServingCause, Serves}
 use Rattle.site_cli.specs.Run.{IsSiteOf, ReplaysOrStarves, ReplaysFileOrStarves, Runs, RunsJob, RunsWithCause}
 use Rattle.site_cli.specs.Outside.{Outside, Starves}
-use Rattle.site_cli.specs.Words.{Asked, replay, serves, imports, exports, checks, drills}
+use Rattle.site_cli.specs.Words.{Asked, replay, serves, imports, exports, checks, lists, drills}
 
 -- rows that a device told are those that the place told of it beforehand
 pub told_before : (bytes : Known (List ℕ)) (left : Option (List ℕ)) (P : List ℕ → Type 0) → HasTold bytes left → IsToldBy left P → IsToldBy (held bytes) P
@@ -85,6 +85,7 @@ starved (Some (serves what)) here = starves here
 starved (Some (imports path)) here = inr (inr (starves here))
 starved (Some (exports path)) here = inr (inr (starves here))
 starved (Some (checks path)) here = inr (inr (starves here))
+starved (Some (lists path)) here = inr (inr (starves here))
 starved (Some (drills number)) here = inr (starves here)
 
 -- what is done where nothing is served is what the program does
@@ -96,6 +97,7 @@ runs_job (Some (serves what)) old new status does = inr does
 runs_job (Some (imports path)) old new status does = does
 runs_job (Some (exports path)) old new status does = does
 runs_job (Some (checks path)) old new status does = does
+runs_job (Some (lists path)) old new status does = does
 runs_job (Some (drills number)) old new status does = does
 
 -- what was served where nothing was done before is what the program does

@@ -22,9 +22,10 @@ use Rattle.site_cli.specs.Outside.{Outside, Starves, HasCause}
 use Rattle.site_cli.specs.Drilling.{DrillsOrStarves}
 use Rattle.site_cli.specs.Jobs.{ImportsOrNot, TellsOrNot}
 use Rattle.site_cli.specs.Serving.{HasServingCause, Serves}
-use Rattle.site_cli.specs.Words.{usage, Asked, replay, serves, imports, exports, checks, drills}
+use Rattle.site_cli.specs.Words.{usage, Asked, replay, serves, imports, exports, checks, lists, drills}
 use Rattle.site_jobs.specs.Jobs.{checked, exported}
 use Rattle.site_jobs.specs.Texts.{fault_text}
+use Rattle.site_targets.specs.Targets.{targets_text}
 
 -- the status of a connection's end: 0 where it was answered to its end, 8 where it was refused or cut short
 abbrev pub status_of : Ended → ℕ
@@ -131,6 +132,7 @@ RunsJob (Some (serves what)) old new status = Starves old new status
 RunsJob (Some (imports path)) old new status = ImportsOrNot path old new status
 RunsJob (Some (exports path)) old new status = TellsOrNot exported path old new status
 RunsJob (Some (checks path)) old new status = TellsOrNot checked path old new status
+RunsJob (Some (lists path)) old new status = TellsOrNot targets_text path old new status
 RunsJob (Some (drills number)) old new status = DrillsOrStarves number old new status
 
 -- what the program does, by the same job
@@ -142,6 +144,7 @@ Runs (Some (serves what)) old new status = Serves what old new status ⊎ Starve
 Runs (Some (imports path)) old new status = ImportsOrNot path old new status
 Runs (Some (exports path)) old new status = TellsOrNot exported path old new status
 Runs (Some (checks path)) old new status = TellsOrNot checked path old new status
+Runs (Some (lists path)) old new status = TellsOrNot targets_text path old new status
 Runs (Some (drills number)) old new status = DrillsOrStarves number old new status
 
 -- by which counts the status is told, by the same job
@@ -152,4 +155,5 @@ RunsWithCause (Some (serves what)) old new status = HasServingCause old new stat
 RunsWithCause (Some (imports path)) old new status = HasCause old new status
 RunsWithCause (Some (exports path)) old new status = HasCause old new status
 RunsWithCause (Some (checks path)) old new status = HasCause old new status
+RunsWithCause (Some (lists path)) old new status = HasCause old new status
 RunsWithCause (Some (drills number)) old new status = HasCause old new status

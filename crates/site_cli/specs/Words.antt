@@ -11,13 +11,14 @@ use Rattle.site_cli.specs.declared.words.Job.TheVariants as job
 
 -- what the words after the program's name ask for: one connection, over the site of the file of rows of that path, or
 -- over the starter site; or to serve the site of a store; or to fill the store of that path with rows, to write its rows out,
--- or to check it; or the drill that is made from a number
+-- to check it, or to list its targets; or the drill that is made from a number
 pub data Asked : Type 0 where
   replay : Option (List ℕ) → Asked
   serves : ToServe → Asked
   imports : List ℕ → Asked
   exports : List ℕ → Asked
   checks : List ℕ → Asked
+  lists : List ℕ → Asked
   drills : ℕ → Asked
 
 abbrev pub asked_of : Job → Asked
@@ -26,6 +27,7 @@ asked_of (job.Serve serving) = serves (to_serve serving)
 asked_of (job.Import path) = imports (string_bytes path)
 asked_of (job.Export path) = exports (string_bytes path)
 asked_of (job.Check path) = checks (string_bytes path)
+asked_of (job.Targets path) = lists (string_bytes path)
 asked_of (job.Drill number) = drills number
 
 -- `replay [ROWS]`
@@ -59,8 +61,9 @@ site_app = record (new_app (codes "site")) { top = record (new_app (codes "site"
 
 abbrev pub synopsis : App
 synopsis =
-    with_subcommand (with_subcommand (with_subcommand (with_subcommand (with_subcommand (with_subcommand site_app replay_app.top) serve_app.top)
-    (store_app (codes "import")).top) (store_app (codes "export")).top) (store_app (codes "check")).top) drill_app.top
+    with_subcommand (with_subcommand (with_subcommand (with_subcommand (with_subcommand (with_subcommand (with_subcommand site_app replay_app.top)
+    serve_app.top) (store_app (codes "import")).top) (store_app (codes "export")).top) (store_app (codes "check")).top)
+    (store_app (codes "targets")).top) drill_app.top
 
 -- the job of that name on the store of a path
 abbrev pub store_job : List ℕ → Option (List ℕ) → Option Asked
@@ -68,7 +71,8 @@ store_job name None = None
 store_job name (Some path) =
     if bytes_eq name (codes "import") then Some (imports path) else
     if bytes_eq name (codes "export") then Some (exports path) else
-    if bytes_eq name (codes "check") then Some (checks path) else None
+    if bytes_eq name (codes "check") then Some (checks path) else
+    if bytes_eq name (codes "targets") then Some (lists path) else None
 
 -- the number that a text writes in decimal, without a sign or a leading zero: from 1 to the greatest, which has 9 digits at most
 abbrev pub number_to : ℕ → List ℕ → Option ℕ

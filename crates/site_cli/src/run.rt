@@ -10,7 +10,7 @@ ghost use Rattle.site_alone.specs.Sites.{starter_site};
 ghost use Rattle.site_cli.specs.Run.{status_of, ReplaysFileOrStarves, ReplaysOrStarves, Runs, RunsJob, RunsWithCause};
 
 use crate::drilling::drill_job;
-use crate::jobs::{check_job, export_job, import_job};
+use crate::jobs::{check_job, export_job, import_job, targets_job};
 use crate::load::{NoSite, load};
 use crate::serving::serve_job;
 use crate::words::{Job, WordFault, read_words};
@@ -188,6 +188,7 @@ pub fn run_job<P: Place, R>(
         Ok(Job::Import(path)) => Ok(import_job(alloc, path.as_str(), place, input, output)),
         Ok(Job::Export(path)) => Ok(export_job(alloc, path.as_str(), place, input, output)),
         Ok(Job::Check(path)) => Ok(check_job(alloc, path.as_str(), place, input, output)),
+        Ok(Job::Targets(path)) => Ok(targets_job(alloc, path.as_str(), place, input, output)),
         Ok(Job::Drill(number)) => Ok(drill_job(alloc, number, place, input, output)),
         Err(WordFault::BadWords) => Ok(refuse_words(output)),
         Err(WordFault::OutOfMemory) => Ok(9),

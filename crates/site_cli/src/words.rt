@@ -32,6 +32,8 @@ pub enum Job {
     Export(String),
     /// `check --store PATH`: check that the store of that path holds a site.
     Check(String),
+    /// `targets --store PATH`: list the targets of the site of the store of that path that a visitor without a session gets.
+    Targets(String),
     /// `drill N`: answer the requests that are made from that number, in memory, and tell what came of it.
     Drill(u64),
 }
@@ -149,7 +151,8 @@ fn site_command<'a>(alloc: Global) -> Result<Command<'a>, AllocError>
     let importing = with_store_command(alloc, serving, "import")?;
     let exporting = with_store_command(alloc, importing, "export")?;
     let checking = with_store_command(alloc, exporting, "check")?;
-    let drilling = with_drill_command(alloc, checking)?;
+    let listing = with_store_command(alloc, checking, "targets")?;
+    let drilling = with_drill_command(alloc, listing)?;
     Ok(drilling)
 }
 
@@ -262,6 +265,8 @@ fn store_job(name: &str, path: String) -> Option<Job>
         Some(Job::Export(path))
     } else if name == "check" {
         Some(Job::Check(path))
+    } else if name == "targets" {
+        Some(Job::Targets(path))
     } else {
         None
     }
