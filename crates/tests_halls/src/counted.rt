@@ -310,12 +310,15 @@ fn looks(rt: &HostRuntime, requests: &'static [&'static str]) -> Result<u64, All
     if answered { Ok(looks) } else { Err(AllocError) }
 }
 
+// A page is built, then found by one look, and then its reply is given again without any, but to whoever sends a cookie.
 #[test]
 fn a_reply_is_given_again(rt: HostRuntime) {
     let once = looks(&rt, &[PAGE]).expect(&rt, "memory");
     let twice = looks(&rt, &[PAGE, PAGE]).expect(&rt, "memory");
-    let by_nobody = looks(&rt, &[PAGE, BY_NOBODY]).expect(&rt, "memory");
+    let thrice = looks(&rt, &[PAGE, PAGE, PAGE]).expect(&rt, "memory");
+    let by_nobody = looks(&rt, &[PAGE, PAGE, BY_NOBODY]).expect(&rt, "memory");
     assert!(rt; once > 0);
-    assert!(rt; twice == once);
-    assert!(rt; by_nobody > once);
+    assert!(rt; twice == once + 1);
+    assert!(rt; thrice == twice);
+    assert!(rt; by_nobody == twice + 1);
 }

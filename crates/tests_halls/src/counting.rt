@@ -43,9 +43,9 @@ fn counted<R: Wait>(
     tally(rt, alloc, site, pass)
 }
 
-// The page and its node are built once, found again, and built again once all is to be made anew. Of a page three things are kept, each
-// behind a redirect: the page of its target, that of its path, and the node. None of the three is found at first; then the first one is,
-// by its redirect; and at last all three, which aren't fresh, and are kept anew.
+// The page and its node are built once, found again, and built again once all is to be made anew. Of a page three things are kept: the
+// page of its target, under one key, and that of its path and the node, each behind a redirect. None of the three is found at first; then the
+// first one is, by one look; and at last all three, which aren't fresh, and are kept anew.
 #[test]
 fn what_one_pass_keeps_it_finds(rt: HostRuntime) {
     let alloc = rt.alloc();
@@ -53,9 +53,9 @@ fn what_one_pass_keeps_it_finds(rt: HostRuntime) {
     let tally = counted(&rt, alloc, &mut connection).expect(&rt, "memory");
     assert!(rt; connection.built() == (4, [2, 0, 0, 2]));
     let all = Tally {
-        looks: 3 + 2 + 6,
-        found: 2 + 6,
-        kept: 6 + 6,
+        looks: 3 + 1 + 5,
+        found: 1 + 5,
+        kept: 5 + 5,
     };
     assert!(rt; tally == all);
 }

@@ -82,8 +82,8 @@ fn counted<R: Wait>(
     Ok(closed(rt, alloc, site, one, two)?.tally())
 }
 
-// A redirect that one pass keeps the other finds; and so it is with a page, which the first builds, keeping its three parts behind
-// redirects, and the second finds whole, by one of these.
+// A redirect that one pass keeps the other finds; and so it is with a page, which the first builds, keeping it under one key and two parts
+// of it behind redirects, and the second finds whole, by one look.
 #[test]
 fn what_is_kept_is_shared(rt: HostRuntime) {
     let alloc = rt.alloc();
@@ -95,9 +95,9 @@ fn what_is_kept_is_shared(rt: HostRuntime) {
     assert!(rt; first.built() == (1, [2, 0, 0, 0]));
     assert!(rt; second.built() == (1, [0, 0, 0, 0]));
     let both = Tally {
-        looks: 3 + 2,
-        found: 2,
-        kept: 6,
+        looks: 3 + 1,
+        found: 1,
+        kept: 5,
     };
     assert!(rt; tally == both);
 }
