@@ -318,7 +318,7 @@ fn a_reply_is_given_again(rt: HostRuntime) {
     let thrice = looks(&rt, &[PAGE, PAGE, PAGE]).expect(&rt, "memory");
     let by_nobody = looks(&rt, &[PAGE, PAGE, BY_NOBODY]).expect(&rt, "memory");
     assert!(rt; once > 0);
-    assert!(rt; twice == once + 1);
+    assert!(rt; twice == once.saturating_add(1));
     assert!(rt; thrice == twice);
-    assert!(rt; by_nobody == twice + 1);
+    assert!(rt; by_nobody == twice.saturating_add(1));
 }
