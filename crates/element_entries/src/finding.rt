@@ -24,7 +24,8 @@ pub fn is_fresh(alloc: Global, reader: &Reader<'_>, entry: &Entry) -> Result<boo
 }
 
 /// Whether an entry is fresh for a reader, of whose log it is, where these contexts are known to have these values for it: mostly
-/// they are the entry's, and permissions, which are dear to compute, aren't computed again. `Err` only where memory is wanting.
+/// they are the entry's, and permissions, which are dear to compute, aren't computed again. The counts of its tags are summed only
+/// where the entry was made on another state. `Err` only where memory is wanting.
 fn is_fresh_by(
     alloc: Global,
     reader: &Reader<'_>,
@@ -36,10 +37,12 @@ fn is_fresh_by(
     requires of_log { HasSumOfNumber reader.now.state entry.now }
     ensures { IfOk result (λ b. IsTrue b ↔ IsFresh reader.now.state reader.now.viewer reader.now.ask reader.now.moment entry.now) }
 {
-    if same_contexts(entry.cacheability.contexts(), contexts) {
+    let own = entry.cacheability.contexts();
+    if same_contexts(own, contexts) {
         Ok(fresh_on_log(reader.state, entry, known, reader.moment))
     } else {
-        is_fresh(alloc, reader, entry)
+        let now = values_for(alloc, reader, own)?;
+        Ok(fresh_on_log(reader.state, entry, now.as_slice(), reader.moment))
     }
 }
 
