@@ -1,5 +1,7 @@
 -- Replies that may be given again stay so, and say what is said.
 use Rattle.std.proofs.Common.{ℕ, List, [], ◌≡◌, ◌∙◌, refl, sym, ap, subst, arith, inr, Bool, false, Option, Some, None, IfSome, length}
+use Rattle.std.specs.Prelude.{Result, Ok, Err, IfOk}
+use Rattle.std.specs.Result.{result_ok}
 use Rattle.std.specs.Arc.{arc_value}
 use Rattle.std.specs.declared.sync.Arc.{Arc}
 use Rattle.std.specs.declared.alloc.Global.{Global}
@@ -12,9 +14,16 @@ use Rattle.kept_pages.specs.Lasting.{Lasts}
 use Rattle.kept_pages.proofs.Entries.{seen_on, one_of_number}
 use Rattle.site_house.specs.House.{HouseView, Moves}
 use Rattle.site_house.specs.Bins.{IsSeenIn}
+use Rattle.site_http.specs.declared.desk.Desk.{Desk}
+use Rattle.site_http.specs.declared.known.KnownRequest.{KnownRequest}
 use Rattle.site_http.specs.declared.recent.RecentReply.{RecentReply}
 use Rattle.site_http.specs.Recent.{page_bytes, IsReplyUntil, Fits, IsRecent, AreRecent}
 use Rattle.site_http.specs.Reply.{IsPageReply, page_head}
+
+-- a desk that was made, where there was memory for it, remembers nothing that isn't so
+pub made_ready : {E : Type 0} (made : Result Desk E) (house : HouseView) → IfOk made (λ (d : Desk). (h : HouseView) → AreRecent h d.recent) → IfSome (result_ok made) (λ (d : Desk). AreRecent house d.recent)
+made_ready (Ok d) house ready = ready house
+made_ready (Err e) house ready = tt
 
 -- ---- of a house that goes on
 
@@ -30,10 +39,12 @@ place_on : {old new : HouseView} → Moves old new → (place : Option (Arc Rece
 place_on moves None is = tt
 place_on moves (Some reply) is = recent_on moves (arc_value reply) is
 
-pub recent_stay : {old new : HouseView} (places : List (Option (Arc RecentReply Global))) → Moves old new → AreRecent old places → AreRecent new places
-recent_stay {old} {new} places moves are =
-    All-weaker (λ place. IfSome place (λ reply. IsRecent old (arc_value reply))) (λ place. IfSome place (λ reply. IsRecent new (arc_value reply)))
-    (λ place is. place_on moves place is) places are
+pub recent_stay : {old new : HouseView} (recent : List (Option (Arc RecentReply Global)) × Option (Arc KnownRequest Global)) → Moves old new → AreRecent old recent → AreRecent new recent
+recent_stay {old} {new} recent moves are = (
+  All-weaker (λ place. IfSome place (λ reply. IsRecent old (arc_value reply))) (λ place. IfSome place (λ reply. IsRecent new (arc_value reply)))
+      (λ place is. place_on moves place is) recent.0 are.0,
+  are.1,
+)
 
 -- ---- what is said again
 
@@ -44,7 +55,7 @@ said_again house reply state ask moment is seen right fits =
     subst (λ (s : State). IsPageReply s ask moment false (page_bytes reply.page) 0 []) same
     (is.again ask moment right (subst (λ (n : ℕ). Fits reply n ask moment) (ap (λ (s : State). s.number) (sym same)) fits))
 
-pub again_of : (found : Option (Arc RecentReply Global)) (places : List (Option (Arc RecentReply Global))) (state : State) (ask : Ask) (moment : ℕ) → IsAsk ask → IfSome found (λ reply. Fits (arc_value reply) state.number ask moment) → IfSome found (λ reply. (house : HouseView) → AreRecent house places → IsRecent house (arc_value reply)) → IfSome found (λ reply. (house : HouseView) → AreRecent house places → IsSeenIn house state → IsPageReply state ask moment false (page_bytes (arc_value reply).page) 0 [])
+pub again_of : (found : Option (Arc RecentReply Global)) (places : List (Option (Arc RecentReply Global)) × Option (Arc KnownRequest Global)) (state : State) (ask : Ask) (moment : ℕ) → IsAsk ask → IfSome found (λ reply. Fits (arc_value reply) state.number ask moment) → IfSome found (λ reply. (house : HouseView) → AreRecent house places → IsRecent house (arc_value reply)) → IfSome found (λ reply. (house : HouseView) → AreRecent house places → IsSeenIn house state → IsPageReply state ask moment false (page_bytes (arc_value reply).page) 0 [])
 again_of None places state ask moment right fits is = tt
 again_of (Some reply) places state ask moment right fits is = λ house are seen. said_again house (arc_value reply) state ask moment (is house are) seen right fits
 

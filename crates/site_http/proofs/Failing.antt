@@ -16,7 +16,8 @@ piece_needed buffer more piece all whole part =
 
 -- what is found among the bytes that came counts no fault
 pub found_steady : (found : Next) (buffer buffer' : List ℕ) (old new : ℕ) → Decided (Some found) buffer buffer' → new ≡ old → FaultedNext found old new
-found_steady (next.Request r) buffer buffer' old new decided same = same
+found_steady (next.Request r bytes) buffer buffer' old new decided same = same
+found_steady (next.Known k) buffer buffer' old new decided same = same
 found_steady (next.Refused code) buffer buffer' old new decided same = same
 found_steady (next.End n) buffer buffer' old new decided same = absurd decided
 found_steady (next.Trouble t) buffer buffer' old new decided same = subst (λ (u : Trouble). Faulted u old new) (sym decided) same

@@ -6,6 +6,8 @@ mod Joining
 mod Kept
 mod Made
 mod Again
+mod Alone
+mod Knowing
 pub mod Grow
 mod Progress
 mod Ends

@@ -6,3 +6,4 @@ pub mod Connection
 pub mod Turn
 pub mod Work
 pub mod Recent
+pub mod Known

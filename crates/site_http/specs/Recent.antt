@@ -13,6 +13,8 @@ use Rattle.site_http.specs.declared.recent.RecentReply.{RecentReply}
 use Rattle.site_http.specs.declared.recent.PageReply.{PageReply}
 use Rattle.site_http.specs.declared.recent.Given.{Given}
 use Rattle.site_http.specs.declared.recent.Given.TheVariants as given
+use Rattle.site_http.specs.declared.known.KnownRequest.{KnownRequest}
+use Rattle.site_http.specs.Known.{IsKnown}
 use Rattle.site_http.specs.Reply.{IsPageReply}
 
 -- No cookie was sent, and the text is the reply of the page on the state at each moment from this one until the last; nothing is
@@ -42,8 +44,16 @@ pub record IsRecent (house : HouseView) (reply : RecentReply) : Type 0 where
   pub again : (ask : Ask) (moment : ℕ) → IsAsk ask → Fits reply state.number ask moment → IsPageReply state ask moment false (page_bytes reply.page) 0 []
 
 -- so may each that stands at a place
-abbrev pub AreRecent : HouseView → List (Option (Arc RecentReply Global)) → Type 0
-AreRecent house places = All (λ place. IfSome place (λ reply. IsRecent house (arc_value reply))) places
+abbrev pub AreGiven : HouseView → List (Option (Arc RecentReply Global)) → Type 0
+AreGiven house places = All (λ place. IfSome place (λ reply. IsRecent house (arc_value reply))) places
+
+-- the known request, if there is one, asks what is known of it
+abbrev pub IsKnownIfAny : Option (Arc KnownRequest Global) → Type 0
+IsKnownIfAny known = IfSome known (λ k. IsKnown (arc_value k))
+
+-- what is remembered: replies at their places, and a request
+abbrev pub AreRecent : HouseView → List (Option (Arc RecentReply Global)) × Option (Arc KnownRequest Global) → Type 0
+AreRecent house recent = AreGiven house recent.0 × IsKnownIfAny recent.1
 
 -- the bytes of a reply that is given
 abbrev pub given_bytes : Given → List ℕ

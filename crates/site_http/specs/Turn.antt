@@ -1,5 +1,5 @@
 -- What one turn of a connection does: the next request, and its reply.
-use Rattle.std.specs.Prelude.{ℕ, List, [], ◌∷◌, ◌++◌, ◌≡◌, ◌≤◌, ◌<◌, ◌⊎◌, Option, Some, None, Bool, true, false, drop, length}
+use Rattle.std.specs.Prelude.{ℕ, List, [], ◌∷◌, ◌++◌, ◌≡◌, ◌≤◌, ◌<◌, ◌⊎◌, Option, Some, None, IfSome, Bool, true, false, drop, length}
 use Rattle.content_state.specs.declared.ask.Ask.{Ask}
 use Rattle.content_state.specs.State.{State}
 use Rattle.site_io.specs.declared.device.Point.{Point}
@@ -24,7 +24,13 @@ use Rattle.edit_bodies.specs.declared.words.Words.{Words}
 use Rattle.edit_replies.specs.Texts.{done_text}
 use Rattle.site_http.specs.Called.{Called, ToEdit, Wish}
 use Rattle.site_http.specs.Kept.{KeepsFor, shelves_of}
-use Rattle.site_http.specs.Recent.{given_bytes}
+use Rattle.std.specs.Arc.{arc_value}
+use Rattle.std.specs.declared.sync.Arc.{Arc}
+use Rattle.std.specs.declared.alloc.Global.{Global}
+use Rattle.site_http.specs.declared.known.KnownRequest.{KnownRequest}
+use Rattle.site_http.specs.declared.recent.RecentReply.{RecentReply}
+use Rattle.site_http.specs.Known.{Begins, IsKnown, IsPlain}
+use Rattle.site_http.specs.Recent.{given_bytes, AreRecent}
 use Rattle.site_http.specs.Reply.{Story, IsAnswer, IsText, listed, refusal_text}
 use Rattle.site_http.specs.Connection.{Out, Around, Gave, and_points, raised, saying, cut_at, closes_after, CountsReads, CountsWrites}
 
@@ -53,13 +59,15 @@ Faulted OutOfMemory old new = new ≡ old
 
 abbrev pub FaultedNext : Next → ℕ → ℕ → Type 0
 FaultedNext (next.Trouble t) old new = Faulted t old new
-FaultedNext (next.Request r) old new = new ≡ old
+FaultedNext (next.Request r bytes) old new = new ≡ old
+FaultedNext (next.Known k) old new = new ≡ old
 FaultedNext (next.Refused c) old new = new ≡ old
 FaultedNext (next.End n) old new = new ≡ old
 
 -- what the bytes are that were read, all of them, and what stays in the buffer
 abbrev pub Decides : Next → Option (List ℕ) → List ℕ → List ℕ → Type 0
-Decides (next.Request r) left-after all buffer-after = (size : ℕ) × Parses all (Whole r size) × (buffer-after ≡ drop size all)
+Decides (next.Request r bytes) left-after all buffer-after = (size : ℕ) × Parses all (Whole r size) × (buffer-after ≡ drop size all) × IfSome bytes (λ b. IsPlain b.items r)
+Decides (next.Known k) left-after all buffer-after = Begins (arc_value k) all × (buffer-after ≡ drop (length (arc_value k).bytes.items) all)
 Decides (next.Refused code) left-after all buffer-after = Parses all (Refused code)
 Decides (next.End n) left-after all buffer-after = Parses all More × (n ≡ length all) × IsNothingLeft left-after
 Decides (next.Trouble ReadFault) left-after all buffer-after = Parses all More
@@ -86,10 +94,19 @@ pub record Fetches (left left-after : Option (List ℕ)) (buffer buffer-after : 
 -- what was found in the buffer alone
 abbrev pub Decided : Option Next → List ℕ → List ℕ → Type 0
 Decided None buffer buffer-after = Parses buffer More × (buffer-after ≡ buffer)
-Decided (Some (next.Request r)) buffer buffer-after = (size : ℕ) × Parses buffer (Whole r size) × (buffer-after ≡ drop size buffer)
+Decided (Some (next.Request r bytes)) buffer buffer-after = (size : ℕ) × Parses buffer (Whole r size) × (buffer-after ≡ drop size buffer) × IfSome bytes (λ b. IsPlain b.items r)
+Decided (Some (next.Known k)) buffer buffer-after = Begins (arc_value k) buffer × (buffer-after ≡ drop (length (arc_value k).bytes.items) buffer)
 Decided (Some (next.Refused code)) buffer buffer-after = Parses buffer (Refused code)
 Decided (Some (next.End n)) buffer buffer-after = ⊥
 Decided (Some (next.Trouble t)) buffer buffer-after = t ≡ OutOfMemory
+
+-- a known request is one of what is remembered
+abbrev pub KnowsBy : List (Option (Arc RecentReply Global)) × Option (Arc KnownRequest Global) → Next → Type 0
+KnowsBy recent (next.Known k) = (house : HouseView) → AreRecent house recent → IsKnown (arc_value k)
+KnowsBy recent (next.Request r bytes) = Unit {0}
+KnowsBy recent (next.Refused code) = Unit {0}
+KnowsBy recent (next.End n) = Unit {0}
+KnowsBy recent (next.Trouble t) = Unit {0}
 
 -- what was written is counted: a fault exactly where the count rose
 abbrev pub CountsOutcome : Outcome → ℕ → ℕ → Type 0
@@ -191,6 +208,14 @@ pub record TookOne (old new : Around) (history : History) (limit index low : ℕ
   pub kept : buffer-after ≡ drop size (buffer ++ more)
   pub closes_is : request.closes ≡ closes
   pub replied : Replied old.out new.out history low request (closes_after limit index request)
+
+-- a known request was taken, and no more was read than it needed
+pub record TookKnown (known : KnownRequest) (left left-after : Option (List ℕ)) (buffer buffer-after : List ℕ) : Type 0 where
+  pub more : List ℕ
+  pub source : left ≡ before more left-after
+  pub needed : ReadInNeed buffer more
+  pub begins : Begins known (buffer ++ more)
+  pub kept : buffer-after ≡ drop (length known.bytes.items) (buffer ++ more)
 
 -- no whole request came, and the input ended
 pub record Ends (old new : Around) (buffer : List ℕ) (size : ℕ) : Type 0 where

@@ -14,6 +14,8 @@ ghost use Rattle.edit_bodies.specs.Commands.{draws};
 ghost use Rattle.site_house.specs.History.{newest};
 ghost use Rattle.site_http.specs.Kept.{shelves_of, Needing};
 ghost use Rattle.site_http.specs.Called.{ask_of, called, called_of, ToRead};
+ghost use Rattle.http_heads.specs.declared.request.Request.{Request as Sent};
+ghost use Rattle.site_http.specs.Known.{IsAskedBy, IsPlain};
 ghost use Rattle.site_http.specs.Recent.{given_bytes, page_bytes, AreRecent};
 ghost use Rattle.site_http.specs.Reply.{Says, listed};
 ghost use Rattle.site_http.specs.Turn.{bytes_of, Committed, CountsOutcome, Makes, OnSeen, Replies, ToldOnTheWay};
@@ -307,12 +309,14 @@ fn reply_made<H: House, E: Entropy, G: Gate>(
     gate: &mut G,
     recent: &mut RecentReplies,
     request: Request,
+    bytes: Option<Vec<u8>>,
     now: u64,
     closing: bool,
 ) -> Made
     requires moment { now ≤ last_moment }
     requires right { IsAsk (ask_of request) }
     requires recent { AreRecent (H.sees house.old) recent.old }
+    requires plain { IfSome bytes (λ b. IsPlain b.items request) }
     ensures moves { Moves (H.sees house.old) (H.sees house.new) }
     ensures recent { AreRecent (H.sees house.new) recent.new }
     ensures makes { Makes
@@ -322,11 +326,47 @@ fn reply_made<H: House, E: Entropy, G: Gate>(
     ensures words { GivesInTurn last_word (E.words entropy.old) (E.words entropy.new) (E.given entropy.old) (E.given entropy.new) }
 {
     match asked_by(alloc, paths, request) {
-        Ok(asked) => reply_to(alloc, house, entropy, gate, recent, &asked, now, closing),
+        Ok(asked) => {
+            let made = reply_to(alloc, house, entropy, gate, recent, &asked, now, closing);
+            recent.learn(alloc, bytes, asked);
+            made
+        }
         Err(_) => {
             gate.reach(Point::BeforeReply(0));
             Made::Fixed(memory_text(closing))
         }
+    }
+}
+
+/// Answers what a request asks that is known by its bytes.
+pub fn answer_known<H: House, O: Sink, C: Clock, E: Entropy, G: Gate>(
+    alloc: Global,
+    house: &mut H,
+    sink: &mut O,
+    clock: &mut C,
+    entropy: &mut E,
+    gate: &mut G,
+    recent: &mut RecentReplies,
+    asked: &Asked,
+    closing: bool,
+) -> Outcome
+    requires right { IsAsk asked.now.ask }
+    requires recent { AreRecent (H.sees house.old) recent.old }
+    ensures moves { Moves (H.sees house.old) (H.sees house.new) }
+    ensures recent { AreRecent (H.sees house.new) recent.new }
+    ensures replies { (request : Sent) → IsAskedBy request asked.now → Replies result
+        (record { given = C.given clock.old; words = E.given entropy.old; points = G.reached gate.old; written = O.written sink.old; handed = (H.sees house.old).handed; keepers = (H.sees house.old).keepers; kept = shelves_of (H.sees house.old) })
+        (record { given = C.given clock.new; words = E.given entropy.new; points = G.reached gate.new; written = O.written sink.new; handed = (H.sees house.new).handed; keepers = (H.sees house.new).keepers; kept = shelves_of (H.sees house.new) })
+        (history_of (H.sees house.new)) (newest (history_of (H.sees house.old))) request closing }
+    ensures moments { GivesInTurn last_moment (C.moments clock.old) (C.moments clock.new) (C.given clock.old) (C.given clock.new) }
+    ensures words { GivesInTurn last_word (E.words entropy.old) (E.words entropy.new) (E.given entropy.old) (E.given entropy.new) }
+    ensures cause { CountsOutcome result (O.faults sink.old) (O.faults sink.new) }
+{
+    let now = clock.now();
+    let made = reply_to(alloc, house, entropy, gate, recent, asked, now, closing);
+    match send(sink, &made) {
+        Ok(()) => Outcome::Written,
+        Err(WriteFault) => Outcome::WriteFault,
     }
 }
 
@@ -341,10 +381,12 @@ pub fn answer<H: House, O: Sink, C: Clock, E: Entropy, G: Gate>(
     gate: &mut G,
     recent: &mut RecentReplies,
     request: Request,
+    bytes: Option<Vec<u8>>,
     closing: bool,
 ) -> Outcome
     requires right { IsAsk (ask_of request) }
     requires recent { AreRecent (H.sees house.old) recent.old }
+    requires plain { IfSome bytes (λ b. IsPlain b.items request) }
     ensures moves { Moves (H.sees house.old) (H.sees house.new) }
     ensures recent { AreRecent (H.sees house.new) recent.new }
     ensures replies { Replies result
@@ -357,7 +399,7 @@ pub fn answer<H: House, O: Sink, C: Clock, E: Entropy, G: Gate>(
 {
     let now = clock.now();
     let made = reply_made(
-        alloc, paths, house, entropy, gate, recent, request, now, closing,
+        alloc, paths, house, entropy, gate, recent, request, bytes, now, closing,
     );
     match send(sink, &made) {
         Ok(()) => Outcome::Written,

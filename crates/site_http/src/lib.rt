@@ -5,6 +5,7 @@ mod answer;
 mod call;
 mod connection;
 mod desk;
+mod known;
 mod next;
 mod pieces;
 mod recent;

@@ -1,12 +1,15 @@
 //! The next request, in whatever pieces it comes.
-ghost use Rattle.std.specs.Prelude.{◌≡◌, ◌++◌, ◌≤◌, ◌<◌, [], OnOk, IfOk, OnErr, IfErr, length, drop};
+ghost use Rattle.std.specs.Prelude.{◌≡◌, ◌++◌, ◌≤◌, ◌<◌, [], OnOk, IfOk, OnErr, IfErr, IfSome, length, drop};
 ghost use Rattle.site_io.specs.Told.{before, IsNothingLeft};
-ghost use Rattle.site_http.specs.Turn.{Takes, ReadsMore, NotRead, Fetches, Faulted, FaultedNext, Decided};
+ghost use Rattle.site_http.specs.Turn.{Takes, ReadsMore, NotRead, Fetches, Faulted, FaultedNext, Decided, KnowsBy};
 
+use crate::known::{KnownRequest, plain_bytes};
+use crate::recent::RecentReplies;
 use http_heads::{HeadRoom, Parsed, Request, parse_in};
 use site_io::Source;
 use std::alloc::{AllocError, Global};
 use std::marker::Model;
+use std::sync::Arc;
 
 /// Why nothing came.
 #[derive(Clone, Copy, Debug, PartialEq, Eq)]
@@ -18,8 +21,10 @@ pub enum Trouble {
 /// What comes next.
 #[derive(Drop)]
 pub enum Next {
-    /// A whole request, which is taken out of the inbox.
-    Request(Request),
+    /// A whole request, which is taken out of the inbox, and its bytes, where it is to be known by them.
+    Request(Request, Option<Vec<u8>>),
+    /// The known request, which is taken out of the inbox.
+    Known(Arc<KnownRequest>),
     /// What is refused with a code.
     Refused(u16),
     /// The end of the input, after so many bytes of a request.
@@ -119,16 +124,26 @@ impl Inbox {
     }
 
     /// What the bytes begin with, and without it where it is a request; or that more must be read.
-    fn take_next(&mut self, alloc: Global) -> Option<Next>
-        ensures { Decided result self.old self.new }
+    fn take_next(&mut self, alloc: Global, recent: &RecentReplies, learns: bool) -> Option<Next>
+        ensures decided { Decided result self.old self.new }
+        ensures known { IfSome result (λ next. KnowsBy recent.now next) }
     {
+        if let Some(known) = recent.known(&self.bytes[self.start..]) {
+            self.take_front(known.bytes.len());
+            return Some(Next::Known(known));
+        }
         match parse_in(alloc, &self.bytes[self.start..], &mut self.room) {
             Err(_) => Some(Next::Trouble(Trouble::OutOfMemory)),
             Ok(Parsed::More) => None,
             Ok(Parsed::Refused(code)) => Some(Next::Refused(code)),
             Ok(Parsed::Whole(request, n)) => {
+                let bytes = if learns {
+                    plain_bytes(alloc, &self.bytes[self.start..], n, &request)
+                } else {
+                    None
+                };
                 self.take_front(n);
-                Some(Next::Request(request))
+                Some(Next::Request(request, bytes))
             }
         }
     }
@@ -142,12 +157,19 @@ impl Inbox {
 
     /// The next request of what came and of what the source has left. More is read only where the bytes so far are a part
     /// of a request.
-    pub fn next_request<S: Source>(&mut self, alloc: Global, source: &mut S) -> Next
+    pub fn next_request<S: Source>(
+        &mut self,
+        alloc: Global,
+        source: &mut S,
+        recent: &RecentReplies,
+        learns: bool,
+    ) -> Next
         ensures fetches { Fetches (S.left source.old) (S.left source.new) self.old self.new result }
         ensures cause { FaultedNext result (S.faults source.old) (S.faults source.new) }
+        ensures known { KnowsBy recent.now result }
     {
         'pieces: loop {
-            if let Some(next) = self.take_next(alloc) {
+            if let Some(next) = self.take_next(alloc, recent, learns) {
                 return next;
             }
             match self.read_more(source) {

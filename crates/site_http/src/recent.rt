@@ -5,8 +5,12 @@ ghost use Rattle.content_state.specs.Ask.{IsAsk};
 ghost use Rattle.content_state.specs.State.{State};
 ghost use Rattle.site_house.specs.House.{HouseView};
 ghost use Rattle.site_house.specs.Bins.{IsSeenIn};
+ghost use Rattle.http_heads.specs.declared.request.Request.{Request};
+ghost use Rattle.site_http.specs.Known.{Begins, IsAskedBy, IsKnown, IsPlain};
 ghost use Rattle.site_http.specs.Recent.{given_bytes, page_bytes, Fits, IsRecent, AreRecent, IsReplyUntil};
 
+use crate::call::Asked;
+use crate::known::KnownRequest;
 use content_rows::{Duplicate, Text};
 use content_state::Ask;
 use renderer::Parts;
@@ -74,14 +78,18 @@ fn place_of(target: &[u8]) -> usize
 }
 
 /// The replies that a worker gave not long ago and may give again, each at the place of its target, where a later one takes its
-/// place. Contracts see them as the list of these places.
+/// place, and a request that came not long ago. Contracts see the list of these places, and the request.
 pub struct RecentReplies {
     places: Vec<Option<Arc<RecentReply>>>,
+    known: Option<Arc<KnownRequest>>,
 }
 
 impl Drop for RecentReplies {
     fn drop(self) {
-        let RecentReplies { places: _ } = self;
+        let RecentReplies {
+            places: _,
+            known: _,
+        } = self;
     }
 }
 
@@ -89,11 +97,16 @@ impl Model for RecentReplies {
     ghost use Rattle.std.specs.Prelude.{List, Option};
     ghost use Rattle.std.specs.declared.sync.Arc.{Arc};
     ghost use Rattle.std.specs.declared.alloc.Global.{Global};
+    ghost use Rattle.site_http.specs.declared.known.KnownRequest.{KnownRequest};
     ghost use Rattle.site_http.specs.declared.recent.RecentReply.{RecentReply};
+    ghost use Rattle.serde_json.specs.contracts.value.Value as e;
+    ghost use Rattle.std.specs.Coded.{codes};
 
-    ghost Value = { List (Option (Arc RecentReply Global)) };
+    ghost Value = { List (Option (Arc RecentReply Global)) × Option (Arc KnownRequest Global) };
 
-    ghost view = { λ r. r.places.items };
+    ghost coded = { Prim.hlevel (codes, e.the_row.coded) };
+
+    ghost view = { λ r. (r.places.items, r.known) };
 }
 
 impl RecentReplies {
@@ -105,7 +118,37 @@ impl RecentReplies {
         'places: for _ in 0..PLACES {
             places.push(None)?;
         }
-        Ok(RecentReplies { places })
+        Ok(RecentReplies {
+            places,
+            known: None,
+        })
+    }
+
+    /// The request that bytes begin with, where it is the known one.
+    pub fn known(&self, bytes: &[u8]) -> Option<Arc<KnownRequest>>
+        ensures begins { IfSome result (λ known. Begins (arc_value known) bytes.now) }
+        ensures known { IfSome result (λ known. (house : HouseView) → AreRecent house self.now → IsKnown (arc_value known)) }
+    {
+        let Some(known) = &self.known else {
+            return None;
+        };
+        if known.begins(bytes) {
+            Arc::try_clone(known).ok()
+        } else {
+            None
+        }
+    }
+
+    /// Knows a request from now on by its bytes, where they are given, unless memory is wanting for that.
+    pub fn learn(&mut self, alloc: Global, bytes: Option<Vec<u8>>, asked: Asked)
+        ensures { (house : HouseView) → (request : Request) → IfSome bytes (λ b. IsPlain b.items request) → IsAskedBy request asked → AreRecent house self.old → AreRecent house self.new }
+    {
+        let Some(bytes) = bytes else {
+            return;
+        };
+        if let Ok(known) = Arc::new(alloc, KnownRequest { bytes, asked }) {
+            self.known = Some(known);
+        }
     }
 
     /// The reply that may be given again to a request, on the state of a number, at a moment, where it is remembered.

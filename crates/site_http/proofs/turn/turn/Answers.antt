@@ -1,5 +1,7 @@
-use Rattle.std.proofs.Common.{rules, inl, inr, refl, sym}
+use Rattle.std.proofs.Common.{◌≡◌, ◌++◌, drop, length, rules, inl, inr, refl, sym, subst}
 use Rattle.std.proofs.lemmas.List.{append-nil}
+use Rattle.site_http.specs.declared.known.KnownRequest.{KnownRequest}
+use Rattle.site_http.specs.Known.{Begins, IsKnown}
 use Rattle.site_http.proofs.Asks.{are_asks}
 use Rattle.site_http.specs.Kept.{shelves_of}
 use Rattle.site_http.proofs.Kept.{keeps_nothing}
@@ -39,3 +41,16 @@ returns-in-WriteFault-clause-turned g c =
 
 pub answer-requires-clause-right : goal.answer-requires-clause-right
 answer-requires-clause-right g c = are_asks _ c.in-Request.request c.in-Request.ensures.fetches.decides.0 c.in-Request.ensures.fetches.decides.1
+
+pub answer-requires-clause-plain : goal.answer-requires-clause-plain
+answer-requires-clause-plain g c = c.in-Request.ensures.fetches.decides.3
+
+pub turn_known-requires-clause-known : goal.turn_known-requires-clause-known
+turn_known-requires-clause-known g c =
+    subst IsKnown (sym c.deref.ensures) (c.in-Known.ensures.known (g.H.House.sees c.args.house.now) c.requires.recent)
+
+pub returns-in-Known-clause-turned : goal.returns-in-Known-clause-turned
+returns-in-Known-clause-turned g c =
+    let f = c.in-Known.ensures.fetches in
+    c.turn_known.ensures.turned (g.S.Source.left c.args.source.now) (g.S.Source.left c.next_request.new.source) c.args.inbox.now c.next_request.new.self
+    (record { more = f.more; source = f.source; needed = f.needed; begins = subst (λ (k : KnownRequest). Begins k (c.args.inbox.now ++ f.more)) (sym c.deref.ensures) f.decides.0; kept = subst (λ (k : KnownRequest). c.next_request.new.self ≡ drop (length k.bytes.items) (c.args.inbox.now ++ f.more)) (sym c.deref.ensures) f.decides.1 })

@@ -1,6 +1,6 @@
 use Rattle.site_house.specs.House.{HouseView}
-use Rattle.site_http.specs.Recent.{AreRecent}
+use Rattle.site_http.specs.Recent.{AreGiven}
 use Rattle.site_http.proofs.recent.RecentReplies.new.Given as goal
 
 abbrev pub invariant-places : goal.invariant-places
-invariant-places l = (house : HouseView) → AreRecent house l.places.items
+invariant-places l = (house : HouseView) → AreGiven house l.places.items
