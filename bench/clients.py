@@ -108,13 +108,13 @@ def rows_for(rows, clients):
     return "".join(json.dumps(row, separators=(",", ":"), sort_keys=True, ensure_ascii=False) + "\n" for row in lines), nodes
 
 
-def serve(program, store, workers, limit=None):
-    """Starts the server on a free port, and waits until it listens."""
+def serve(program, store, workers, limit=None, more=()):
+    """Starts the server on a free port, with these words more, and waits until it listens."""
     with socket.socket() as free:
         free.bind(("127.0.0.1", 0))
         address = free.getsockname()
     words = [program, "serve", "--store", store, "--listen", f"{address[0]}:{address[1]}", "--workers", str(workers)]
-    server = subprocess.Popen(words + (["--limit", str(limit)] if limit else []), stdout=subprocess.PIPE)
+    server = subprocess.Popen([*words, *(["--limit", str(limit)] if limit else []), *more], stdout=subprocess.PIPE)
     line = server.stdout.readline()
     if not line.startswith(b"listening "):
         raise SystemExit(f"the server said {line!r}")

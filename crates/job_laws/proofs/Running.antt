@@ -30,7 +30,8 @@ use Rattle.site_places.specs.declared.place.NoDevice.{NoDevice}
 use Rattle.site_places.specs.declared.place.NoDevice.TheVariants as device
 use Rattle.site_hall.specs.Hall.{HallView}
 use Rattle.site_serve.specs.Stations.{StationView}
-use Rattle.serve_store.specs.Job.{Front, OpensSite, OpensStations, OpensStore, ServedAt, ServesStore, TellsWhy, ToServe, end_of}
+use Rattle.serve_store.specs.Job.{Front, OpensSite, OpensStations, OpensStore, ServedAt, ServesOpen, ServesReady, ServesStore, TellsWhy, ToServe, end_of}
+use Rattle.serve_store.specs.Warming.{place_then, IsReady}
 use Rattle.serve_store.specs.Stations.{AllBack, DoorsBack, StationsGiven, station_given}
 use Rattle.serve_store.specs.declared.ending.ServeEnd.{ServeEnd}
 use Rattle.serve_store.specs.declared.ending.ServeEnd.TheVariants as serve_end
@@ -319,13 +320,25 @@ why_not kept none.Keeper old new tells = served_not_keeper tells.0
 why_not kept none.Input old new tells = tells
 why_not kept none.OutOfMemory old new tells = served_not_memory tells.0
 
-on_stations : (what : ToServe) (old new : Outside) (status : ℕ) (store : OpensStore what serve_end.Served (front_of old) (front_of new)) (site : OpensSite what store.kept serve_end.Served (front_of old) (front_of new)) → OpensStations what site.hall serve_end.Served (front_of old) (front_of new) → status ≡ 0 → NothingFails old new → ServesAll what old new status
-on_stations what old new status store site at is nothing =
-    let served : ServedAt what site.hall at.stations true at.given new.place = at.does.0 in
-    let answers = servers site.hall served.hall-after at.stations served.stations-after served.count true served.served in
+-- rendering pages leaves the keeper's count, and a clock more leaves that of keepers
+ready_faults : (warm : Bool) (place : PlaceView) (hall hall' : HallView) → IsReady warm place hall hall' → hall'.faults ≡ hall.faults
+ready_faults true place hall hall' ready = ap (λ (h : HallView). h.faults) ready.pages.same
+ready_faults false place hall hall' ready = ap (λ (h : HallView). h.faults) ready
+
+then_keeps : (warm : Bool) (place : PlaceView) → (place_then warm place).keeper_faults ≡ place.keeper_faults
+then_keeps true place = refl
+then_keeps false place = refl
+
+on_ready : (what : ToServe) (old new : Outside) (status : ℕ) (store : OpensStore what serve_end.Served (front_of old) (front_of new)) (site : OpensSite what store.kept serve_end.Served (front_of old) (front_of new)) (at : OpensStations what site.hall serve_end.Served (front_of old) (front_of new))
+    → ServesReady what site.hall at.stations serve_end.Served (record (front_of old) { place = at.given }) (front_of new) → status ≡ 0 → NothingFails old new → ServesAll what old new status
+on_ready what old new status store site at ready is nothing =
+    let since = place_then what.warm at.given in
+    let served : ServedAt what ready.hall-then at.stations true since new.place = ready.does.0 in
+    let answers = servers ready.hall-then served.hall-after at.stations served.stations-after served.count true served.served in
     let keepers = nothing.keepers in
-    let given = given_keeps what.address at.stations old.place at.given at.stations_are in
-    let stays : StaysCounted at.given.keeper_faults new.place.keeper_faults = subst (λ (n : ℕ). StaysCounted n new.place.keeper_faults) (sym given) keepers in
+    let given = then_keeps what.warm at.given ∙ given_keeps what.address at.stations old.place at.given at.stations_are in
+    let stays : StaysCounted since.keeper_faults new.place.keeper_faults = subst (λ (n : ℕ). StaysCounted n new.place.keeper_faults) (sym given) keepers in
+    let faults = ready_faults what.warm at.given site.hall ready.hall-then ready.is_ready ∙ site.hall_is.faults_is in
     record {
       kept = store.kept;
       told = store.told;
@@ -335,12 +348,24 @@ on_stations what old new status store site at is nothing =
       given = at.given;
       stations_are = at.stations_are;
       workers = at.workers;
+      hall-then = ready.hall-then;
+      is_ready = ready.is_ready;
       served = served;
       answers = answers;
-      no_keeper = answers.keepers (stays_none site.hall.faults served.hall-after.faults site.hall_is.faults_is (none_failed served.stations-after served.hall-after.kept served.hall-after.faults at.given new.place served.back stays));
-      printed = at.does.1;
+      no_keeper = answers.keepers (stays_none ready.hall-then.faults served.hall-after.faults faults (none_failed served.stations-after served.hall-after.kept served.hall-after.faults since new.place served.back stays));
+      printed = ready.does.1;
       status_is = is;
     }
+
+served_not_output : serve_end.Served ≡ serve_end.OutputFailed → ⊥
+served_not_output is = cc
+
+on_stations : (what : ToServe) (old new : Outside) (status : ℕ) (store : OpensStore what serve_end.Served (front_of old) (front_of new)) (site : OpensSite what store.kept serve_end.Served (front_of old) (front_of new)) → OpensStations what site.hall serve_end.Served (front_of old) (front_of new) → status ≡ 0 → NothingFails old new → ServesAll what old new status
+on_stations what old new status store site at is nothing = elim at.does [
+  | inl stops ↦ absurd (served_not_output stops.ended_is)
+  | inr (inl stops) ↦ absurd stops.stops
+  | inr (inr ready) ↦ on_ready what old new status store site at ready is nothing
+]
 
 on_served : (what : ToServe) (old new : Outside) (status : ℕ) → ServesStore what serve_end.Served (front_of old) (front_of new) → status ≡ 0 → NothingFails old new → ServesAll what old new status
 on_served what old new status (inr no_store) is nothing = absurd (device_not serve_end.Served no_store.why served_not_place served_not_memory no_store.ended_is)
@@ -365,11 +390,19 @@ by_why what old new status kept none.Keeper there refused tells is nothing = abs
 by_why what old new status kept none.Input there refused tells is nothing = absurd tells
 by_why what old new status kept none.OutOfMemory there refused tells is nothing = absurd (refused_not_memory tells.0)
 
+refused_not_output : serve_end.Refused ≡ serve_end.OutputFailed → ⊥
+refused_not_output is = cc
+
+open_not_refused : (what : ToServe) (hall : HallView) (stations : List StationView) (old new : Front) → ServesOpen what hall stations serve_end.Refused old new → ⊥
+open_not_refused what hall stations old new (inl stops) = refused_not_output stops.ended_is
+open_not_refused what hall stations old new (inr (inl stops)) = stops.stops
+open_not_refused what hall stations old new (inr (inr ready)) = ready.does
+
 on_refused : (what : ToServe) (old new : Outside) (status : ℕ) → ServesStore what serve_end.Refused (front_of old) (front_of new) → status ≡ 3 → NothingFails old new → FaultsStore what.store old new status
 on_refused what old new status (inr no_store) is nothing = absurd (device_not serve_end.Refused no_store.why refused_not_place refused_not_memory no_store.ended_is)
 on_refused what old new status (inl store) is nothing = elim store.does [
   | inl site ↦ elim site.does [
-    | inl stations ↦ absurd stations.does
+    | inl stations ↦ absurd (open_not_refused what site.hall stations.stations (record (front_of old) { place = stations.given }) (front_of new) stations.does)
     | inr stops ↦ absurd (device_not serve_end.Refused stops.why refused_not_place refused_not_memory stops.ended_is)
   ]
   | inr no_site ↦ by_why what old new status store.kept no_site.why store.told no_site.none no_site.tells is nothing
@@ -519,10 +552,21 @@ silent_why kept none.Keeper old new tells = tells.1
 silent_why kept none.Input old new tells = absurd tells
 silent_why kept none.OutOfMemory old new tells = tells.1
 
+keeper_not_output : serve_end.KeeperFailed ≡ serve_end.OutputFailed → ⊥
+keeper_not_output is = cc
+
+open_not_keeper : (what : ToServe) (hall : HallView) (stations : List StationView) (old new : Front) → ServesOpen what hall stations serve_end.KeeperFailed old new → ⊥
+open_not_keeper what hall stations old new (inl stops) = keeper_not_output stops.ended_is
+open_not_keeper what hall stations old new (inr (inl stops)) = stops.stops
+open_not_keeper what hall stations old new (inr (inr ready)) = ready.does
+
 silent_store : (what : ToServe) (old new : Outside) → ServesStore what serve_end.KeeperFailed (front_of old) (front_of new) → new.written ≡ old.written
 silent_store what old new (inr no_store) = no_store.printed
 silent_store what old new (inl store) = elim store.does [
-  | inl site ↦ elim site.does [ inl stations ↦ absurd stations.does | inr stops ↦ stops.printed ]
+  | inl site ↦ elim site.does [
+    | inl stations ↦ absurd (open_not_keeper what site.hall stations.stations (record (front_of old) { place = stations.given }) (front_of new) stations.does)
+    | inr stops ↦ stops.printed
+  ]
   | inr no_site ↦ silent_why store.kept no_site.why (front_of old) (front_of new) no_site.tells
 ]
 

@@ -18,6 +18,7 @@ use Rattle.site_alone.specs.Sites.{starter_site}
 use Rattle.serve_store.specs.Job.{IsOpened, ServedAt, ToServe}
 use Rattle.serve_store.specs.Stations.{StationsGiven}
 use Rattle.serve_store.specs.Texts.{listening_text, served_text}
+use Rattle.serve_store.specs.Warming.{place_then, written_then, IsReady}
 use Rattle.site_targets.specs.Targets.{targets_text}
 use Rattle.site_drill.specs.Drill.{IsDrilled, drill_requests, drill_site}
 use Rattle.site_drill.specs.Lines.{drill_text}
@@ -140,8 +141,8 @@ ImportsOrFaults path old new status = ImportsAll path old new status ⊎ (Faults
 
 -- ---- serving
 
--- The site of a store was served: as many connections as were to be, each with what workers answer (`AnswerFor`), and no edit was
--- answered that the keeper failed.
+-- The site of a store was served: pages were rendered first where that was asked for (`IsReady`), and then as many connections as were
+-- to be, each with what workers answer (`AnswerFor`). No edit was answered that the keeper failed.
 pub record ServesAll (what : ToServe) (old new : Outside) (status : ℕ) : Type 0 where
   pub kept : Option Kept
   pub told : HoldsTold (old.place.store what.store) kept
@@ -151,10 +152,12 @@ pub record ServesAll (what : ToServe) (old new : Outside) (status : ℕ) : Type 
   pub given : PlaceView
   pub stations_are : StationsGiven what.address stations old.place given
   pub workers : length stations ≡ what.workers
-  pub served : ServedAt what hall stations true given new.place
-  pub answers : AnswerFor hall served.hall-after stations served.stations-after true served.served.shifts
+  pub hall-then : HallView
+  pub is_ready : IsReady what.warm given hall hall-then
+  pub served : ServedAt what hall-then stations true (place_then what.warm given) new.place
+  pub answers : AnswerFor hall-then served.hall-after stations served.stations-after true served.served.shifts
   pub no_keeper : All (λ shift. shift.keepers ≡ 0) served.served.shifts
-  pub printed : new.written ≡ after (after old.written (listening_text what.address)) (served_text what.limit)
+  pub printed : new.written ≡ after (written_then what.warm hall (after old.written (listening_text what.address))) (served_text what.limit)
   pub status_is : status ≡ 0
 
 abbrev pub ServesOrFaults : ToServe → Outside → Outside → ℕ → Type 0

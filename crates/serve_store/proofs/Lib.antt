@@ -2,3 +2,4 @@ mod Places
 mod Served
 mod Openings
 pub mod Writes
+mod Warmings

@@ -1,6 +1,7 @@
 -- What giving stations, and taking them back, does to a place.
-use Rattle.std.proofs.Common.{◌≡◌, ◌∙◌, ℕ, false, zero, suc, ◌+◌, ◌-◌, ◌<◌, ◌≤◌, List, [], ◌∷◌, ◌++◌, length, ◌⊎◌, inl, inr, Option, refl, sym, ap, subst, arith}
+use Rattle.std.proofs.Common.{◌≡◌, ◌∙◌, ℕ, Bool, true, false, zero, suc, ◌+◌, ◌-◌, ◌<◌, ◌≤◌, List, [], ◌∷◌, ◌++◌, length, ◌⊎◌, inl, inr, Option, refl, sym, ap, subst, arith}
 use Rattle.site_io.specs.Told.{Rose}
+use Rattle.site_hall.specs.Hall.{HallView}
 use Rattle.site_keeper.specs.Keeper.{Kept}
 use Rattle.std.specs.List.{All}
 use Rattle.std.proofs.lemmas.List.Elements.{All-cons, All-nil}
@@ -10,6 +11,7 @@ use Rattle.site_places.specs.declared.place.NoDevice.TheVariants as why
 use Rattle.site_serve.specs.Stations.{StationView}
 use Rattle.serve_store.specs.Stations.{station_given, AllBack, AreUnused, DoorsBack, HasFailed, IsStationAt, StationsGiven, StopsShort}
 use Rattle.serve_store.specs.Job.{KeeperRises, PlaceRises}
+use Rattle.serve_store.specs.Warming.{place_then, StopsBy}
 use Rattle.serve_store.specs.declared.ending.ServeEnd.{ServeEnd}
 use Rattle.serve_store.specs.declared.ending.ServeEnd.TheVariants as end
 
@@ -242,3 +244,30 @@ short_keepers address stations why old middle new short up =
     let given = (given_counts address stations old short.given short.stations_are).keepers in
     let same = keepers_stay why short.given middle short.stops in
     omega arith
+
+-- ---- counts once pages were rendered
+
+-- a clock more, if any, is out
+then_counts : (warm : Bool) (place : PlaceView) → GivesSo place (place_then warm place) 0
+then_counts true place = record { keeps = record { own = refl; rows = refl; doors = refl }; keepers = refl; out = omega arith }
+then_counts false place = record { keeps = record { own = refl; rows = refl; doors = refl }; keepers = refl; out = omega arith }
+
+-- it ended before the workers started
+pub stops_place : (ended : ServeEnd) (hall : HallView) (written written' : Option (List ℕ)) (old new : PlaceView) → StopsBy ended hall written written' → KeepsCounts old new → PlaceRises ended old new
+stops_place end.OutputFailed hall written written' old new stops kept = kept
+stops_place end.OutOfMemory hall written written' old new stops kept = kept
+stops_place end.Served hall written written' old new stops kept = absurd stops
+stops_place end.Refused hall written written' old new stops kept = absurd stops
+stops_place end.KeeperFailed hall written written' old new stops kept = absurd stops
+stops_place end.PlaceFailed hall written written' old new stops kept = absurd stops
+
+pub stops_keeper : (ended : ServeEnd) (hall : HallView) (written written' : Option (List ℕ)) (old new : ℕ) → StopsBy ended hall written written' → old ≤ new → KeeperRises ended old new
+stops_keeper end.OutputFailed hall written written' old new stops up = up
+stops_keeper end.OutOfMemory hall written written' old new stops up = up
+stops_keeper end.Served hall written written' old new stops up = absurd stops
+stops_keeper end.Refused hall written written' old new stops up = absurd stops
+stops_keeper end.KeeperFailed hall written written' old new stops up = absurd stops
+stops_keeper end.PlaceFailed hall written written' old new stops up = absurd stops
+
+pub counts_by : (warm : Bool) (old new : PlaceView) → new ≡ place_then warm old → GivesSo old new 0
+counts_by warm old new is = subst (λ (p : PlaceView). GivesSo old p 0) (sym is) (then_counts warm old)

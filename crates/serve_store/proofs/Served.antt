@@ -1,18 +1,18 @@
 -- Which doors have failed once workers have served.
-use Rattle.std.proofs.Common.{◌≡◌, ◌∙◌, ℕ, ◌<◌, List, [], ◌∷◌, length, map, Bool, Option, true, false, ◌&&◌, true≢false, inl, inr, refl, sym, ap, subst, arith}
+use Rattle.std.proofs.Common.{◌≡◌, ◌∙◌, ℕ, ◌<◌, List, [], ◌∷◌, length, map, Bool, true, false, ◌&&◌, true≢false, inl, inr, refl, sym, ap, subst, arith}
 use Rattle.std.specs.List.{All, list_all}
 use Rattle.std.proofs.lemmas.List.{length-map}
 use Rattle.std.proofs.lemmas.List.Elements.{All-head, All-tail}
-use Rattle.site_io.specs.Told.{after, AddsFront, Rose}
+use Rattle.site_io.specs.Told.{Rose}
 use Rattle.site_hall.specs.Hall.{HallView, IsHall}
 use Rattle.site_http.specs.Work.{CountsDoor}
 use Rattle.site_http.specs.declared.worker.Worked.{Worked}
 use Rattle.site_http.specs.declared.worker.Worked.TheVariants.{NoMore, DoorFault}
 use Rattle.site_serve.specs.Serving.{Shift, IsShift, had_no_more, GoesOn, HaveServed}
 use Rattle.site_serve.specs.Stations.{StationView}
-use Rattle.serve_store.specs.Job.{Front, PrintsCount, ServedAt, ServesOpen, ToServe}
+use Rattle.serve_store.specs.Job.{Front, PrintsCount, ServedAt, ToServe, WorksAt}
 use Rattle.serve_store.specs.Stations.{AllBack, AreUnused, HasFailed}
-use Rattle.serve_store.specs.Texts.{listening_text, served_text}
+use Rattle.serve_store.specs.Texts.{served_text}
 use Rattle.serve_store.specs.declared.ending.ServeEnd.{ServeEnd}
 use Rattle.serve_store.specs.declared.ending.ServeEnd.TheVariants as end
 
@@ -65,11 +65,11 @@ as_many old new before after count whole served =
     ∙ sym (length-map served.shifts (λ (s : Shift). s.before)) ∙ ap length served.before_are
 
 -- what comes of workers that stopped, by how it ended
-pub closed : (what : ToServe) (hall hall' : HallView) (stations stations' : List StationView) (count : ℕ) (whole : Bool) (ended : ServeEnd) (old new : Front) (printed : Option (List ℕ))
+pub worked : (what : ToServe) (hall hall' : HallView) (stations stations' : List StationView) (count : ℕ) (whole : Bool) (ended : ServeEnd) (old new : Front)
     → HaveServed hall hall' stations stations' count whole → GoesOn hall hall' (length stations) → IsHall hall' → (whole ≡ true → count ≡ what.limit) → (whole ≡ false → count < what.limit)
-    → AllBack stations' hall'.kept hall'.faults old.place new.place → printed ≡ after old.written (listening_text what.address) → PrintsCount whole (served_text what.limit) ended printed new.written
-    → ServesOpen what hall stations ended old new
-closed what hall hall' stations stations' count whole ended old new printed served goes_on is_hall all fewer back is prints = by_end ended prints
+    → AllBack stations' hall'.kept hall'.faults old.place new.place → PrintsCount whole (served_text what.limit) ended old.written new.written
+    → WorksAt what hall stations ended old new
+worked what hall hall' stations stations' count whole ended old new served goes_on is_hall all fewer back prints = by_end ended prints
   where
     at : (w : Bool) → whole ≡ w → ServedAt what hall stations w old.place new.place
     at w same = record {
@@ -84,10 +84,10 @@ closed what hall hall' stations stations' count whole ended old new printed serv
       back = back;
     }
 
-    by_end : (e : ServeEnd) → PrintsCount whole (served_text what.limit) e printed new.written → ServesOpen what hall stations e old new
-    by_end end.Served prints = (at true prints.0, prints.1 ∙ ap (λ (w : Option (List ℕ)). after w (served_text what.limit)) is)
-    by_end end.OutputFailed prints = inr (at true prints.0, subst (λ (w : Option (List ℕ)). AddsFront w new.written (served_text what.limit)) is prints.1)
-    by_end end.PlaceFailed prints = (at false prints.0, prints.1 ∙ is)
+    by_end : (e : ServeEnd) → PrintsCount whole (served_text what.limit) e old.written new.written → WorksAt what hall stations e old new
+    by_end end.Served prints = (at true prints.0, prints.1)
+    by_end end.OutputFailed prints = (at true prints.0, prints.1)
+    by_end end.PlaceFailed prints = (at false prints.0, prints.1)
     by_end end.OutOfMemory prints = absurd prints
     by_end end.Refused prints = absurd prints
     by_end end.KeeperFailed prints = absurd prints

@@ -18,13 +18,16 @@ use Rattle.serve_store.specs.declared.ending.ServeEnd.{ServeEnd}
 use Rattle.serve_store.specs.declared.ending.ServeEnd.TheVariants as end
 use Rattle.serve_store.specs.Stations.{StationsGiven, StopsShort, AllBack}
 use Rattle.serve_store.specs.Texts.{listening_text, served_text}
+use Rattle.serve_store.specs.Warming.{place_then, written_then, IsReady, StopsBy}
 
--- what is to be served: the store of a path, at an address, by so many workers, and how many connections
+-- what is to be served: the store of a path, at an address, by so many workers, how many connections, and whether pages are rendered
+-- before
 pub record ToServe : Type 0 where
   pub store : List ℕ
   pub address : List ℕ
   pub workers : ℕ
   pub limit : ℕ
+  pub warm : Bool
 
 abbrev pub to_serve : Serving → ToServe
 to_serve serving = record {
@@ -32,6 +35,7 @@ to_serve serving = record {
   address = string_bytes serving.address;
   workers = serving.workers;
   limit = serving.limit;
+  warm = serving.warm;
 }
 
 -- what stands before the job: what is written to its output, how often that failed, and its place
@@ -69,21 +73,46 @@ PrintsCount whole text end.KeeperFailed old new = ⊥
 abbrev pub ServedNone : HallView → List StationView → PlaceView → PlaceView → Type 0
 ServedNone hall stations old new = AllBack stations hall.kept hall.faults old new
 
--- what was done at open stations, by how it ended, and what was printed
+-- what workers did at open stations, by how it ended, and what was printed then
+abbrev pub WorksAt : ToServe → HallView → List StationView → ServeEnd → Front → Front → Type 0
+WorksAt what hall stations end.Served old new =
+    ServedAt what hall stations true old.place new.place × (new.written ≡ after old.written (served_text what.limit))
+WorksAt what hall stations end.OutputFailed old new =
+    ServedAt what hall stations true old.place new.place × AddsFront old.written new.written (served_text what.limit)
+WorksAt what hall stations end.PlaceFailed old new = ServedAt what hall stations false old.place new.place × (new.written ≡ old.written)
+WorksAt what hall stations end.OutOfMemory old new = ServedNone hall stations old.place new.place × (new.written ≡ old.written)
+WorksAt what hall stations end.Refused old new = ⊥
+WorksAt what hall stations end.KeeperFailed old new = ⊥
+
+-- what is printed once the doors are open
+abbrev pub then_listening : ToServe → Front → Option (List ℕ)
+then_listening what front = after front.written (listening_text what.address)
+
+-- that wasn't printed whole
+pub record StopsListening (what : ToServe) (hall : HallView) (stations : List StationView) (ended : ServeEnd) (old new : Front) : Type 0 where
+  pub ended_is : ended ≡ end.OutputFailed
+  pub front : AddsFront old.written new.written (listening_text what.address)
+  pub back : ServedNone hall stations old.place new.place
+
+-- it was, and then it ended before the workers started
+pub record StopsWarming (what : ToServe) (hall : HallView) (stations : List StationView) (ended : ServeEnd) (old new : Front) : Type 0 where
+  pub asked : what.warm ≡ true
+  pub stops : StopsBy ended hall (then_listening what old) new.written
+  pub back : ServedNone hall stations (place_then true old.place) new.place
+
+-- the workers started, over the hall with the pages that were rendered, if that was asked for
+pub record ServesReady (what : ToServe) (hall : HallView) (stations : List StationView) (ended : ServeEnd) (old new : Front) : Type 0 where
+  pub hall-then : HallView
+  pub is_ready : IsReady what.warm old.place hall hall-then
+  pub does :
+      WorksAt what hall-then stations ended
+      (record old { written = written_then what.warm hall (then_listening what old); place = place_then what.warm old.place }) new
+
+-- what was done at open stations, by how it ended
 abbrev pub ServesOpen : ToServe → HallView → List StationView → ServeEnd → Front → Front → Type 0
-ServesOpen what hall stations end.Served old new =
-    ServedAt what hall stations true old.place new.place
-    × (new.written ≡ after (after old.written (listening_text what.address)) (served_text what.limit))
-ServesOpen what hall stations end.OutputFailed old new =
-    (ServedNone hall stations old.place new.place × AddsFront old.written new.written (listening_text what.address))
-    ⊎ (ServedAt what hall stations true old.place new.place
-    × AddsFront (after old.written (listening_text what.address)) new.written (served_text what.limit))
-ServesOpen what hall stations end.PlaceFailed old new =
-    ServedAt what hall stations false old.place new.place × (new.written ≡ after old.written (listening_text what.address))
-ServesOpen what hall stations end.OutOfMemory old new =
-    ServedNone hall stations old.place new.place × (new.written ≡ after old.written (listening_text what.address))
-ServesOpen what hall stations end.Refused old new = ⊥
-ServesOpen what hall stations end.KeeperFailed old new = ⊥
+ServesOpen what hall stations ended old new =
+    StopsListening what hall stations ended old new
+    ⊎ (StopsWarming what hall stations ended old new ⊎ ServesReady what hall stations ended old new)
 
 -- ---- over the site
 

@@ -1,3 +1,4 @@
 pub mod Texts
 pub mod Stations
+pub mod Warming
 pub mod Job

@@ -6,6 +6,10 @@ use Rattle.std.specs.Fmt.{decimal}
 abbrev pub listening_text : List ℕ → List ℕ
 listening_text address = codes "listening " ++ address ++ codes "\n"
 
+-- so many pages were rendered
+abbrev pub warmed_text : ℕ → List ℕ
+warmed_text count = codes "warmed " ++ decimal count ++ codes "\n"
+
 -- so many connections were served
 abbrev pub served_text : ℕ → List ℕ
 served_text count = codes "served " ++ decimal count ++ codes "\n"

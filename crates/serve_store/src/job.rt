@@ -1,21 +1,22 @@
 //! The job of serving.
-ghost use Rattle.std.specs.Prelude.{◌≡◌, ◌≤◌, [], length, true, false, IfOk, OnOk, OnErr, None};
+ghost use Rattle.std.specs.Prelude.{◌≡◌, ◌≤◌, [], length, true, false, IfOk, None};
 ghost use Rattle.std.specs.Vec.{vec_capacity};
 ghost use Rattle.site_hall.specs.Hall.{IsHall};
-ghost use Rattle.site_io.specs.Told.{after, AddsFront, Rose};
 ghost use Rattle.site_jobs.specs.Ground.{IsNoSiteOf};
 ghost use Rattle.site_jobs.specs.Jobs.{CountsKeeper, IsNoBase};
-ghost use Rattle.serve_store.specs.Job.{to_serve, FindsNoSite, KeeperRises, OutputRises, PlaceRises, PrintsCount, ServesHall, ServesOpen, ServesStore};
+ghost use Rattle.serve_store.specs.Job.{to_serve, FindsNoSite, KeeperRises, OutputRises, PlaceRises, PrintsCount, ServesHall, ServesOpen, ServesStore, WorksAt};
 ghost use Rattle.serve_store.specs.Stations.{AllBack, AreUnused, HasFailed};
 ghost use Rattle.serve_store.specs.Texts.{listening_text, served_text};
+ghost use Rattle.serve_store.specs.Warming.{IsNew};
 
 use crate::doors::{NoStations, all_back, open_stations};
 use crate::ending::ServeEnd;
 use crate::opening::{Unopened, hall_of};
 use crate::serving::Serving;
-use crate::texts::{listening_text, served_text};
+use crate::texts::{announce, listening_text, served_text};
+use crate::warming::{Unwarmed, made_warm};
 use site_hall::Hall;
-use site_io::{Door, Failed, Sink, write_whole};
+use site_io::{Door, write_whole};
 use site_jobs::NoJob;
 use site_places::{NoDevice, Place};
 use site_serve::{Served, Station, Unserved, serve_all};
@@ -77,19 +78,43 @@ fn close<P: Place>(
     }
 }
 
-/// Prints a text, and hands it on at once.
-#[tactic(auto, using(crate::proofs::Writes::all_is_front))]
-fn announce<O: Sink>(output: &mut O, text: &[u8]) -> Result<(), Failed>
-    ensures whole { OnOk result (O.written output.new ≡ after (O.written output.old) text.now) }
-    ensures front { OnErr result (AddsFront (O.written output.old) (O.written output.new) text.now) }
-    ensures cause { OnErr result (Rose (O.faults output.old) (O.faults output.new)) }
-    ensures steady { OnOk result (O.faults output.new ≡ O.faults output.old) }
+/// Serves the site of a hall at these stations, and gives all back.
+fn work_stations<P: Place, R: Threads + Wait + Sync>(
+    rt: &R,
+    alloc: Global,
+    serving: &Serving,
+    hall: Hall<P::Keeper>,
+    stations: Vec<Station<P::Door, P::Clock, P::Entropy, P::Gate>>,
+    closing: &[u8],
+    place: &mut P,
+    output: &mut P::Out,
+) -> ServeEnd
+where
+    <P::Door as Door>::In: Send,
+    <P::Door as Door>::Out: Send,
+    requires new { (hall.pending ≡ None) × IsHall hall }
+    requires closing { closing.now ≡ served_text (to_serve serving.now).limit }
+    requires stations { AreUnused stations.items }
+    requires workers { length stations.items ≡ (to_serve serving.now).workers }
+    requires out { length stations.items ≤ (P.sees place.old).doors_out }
+    ensures does { WorksAt (to_serve serving.now) hall stations.items result
+        (record { written = P.Out.written output.old; writing = P.Out.faults output.old; place = P.sees place.old })
+        (record { written = P.Out.written output.new; writing = P.Out.faults output.new; place = P.sees place.new }) }
+    ensures output { OutputRises result (P.Out.faults output.old) (P.Out.faults output.new) }
+    ensures place { PlaceRises result (P.sees place.old) (P.sees place.new) }
+    ensures keeper { KeeperRises result (P.sees place.old).keeper_faults (P.sees place.new).keeper_faults }
 {
-    write_whole(output, text)?;
-    output.flush()
+    match serve_all(rt, alloc, hall, stations, serving.limit) {
+        Ok(served) => close(served, closing, place, output),
+        Err(Unserved { hall, stations }) => {
+            all_back(place, stations, hall.into_keeper());
+            ServeEnd::OutOfMemory
+        }
+    }
 }
 
-/// Serves the site of a hall at these stations, and gives all back.
+/// Prints that the doors at these stations are open, renders the pages that anybody may see where that is asked for, and serves
+/// the site of a hall, of which nothing was edited yet; gives all back.
 fn serve_stations<P: Place, R: Threads + Wait + Sync>(
     rt: &R,
     alloc: Global,
@@ -102,7 +127,7 @@ fn serve_stations<P: Place, R: Threads + Wait + Sync>(
 where
     <P::Door as Door>::In: Send,
     <P::Door as Door>::Out: Send,
-    requires new { (hall.pending ≡ None) × IsHall hall }
+    requires new { IsNew hall }
     requires listening { ready.listening.items ≡ listening_text (to_serve serving.now).address }
     requires closing { ready.served.items ≡ served_text (to_serve serving.now).limit }
     requires stations { AreUnused ready.stations.items }
@@ -124,11 +149,11 @@ where
         all_back(place, stations, hall.into_keeper());
         return ServeEnd::OutputFailed;
     }
-    match serve_all(rt, alloc, hall, stations, serving.limit) {
-        Ok(served) => close(served, &closing, place, output),
-        Err(Unserved { hall, stations }) => {
+    match made_warm(alloc, serving.warm, hall, place, output) {
+        Ok(hall) => work_stations(rt, alloc, serving, hall, stations, &closing, place, output),
+        Err(Unwarmed { hall, end }) => {
             all_back(place, stations, hall.into_keeper());
-            ServeEnd::OutOfMemory
+            end
         }
     }
 }
@@ -146,7 +171,7 @@ fn serve_hall<P: Place, R: Threads + Wait + Sync>(
 where
     <P::Door as Door>::In: Send,
     <P::Door as Door>::Out: Send,
-    requires new { (hall.pending ≡ None) × IsHall hall }
+    requires new { IsNew hall }
     requires listening { ready.listening.items ≡ listening_text (to_serve serving.now).address }
     requires closing { ready.served.items ≡ served_text (to_serve serving.now).limit }
     requires empty { ready.stations.items ≡ [] }

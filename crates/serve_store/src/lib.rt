@@ -7,6 +7,7 @@ mod job;
 mod opening;
 mod serving;
 mod texts;
+mod warming;
 
 pub use ending::ServeEnd;
 pub use job::serve_store;

@@ -12,6 +12,8 @@ pub struct Serving {
     pub workers: u64,
     /// How many connections are taken: 1 to 1,000,000, or 2^63.
     pub limit: u64,
+    /// Whether the pages that anybody may see are rendered before the workers start.
+    pub warm: bool,
     ghost some_worker: { 1 ≤ workers },
     ghost few_workers: { workers ≤ 16 },
     ghost some_connection: { 1 ≤ limit },

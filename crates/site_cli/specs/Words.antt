@@ -1,8 +1,9 @@
 -- The command line.
-use Rattle.std.specs.Prelude.{ℕ, List, [], ◌∷◌, codes, true, nat_le, if◌then◌else◌, Option, Some, None, option_map, option_and_then}
+use Rattle.std.specs.Prelude.{ℕ, List, [], ◌∷◌, codes, Bool, true, false, nat_le, if◌then◌else◌, Option, Some, None, option_map, option_and_then}
 use Rattle.std.specs.String.{string_bytes}
 use Rattle.std.specs.Str.{bytes_eq}
 use Rattle.clap.specs.Words.{App, Row, Rule, Text, new_app, new_rule, with_rule, with_subcommand, subcommand_of, fault_of, first_of, Kinds}
+use Rattle.clap.specs.declared.builder.action.ArgAction.TheVariants.{SetTrue}
 use Rattle.content_rows.specs.IdText.{id_of}
 use Rattle.drill_input.specs.Number.{number_of}
 use Rattle.serve_store.specs.Job.{ToServe, to_serve}
@@ -41,11 +42,17 @@ option_rule name = record (new_rule name) { long = Some name }
 abbrev pub required_rule : List ℕ → Rule
 required_rule name = record (new_rule name) { long = Some name; required = true }
 
--- `serve --store PATH --listen ADDR [--workers N] [--limit M]`
+-- a flag with this name, which takes no value
+abbrev pub flag_rule : List ℕ → Rule
+flag_rule name = record (new_rule name) { long = Some name; action = Some SetTrue }
+
+-- `serve --store PATH --listen ADDR`
+abbrev pub bare_serve_app : App
+bare_serve_app = with_rule (with_rule (new_app (codes "serve")) (required_rule (codes "store"))) (required_rule (codes "listen"))
+
+-- `serve --store PATH --listen ADDR [--workers N] [--limit M] [--warm]`
 abbrev pub serve_app : App
-serve_app =
-    with_rule (with_rule (with_rule (with_rule (new_app (codes "serve")) (required_rule (codes "store")))
-    (required_rule (codes "listen"))) (option_rule (codes "workers"))) (option_rule (codes "limit"))
+serve_app = with_rule (with_rule (with_rule bare_serve_app (option_rule (codes "workers"))) (option_rule (codes "limit"))) (flag_rule (codes "warm"))
 
 -- a subcommand that works on a store
 abbrev pub store_app : List ℕ → App
@@ -91,10 +98,20 @@ workers_in found = number_or 4 16 (first_of (codes "workers") found)
 abbrev pub limit_in : List Row → Option ℕ
 limit_in found = number_or 9223372036854775808 1000000 (first_of (codes "limit") found)
 
+-- whether a flag is given, which clap tells as a text
+abbrev pub is_given : Option (List ℕ) → Bool
+is_given None = false
+is_given (Some text) = bytes_eq text (codes "true")
+
+-- whether the pages that anybody may see are rendered before the workers start
+abbrev pub warm_in : List Row → Bool
+warm_in found = is_given (first_of (codes "warm") found)
+
 -- what is to be served, where all of it is said
-abbrev pub serve_job : Option (List ℕ) → Option (List ℕ) → Option ℕ → Option ℕ → Option Asked
-serve_job (Some store) (Some address) (Some workers) (Some limit) = Some (serves (record { store = store; address = address; workers = workers; limit = limit }))
-serve_job _ _ _ _ = None
+abbrev pub serve_job : Option (List ℕ) → Option (List ℕ) → Option ℕ → Option ℕ → Bool → Option Asked
+serve_job (Some store) (Some address) (Some workers) (Some limit) warm =
+    Some (serves (record { store = store; address = address; workers = workers; limit = limit; warm = warm }))
+serve_job _ _ _ _ _ = None
 
 -- the number of a drill, where it is given as one
 abbrev pub number_given : Option (List ℕ) → Option ℕ
@@ -104,7 +121,7 @@ number_given text = option_and_then number_of text
 abbrev pub named_job : List ℕ → List Row → Option Asked
 named_job name found =
     if bytes_eq name (codes "replay") then Some (replay (first_of (codes "ROWS") found)) else
-    if bytes_eq name (codes "serve") then serve_job (first_of (codes "store") found) (first_of (codes "listen") found) (workers_in found) (limit_in found) else
+    if bytes_eq name (codes "serve") then serve_job (first_of (codes "store") found) (first_of (codes "listen") found) (workers_in found) (limit_in found) (warm_in found) else
     if bytes_eq name (codes "drill") then option_map drills (number_given (first_of (codes "N") found)) else
     store_job name (first_of (codes "store") found)
 

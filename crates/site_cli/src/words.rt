@@ -6,10 +6,10 @@ ghost use Rattle.std.specs.IoError.{error_kind};
 ghost use Rattle.clap.specs.Words.{app_of, fault_of, first_of, found_of, kind_of, rows_of, rule_of, subcommand_of, subcommand_rows_of, with_subcommand};
 ghost use Rattle.clap.specs.declared.builder.command.Command.TheViews.{out-Command as fields_of};
 ghost use Rattle.clap.specs.declared.error.kind.ErrorKind.TheVariants as kind;
-ghost use Rattle.site_cli.specs.Words.{asked, asked_of, drill_app, drills, limit_in, named_job, number_given, number_or, number_to, option_rule, replay_app, required_rule, serve_app, serve_job, site_app, store_app, store_job, synopsis, workers_in};
+ghost use Rattle.site_cli.specs.Words.{asked, asked_of, drill_app, drills, limit_in, named_job, number_given, number_or, number_to, option_rule, flag_rule, replay_app, required_rule, bare_serve_app, serve_app, serve_job, site_app, store_app, store_job, synopsis, warm_in, workers_in};
 
 use clap::error::ErrorKind as ClapKind;
-use clap::{Arg, ArgMatches, Command, Error as ClapError};
+use clap::{Arg, ArgAction, ArgMatches, Command, Error as ClapError};
 use content_rows::id_of;
 use drill_input::number_of;
 use serve_store::Serving;
@@ -24,7 +24,7 @@ pub enum Job {
     /// `replay [ROWS]`: answer one connection, from the input to the output, over the site of the file of rows of that
     /// path, or over the starter site.
     Replay(Option<String>),
-    /// `serve --store PATH --listen ADDR [--workers N] [--limit M]`: serve the site of the store of that path.
+    /// `serve --store PATH --listen ADDR [--workers N] [--limit M] [--warm]`: serve the site of the store of that path.
     Serve(Serving),
     /// `import --store PATH`: fill the store of that path with the rows of the input.
     Import(String),
@@ -80,16 +80,33 @@ fn required_arg<'a>(alloc: Global, name: &'a str) -> Arg<'a>
     Arg::new(alloc, name).long(name).required(true)
 }
 
+/// A flag with this name, which takes no value.
+fn flag_arg<'a>(alloc: Global, name: &'a str) -> Arg<'a>
+    ensures rule { rule_of result ≡ flag_rule name.entry.now }
+    ensures local { result.global ≡ false }
+{
+    Arg::new(alloc, name).long(name).action(ArgAction::SetTrue)
+}
+
+/// `serve`, with what is to be given.
+fn bare_serve_command<'a>(alloc: Global) -> Result<Command<'a>, AllocError>
+    ensures app { IfOk result (λ c. app_of c ≡ bare_serve_app) }
+    ensures local { IfOk result (λ c. (fields_of c).has_globals ≡ false) }
+{
+    Command::new(alloc, "serve")
+        .arg(required_arg(alloc, "store"))?
+        .arg(required_arg(alloc, "listen"))
+}
+
 /// `serve`, with its options.
 fn serve_command<'a>(alloc: Global) -> Result<Command<'a>, AllocError>
     ensures app { IfOk result (λ c. app_of c ≡ serve_app) }
     ensures local { IfOk result (λ c. (fields_of c).has_globals ≡ false) }
 {
-    Command::new(alloc, "serve")
-        .arg(required_arg(alloc, "store"))?
-        .arg(required_arg(alloc, "listen"))?
+    bare_serve_command(alloc)?
         .arg(option_arg(alloc, "workers"))?
-        .arg(option_arg(alloc, "limit"))
+        .arg(option_arg(alloc, "limit"))?
+        .arg(flag_arg(alloc, "warm"))
 }
 
 /// A subcommand that works on a store.
@@ -231,9 +248,19 @@ fn limit_given(matches: &ArgMatches<'_>) -> Option<u64>
     }
 }
 
+/// Whether the pages that anybody may see are rendered before the workers start.
+fn warm_given(matches: &ArgMatches<'_>) -> bool
+    ensures { result ≡ warm_in (rows_of (found_of matches.now)) }
+{
+    match matches.get_str("warm") {
+        Some(text) => text == "true",
+        None => false,
+    }
+}
+
 /// The job of serving, where all of it is said.
 fn serve_job(alloc: Global, matches: &ArgMatches<'_>) -> Result<Option<Job>, AllocError>
-    ensures { IfOk result (λ job. option_map asked_of job ≡ serve_job (first_of (codes "store") (rows_of (found_of matches.now))) (first_of (codes "listen") (rows_of (found_of matches.now))) (workers_in (rows_of (found_of matches.now))) (limit_in (rows_of (found_of matches.now)))) }
+    ensures { IfOk result (λ job. option_map asked_of job ≡ serve_job (first_of (codes "store") (rows_of (found_of matches.now))) (first_of (codes "listen") (rows_of (found_of matches.now))) (workers_in (rows_of (found_of matches.now))) (limit_in (rows_of (found_of matches.now))) (warm_in (rows_of (found_of matches.now)))) }
 {
     let Some(store) = text_given(alloc, matches, "store")? else {
         return Ok(None);
@@ -252,6 +279,7 @@ fn serve_job(alloc: Global, matches: &ArgMatches<'_>) -> Result<Option<Job>, All
         address,
         workers,
         limit,
+        warm: warm_given(matches),
     })))
 }
 

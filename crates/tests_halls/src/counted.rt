@@ -1,14 +1,16 @@
 //! How many elements are built for the pages of a connection.
 ghost use Rattle.std.specs.Prelude.{None};
 
-use site_alone::alone_with;
+use site_alone::{alone_with, starter_state};
 use site_files::read_site;
 use site_hall::Alone;
 use site_house::House;
 use site_http::serve_connection;
 use site_io::{Ended, Gate, ListClock, ListEntropy, MemorySink, MemorySource, Point};
 use site_keeper::MemoryKeeper;
+use site_targets::targets;
 use std::alloc::{AllocError, Global};
+use warm_pages::warm;
 
 // A gate that notes how many elements were built for each of the first replies.
 #[derive(Drop)]
@@ -321,4 +323,35 @@ fn a_reply_is_given_again(rt: HostRuntime) {
     assert!(rt; twice == once.saturating_add(1));
     assert!(rt; thrice == twice);
     assert!(rt; by_nobody == twice.saturating_add(1));
+}
+
+// How many pages of the new site are rendered before anybody asks for them, and how many elements are built for each reply to these
+// requests then.
+fn warmed(
+    rt: &HostRuntime,
+    requests: &'static [&'static str],
+) -> Result<(u64, [u64; 8]), AllocError> {
+    let alloc = rt.alloc();
+    let state = starter_state(alloc)?;
+    let targets = targets(alloc, &state)?;
+    let mut house = alone_with(alloc, &state)?;
+    let count = warm(alloc, &mut house, &targets, 1_000)?;
+    let case = Case {
+        placed: "",
+        moments: &[1000],
+        requests,
+        built: [0; 8],
+        pieces: &[],
+    };
+    let mut sink = MemorySink::new(alloc, 400_000)?;
+    let built = answered(rt, alloc, &mut house, &case, &mut sink)?;
+    Ok((count, built))
+}
+
+// Nothing is built for a page that was rendered first, and a page that leads nowhere isn't among these.
+#[test]
+fn what_was_rendered_first_is_found(rt: HostRuntime) {
+    let (count, built) = warmed(&rt, &[PAGE, FRONT, NOWHERE]).expect(&rt, "memory");
+    assert!(rt; count == 4);
+    assert!(rt; built == [0, 0, 1, 0, 0, 0, 0, 0]);
 }
