@@ -18,6 +18,7 @@ PARTS = {
     "from-wordpress": "from_wordpress",
     "from-markdown": "from_markdown",
     "edit": "edit",
+    "crawl": "crawl",
     "backup": "store",
     "restore": "store",
     "export": "store",

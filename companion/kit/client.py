@@ -103,11 +103,14 @@ class Client:
     """Asks a site at an address, with the session that is kept for it."""
 
     def __init__(self, address: str, token: Optional[str] = None) -> None:
-        parts = urlsplit(address if "://" in address else f"http://{address}")
-        if parts.scheme not in ("http", "https") or not parts.hostname:
+        try:
+            parts = urlsplit(address if "://" in address else f"http://{address}")
+            self._host, self._port, self._is_safe = parts.hostname or "", parts.port, parts.scheme == "https"
+        except ValueError as fault:
+            raise Trouble(f"{address}: {fault}", 2) from fault
+        if parts.scheme not in ("http", "https") or not self._host:
             raise Trouble(f"{address}: wanted is an address like http://127.0.0.1:8080", 2)
         self.address = f"{parts.scheme}://{parts.netloc}"
-        self._host, self._port, self._is_safe = parts.hostname, parts.port, parts.scheme == "https"
         self.token = token
 
     def _connection(self) -> http.client.HTTPConnection:

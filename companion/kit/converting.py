@@ -5,6 +5,7 @@ from __future__ import annotations
 import argparse
 from collections import Counter
 from dataclasses import dataclass, field, replace
+from functools import partial
 from pathlib import Path
 from typing import Any, Iterable, Optional
 
@@ -12,7 +13,7 @@ from .cells import Cell
 from .document import Document, Row, now, universal_id
 from .outputs import Progress, give, tell, write_file
 from .redirects import Redirects
-from .site_view import address_of, paths_of
+from .site_view import address_of, is_answered, paths_of
 from .starting import Wishes, block_row, link_row, made, node_row
 from .texts import MOST_TEXT, as_line, as_path, as_text, machine_name, slug
 from .trouble import Trouble
@@ -137,6 +138,8 @@ class Builder:
     def _path(self, item: Item, before: Optional[Row]) -> Optional[str]:
         wanted = as_path(item.path)
         if wanted is None:
+            if item.path.strip("/"):
+                self.note(f"{item.key}: {item.path!r} can't be a path, so it has none of its own")
             return before["path"] if before else None
         if before and before["path"]:
             if before["path"] == wanted:
@@ -242,7 +245,8 @@ def finish(builder: Builder, given: argparse.Namespace) -> int:
     builder.site.check()
     give(builder.site.text(given.changes), given.out)
     if given.redirects:
-        builder.redirects.leave(paths_of(builder.site.rows))
+        rows = builder.site.rows
+        builder.redirects.leave(partial(is_answered, rows, paths_of(rows)))
         write_file(given.redirects, builder.redirects.conf(Path(given.redirects).name))
         tell(f"{len(builder.redirects)} old addresses in {given.redirects}")
     if given.notes:

@@ -3,6 +3,7 @@
 from __future__ import annotations
 
 import argparse
+import re
 import uuid
 from typing import Any, Optional
 
@@ -222,15 +223,16 @@ def user_end(given: argparse.Namespace) -> int:
     ended = 0
     for token in tokens:
         ended += Client(given.at, token).ask("POST", "/user/logout").status == 200
-    print(f"user {given.user}: {ended} of {len(tokens)} sessions ended, the others had ended before")
+    others = "" if ended == len(tokens) else ", the others had ended before"
+    print(f"user {given.user}: {ended} of {len(tokens)} sessions ended{others}")
     return 0
 
 
 def _number(text: str) -> int:
-    number = int(text)
-    if not 0 <= number <= GREATEST_ID:
-        raise ValueError
-    return number
+    """A number that a row may have, of a word."""
+    if not re.fullmatch("[0-9]{1,10}", text) or int(text) > GREATEST_ID:
+        raise argparse.ArgumentTypeError(f"{text!r} is no number of a row")
+    return int(text)
 
 
 def _optional_number(text: str) -> Optional[int]:

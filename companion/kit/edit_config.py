@@ -38,7 +38,6 @@ COPY_FACTS = "backup.json"
 """The file of a backup that has what is known of it."""
 
 
-
 def _row_of(given: argparse.Namespace, cell: Cell) -> dict[str, Any]:
     """The row of an export, without its cell."""
     row = read_rows(rows_file(given.source)).get(cell)
@@ -71,7 +70,10 @@ def _send(given: argparse.Namespace, row: Mapping[str, Any]) -> int:
 
 def put(given: argparse.Namespace) -> int:
     """Sends a row of a file."""
-    value = strict_json.read(read_bytes(given.file))
+    try:
+        value = strict_json.read(read_bytes(given.file))
+    except strict_json.NoJson as fault:
+        raise Trouble(f"{given.file}: this is no JSON: {fault}", 2) from fault
     if not isinstance(value, dict) or value.pop("cell", str(_cell(given))) != str(_cell(given)):
         raise Trouble(f"{given.file}: wanted is one row of {_cell(given)}")
     return _send(given, value)

@@ -47,19 +47,32 @@ def read_table(given: argparse.Namespace) -> tuple[list[str], list[Record]]:
         text = raw.decode("utf-8-sig" if given.encoding == "utf-8" else given.encoding)
     except (UnicodeDecodeError, LookupError) as fault:
         raise Trouble(f"{given.table}: {fault}; --encoding names another, as cp1252") from fault
-    delimiter = given.delimiter or _delimiter_of(text)
     csv.field_size_limit(16_777_216)
-    reader = csv.DictReader(io.StringIO(text, newline=""), delimiter=delimiter)
+    try:
+        rows = list(csv.reader(io.StringIO(text, newline=""), delimiter=given.delimiter or _delimiter_of(text)))
+    except (csv.Error, TypeError) as fault:
+        raise Trouble(f"{given.table}: {fault}") from fault
+    return _records(given, rows)
+
+
+def _records(given: argparse.Namespace, rows: list[list[str]]) -> tuple[list[str], list[Record]]:
+    """The heads, and the records by them. Rows and columns that are empty, as spreadsheets have at their ends, are passed over."""
     renames = dict(_renames(given.column))
-    heads = [renames.get(head.strip(), head.strip()) for head in reader.fieldnames or []]
+    heads = [renames.get(head.strip(), head.strip()) for head in rows[0]] if rows else []
+    while heads and not heads[-1]:
+        heads.pop()
     if not heads:
         raise Trouble(f"{given.table}: the first line has no heads of columns")
-    reader.fieldnames = heads
+    twice = [head for at, head in enumerate(heads) if head in heads[:at]]
+    if twice:
+        raise Trouble(f"{given.table}: two columns have the head {twice[0]!r}")
     records = []
-    for number, record in enumerate(reader, 2):
-        if None in record or None in record.values():
-            raise Trouble(f"{given.table}: row {number} has another number of columns than the heads")
-        records.append(dict(record))
+    for number, row in enumerate(rows[1:], 2):
+        if not any(row):
+            continue
+        if len(row) < len(heads) or any(row[len(heads) :]):
+            raise Trouble(f"{given.table}: row {number} has {len(row)} columns, and the heads are {len(heads)}")
+        records.append(dict(zip(heads, row)))
     return heads, records
 
 

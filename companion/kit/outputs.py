@@ -15,7 +15,7 @@ def write_file(name: str, text: str) -> None:
     path = Path(name)
     part = path.with_name(path.name + ".part")
     try:
-        part.write_text(text, encoding="utf-8", newline="\n")
+        part.write_bytes(text.encode("utf-8", "surrogateescape"))
         os.replace(part, path)
     except OSError as fault:
         raise Trouble(f"{name}: {fault.strerror}") from fault

@@ -14,7 +14,6 @@ from typing import Iterator
 from .trouble import Trouble
 
 MOST_SECONDS = 2.0
-SECONDS_TO_STOP = 1.0
 GUARD = Path(__file__).with_name("guard.py")
 
 
@@ -107,10 +106,9 @@ class Pause:
         return guard
 
     def _wait(self) -> None:
-        end = self._begun + min(SECONDS_TO_STOP, self._most)
         while not _are_all_stopped(self._pid):
-            if time.monotonic() > end:
-                raise Trouble(f"process {self._pid} couldn't be stopped; it goes on")
+            if time.monotonic() > self._begun + self._most:
+                raise Trouble(f"process {self._pid} didn't stand still within {self._most:g} seconds, so it goes on; --most allows more")
             time.sleep(0.0005)
 
     def _go_on(self) -> None:

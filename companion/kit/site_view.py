@@ -9,6 +9,8 @@ from .cells import Cell
 
 Rows = Mapping[Cell, Mapping[str, Any]]
 LOGIN = Cell("login")
+OF_EDITS = ("/node", "/taxonomy/term", "/user", "/user/login", "/user/logout", "/cache/rebuild")
+"""The paths of edits that name no row."""
 _NUMBERED = re.compile(r"/(node|taxonomy/term|user)/([1-9][0-9]{0,9})")
 _KIND_OF = {"node": "node", "taxonomy/term": "term", "user": "user"}
 
@@ -30,6 +32,11 @@ def route(rows: Rows, paths: Mapping[str, Cell], path: str) -> Optional[Cell]:
         cell = Cell(_KIND_OF[numbered[1]], numbered[2])
         return cell if cell in rows else None
     return paths.get(path)
+
+
+def is_answered(rows: Rows, paths: Mapping[str, Cell], path: str) -> bool:
+    """Whether the site answers at a path: it shows a row there, or takes edits."""
+    return path in OF_EDITS or route(rows, paths, path) is not None
 
 
 def address_of(rows: Rows, cell: Cell) -> str:

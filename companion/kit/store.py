@@ -292,7 +292,9 @@ def run_export(given: argparse.Namespace) -> int:
 
 def _add_pid(it: argparse.ArgumentParser) -> None:
     it.add_argument("--pid", type=int, metavar="N", help="the process that serves it, which is stopped for the copy and always let go on")
-    it.add_argument("--most", type=float, default=MOST_SECONDS, metavar="SECONDS", help=f"how long it may be stopped (default: {MOST_SECONDS:g})")
+    most = os.environ.get("SITEKIT_MOST", f"{MOST_SECONDS:g}")
+    words = f"how long it may be stopped, more on a busy machine (default: {MOST_SECONDS:g}, or SITEKIT_MOST)"
+    it.add_argument("--most", type=float, default=most, metavar="SECONDS", help=words)
 
 
 def add_to(commands: Any) -> None:

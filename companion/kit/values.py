@@ -3,6 +3,7 @@
 from __future__ import annotations
 
 import json
+import re
 from typing import Any, Mapping, Optional
 
 from .asks import Ask, Columns, Each, Flag, MayLack, NullOr, Text, Texts, Whole, object_faults
@@ -12,9 +13,12 @@ from .trouble import Trouble
 
 def text_or_file(text: str) -> str:
     """A text as it is, or what a file holds where it is `@FILE`, without the end of its last line."""
-    if text.startswith("@"):
+    if not text.startswith("@"):
+        return text
+    try:
         return read_bytes(text[1:]).decode("utf-8").rstrip("\n")
-    return text
+    except UnicodeDecodeError as fault:
+        raise Trouble(f"{text[1:]}: {fault}", 2) from fault
 
 
 def pair(word: str) -> tuple[str, str]:
@@ -82,7 +86,7 @@ def check(keys: Mapping[str, Ask], value: Mapping[str, Any], needed: Optional[tu
 def grant_of(word: str) -> dict[str, Any]:
     """A grant that somebody holds, of REALM:NUMBER."""
     realm, colon, gid = word.partition(":")
-    if not colon or not gid.isdigit():
+    if not colon or not re.fullmatch(r"[0-9]+", gid):
         raise Trouble(f"--grant {word}: wanted is REALM:NUMBER, as board:1", 2)
     return {"gid": int(gid), "realm": realm}
 

@@ -5,7 +5,6 @@ from __future__ import annotations
 import contextlib
 import http.client
 import os
-import re
 import shutil
 import signal
 import socket
@@ -23,10 +22,16 @@ SITEKIT = COMPANION / "sitekit"
 SAMPLES = REPOSITORY / "samples"
 sys.path.insert(0, str(COMPANION))
 
+from kit import crawl as sitekit_crawl  # noqa: E402
 from kit import program  # noqa: E402
+from kit.client import Client  # noqa: E402
 from kit.trouble import Trouble  # noqa: E402
 
 MOMENT = "1780000000"
+SECONDS = float(os.environ.get("SITEKIT_TEST_SECONDS", "60"))
+"""How long a command or a request may take. A busy machine wants more."""
+TRIES = 3
+"""How often a server is started: somebody else may be faster at a port that was free."""
 
 
 def site() -> str:
@@ -69,6 +74,7 @@ class Case(unittest.TestCase):
             **os.environ,
             "PATH": os.environ.get("PATH", "") + ":/usr/sbin:/sbin",
             "SITE_PROGRAM": site(),
+            "SITEKIT_MOST": str(SECONDS),
             "SOURCE_DATE_EPOCH": MOMENT,
             "XDG_STATE_HOME": str(self.room / "state"),
         }
@@ -88,14 +94,14 @@ class Case(unittest.TestCase):
         """Runs `sitekit`, whose status has to be the one that is said."""
         done = subprocess.run(
             [sys.executable, str(SITEKIT), *words], input=given, capture_output=True, text=True, cwd=self.room,
-            env=self.environment, timeout=60,
+            env=self.environment, timeout=SECONDS,
         )  # fmt: skip
         self.assertEqual(done.returncode, status, f"sitekit {' '.join(words)}\n{done.stdout}\n{done.stderr}")
         return done
 
     def run_site(self, *words: str, given: bytes = b"", status: int = 0) -> str:
         """Runs the program, whose status has to be the one that is said."""
-        done = subprocess.run([site(), *words], input=given, capture_output=True, timeout=60)
+        done = subprocess.run([site(), *words], input=given, capture_output=True, timeout=SECONDS)
         self.assertEqual(done.returncode, status, f"site {' '.join(words)}\n{done.stdout[:500]!r}")
         return done.stdout.decode()
 
@@ -133,6 +139,11 @@ class Case(unittest.TestCase):
             finally:
                 process.terminate()
 
+    def nginx_of(self, site: "Server", redirects: str) -> contextlib.AbstractContextManager[int]:
+        """An nginx in front of a served site, with a file of old addresses."""
+        server = f"if ($site_moved) {{ return 301 $site_moved; }} location / {{ proxy_pass {site.address}; }}"
+        return self.nginx(f"include {redirects};", server)
+
     def log_in(self, name: str = "admin", password: str = "oar") -> None:
         """Logs in at the served site."""
         self.write("password", password + "\n")
@@ -150,14 +161,17 @@ class Server:
     """A served store on loopback."""
 
     def __init__(self, store: str, workers: int = 4) -> None:
-        self.port = free_port()
-        self.address = f"http://127.0.0.1:{self.port}"
-        words = [site(), "serve", "--store", store, "--listen", f"127.0.0.1:{self.port}", "--workers", str(workers)]
-        self.process = subprocess.Popen(words, stdout=subprocess.PIPE)
-        assert self.process.stdout is not None
-        line = self.process.stdout.readline()
-        if not line.startswith(b"listening "):
-            raise AssertionError(f"the server said {line!r}")
+        for _ in range(TRIES):
+            self.port = free_port()
+            self.address = f"http://127.0.0.1:{self.port}"
+            words = [site(), "serve", "--store", store, "--listen", f"127.0.0.1:{self.port}", "--workers", str(workers)]
+            self.process = subprocess.Popen(words, stdout=subprocess.PIPE)
+            assert self.process.stdout is not None
+            line = self.process.stdout.readline()
+            if line.startswith(b"listening "):
+                return
+            self.stop()
+        raise AssertionError(f"the server said {line!r} and ended with status {self.process.returncode}")
 
     @property
     def pid(self) -> int:
@@ -177,7 +191,7 @@ class Server:
 
 def get(port: int, path: str, cookie: Optional[str] = None) -> tuple[int, str]:
     """The status and the body of a path at a port of loopback."""
-    connection = http.client.HTTPConnection("127.0.0.1", port, timeout=20)
+    connection = http.client.HTTPConnection("127.0.0.1", port, timeout=SECONDS)
     try:
         connection.request("GET", path, headers={"Connection": "close", **({"Cookie": cookie} if cookie else {})})
         reply = connection.getresponse()
@@ -186,22 +200,14 @@ def get(port: int, path: str, cookie: Optional[str] = None) -> tuple[int, str]:
         connection.close()
 
 
-def crawl(port: int, start: str = "/", cookie: Optional[str] = None, extra: Sequence[str] = ()) -> dict[str, int]:
-    """The statuses of all that links lead to, from a page on, by their addresses."""
-    found: dict[str, int] = {}
-    left = [start, *extra]
-    while left:
-        target = left.pop()
-        if target in found:
-            continue
-        found[target], page = get(port, target, cookie)
-        base = target.split("?")[0]
-        for link in re.findall(r'href="([^"]*)"', page):
-            left.append(base + link if link.startswith("?") else link)
-    return found
+def crawl(port: int, token: Optional[str] = None, extra: Sequence[str] = ()) -> dict[str, int]:
+    """The statuses of all that links lead to, from the front page on, by their addresses."""
+    client = Client(f"http://127.0.0.1:{port}", token)
+    found = sitekit_crawl.crawl(lambda target: client.ask("GET", target), client.address, ["/", *extra])
+    return {it.target: it.status for it in found}
 
 
-def wait_for(what: object, seconds: float = 10) -> None:
+def wait_for(what: object, seconds: float = SECONDS) -> None:
     """Waits until a port takes connections."""
     end = time.monotonic() + seconds
     while time.monotonic() < end:

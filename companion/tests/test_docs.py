@@ -3,6 +3,7 @@
 from __future__ import annotations
 
 import os
+import json
 import re
 import subprocess
 import sys
@@ -14,7 +15,7 @@ from kit import keys
 DOCS = support.COMPANION / "docs"
 COMMANDS = (
     "new", "lint", "keys", "from-csv", "from-wordpress", "from-markdown", "edit", "edit login", "edit node", "edit node new", "edit node set",
-    "edit term new", "edit user set", "edit block set", "edit menu link", "edit site set", "backup", "restore", "export",
+    "edit term new", "edit user set", "edit block set", "edit menu link", "edit site set", "crawl", "backup", "restore", "export",
 )  # fmt: skip
 
 
@@ -60,7 +61,7 @@ class Documents(support.Case):
             words = words[:-1]
 
     def run_kit_freely(self, *words: str) -> subprocess.CompletedProcess[str]:
-        return subprocess.run([str(support.SITEKIT), *words], capture_output=True, text=True, env=self.environment, timeout=30)
+        return subprocess.run([str(support.SITEKIT), *words], capture_output=True, text=True, env=self.environment, timeout=support.SECONDS)
 
     def test_a_club_as_the_page_says(self) -> None:
         tools = self.room / "tools"
@@ -108,7 +109,8 @@ class Documents(support.Case):
             self.environment["SITEKIT_AT"] = f"http://127.0.0.1:{port}"
             session = self.path(file)
             self.run_kit("edit", "login", name, "--password-file", str(folder / f"{file}.password"), "--session", session)
-            cookie = "SESS=" + re.search(r'"token": "(\w+)"', Path(session).read_text(encoding="utf-8"))[1]  # type: ignore[index]
+            token = json.loads(Path(session).read_text(encoding="utf-8"))["token"]
+            cookie = f"SESS={token}"
             self.assertEqual(support.get(port, "/minutes", cookie)[0], may)
             self.assertEqual('href="/minutes"' in support.get(port, "/", cookie)[1], may == 200)
-            self.assertEqual(set(support.crawl(port, cookie=cookie).values()), {200})
+            self.assertEqual(set(support.crawl(port, token).values()), {200})

@@ -108,7 +108,7 @@ class Lint(support.Case):
         def compare(seed: int) -> str | None:
             data = mutate.mutated(seed, bases)
             file = self.write(f"{seed}.rows", data)
-            done = subprocess.run([support.site(), "replay", file], stdin=subprocess.DEVNULL, capture_output=True, timeout=60)
+            done = subprocess.run([support.site(), "replay", file], stdin=subprocess.DEVNULL, capture_output=True, timeout=support.SECONDS)
             first = look(data, {}).first
             said = "" if first is None else f"{first}\n"
             is_same = done.stdout == said.encode("utf-8", "surrogatepass") and done.returncode == (3 if first else 0)

@@ -86,6 +86,17 @@ class FromCsv(support.Case):
         self.assertEqual(again.stdout, "")
         self.assertIn("300 unchanged page", again.stderr)
 
+    @support.needs("nginx")
+    def test_old_addresses_of_300_pages_by_nginx(self) -> None:
+        out, conf = self.path("all.rows"), self.path("redirects.conf")
+        self.run_kit("from-csv", self.pages(300), "--into", self.new_site(), "-o", out, "--redirects", conf)
+        old = self.write("old", "".join(f"/alt/{number}.html\n/alt/{number}.html?utm=x\n/seite?id={number}\n" for number in range(1, 301)))
+        with self.served(self.imported(out)) as site, self.nginx_of(site, conf) as port:
+            said = self.run_kit("crawl", "--at", f"http://127.0.0.1:{port}", "--also", old).stdout
+        asked = int(said.split()[0])
+        self.assertGreater(asked, 1200)
+        self.assertEqual(said, f"{asked} addresses, no dead\n")
+
     def test_a_second_reading_changes_what_changed(self) -> None:
         site = self.new_site()
         table = self.write("p.csv", "title;body;path\nOne;First;/one\nTwo;Second;/two\n")
@@ -118,13 +129,17 @@ class FromCsv(support.Case):
             ("name\nA\n", "unknown"),
             ("title,created\nA,yesterday\n", "row 2: created: 'yesterday' is no date"),
             ("title,status\nA,perhaps\n", "neither yes nor no"),
-            ("title,path\nA,/a\nB\n", "another number of columns"),
+            ("title,path\nA,/a\nB\n", "row 3 has 1 columns, and the heads are 2"),
+            ("title,title\nA,B\n", "two columns have the head 'title'"),
+            ("title,old\nA,http://[x\n", "'http://[x' is no address"),
             ("title\nA\nA\n", "both are 'A'"),
             ("title,type\nA,poem\n", "no type poem"),
             ("", "no heads"),
         ):
             done = self.run_kit("from-csv", self.write("t.csv", text), "--into", site, status=1)
             self.assertIn(words, done.stderr)
+        done = self.run_kit("from-csv", self.write("t.csv", "title,path,,\nA,/a,,\n,,,\n\n"), "--into", site, "--changes")
+        self.assertIn("1 new page", done.stderr)
         self.write("latin.csv", "title;body\nCafé;Crème\n".encode("latin-1"))
         self.assertIn("--encoding", self.run_kit("from-csv", self.path("latin.csv"), "--into", site, status=1).stderr)
         done = self.run_kit("from-csv", self.path("latin.csv"), "--into", site, "--encoding", "cp1252", "--changes", "--folder", "/menu")

@@ -4,6 +4,7 @@ from __future__ import annotations
 
 import json
 import os
+import re
 import signal
 import subprocess
 import sys
@@ -17,6 +18,7 @@ from kit.client import Client
 from kit.pause import GUARD
 
 BACKUPS = 5
+LIMITS = support.COMPANION / "docs" / "limits.md"
 
 
 class Writer(threading.Thread):
@@ -69,9 +71,9 @@ class Store(support.Case):
                     self.assertGreaterEqual(int(titles[f"node:{node}"].split()[1]), version)
             for writer in writers:
                 writer.ending.set()
-                writer.join(10)
+                writer.join(support.SECONDS)
                 self.assertGreater(writer.version, BACKUPS)
-                self.assertLess(writer.longest, 10)
+                self.assertLess(writer.longest, support.SECONDS)
 
     def test_restore_and_export(self) -> None:
         with self.served(self.store) as server:
@@ -94,6 +96,15 @@ class Store(support.Case):
         self.assertTrue(aside)
         with self.served(self.store) as server:
             self.assertIn("Kept", server.get("/")[1])
+
+    def test_one_file_of_two(self) -> None:
+        """The command of docs/limits.md puts all of a store into one file, which the program takes."""
+        before = self.run_site("export", "--store", self.store)
+        command = re.search(r"^ {4}python3 -c '(import sqlite3.*)'$", LIMITS.read_text(encoding="utf-8"), re.M)
+        assert command is not None
+        subprocess.run([sys.executable, "-c", command[1]], cwd=self.room, check=True)
+        self.assertFalse(Path(self.store + "-wal").exists())
+        self.assertEqual(self.run_site("export", "--store", self.store), before)
 
     def test_a_damaged_backup_is_refused(self) -> None:
         self.run_kit("backup", "--store", self.store, self.path("copy"))
@@ -129,7 +140,7 @@ class Store(support.Case):
             "with Pause(int(sys.argv[2]), float(sys.argv[3])) as it:\n print('stopped', flush=True)\n time.sleep(float(sys.argv[4]))\n"
             "print(it.was_whole)"
         )
-        for most, sleeps, is_killed in (("30", "30", True), ("0.3", "0.6", False)):
+        for most, sleeps, is_killed in (("30", "30", True), ("2", "4", False)):
             words = [sys.executable, "-c", holder, str(support.COMPANION), str(sleeper.pid), most, sleeps]
             with subprocess.Popen(words, stdout=subprocess.PIPE, text=True, start_new_session=True) as stopper:
                 assert stopper.stdout is not None
@@ -137,7 +148,7 @@ class Store(support.Case):
                 self.assertEqual(self.state(sleeper.pid), "T")
                 if is_killed:
                     os.killpg(stopper.pid, signal.SIGKILL)
-                end = time.monotonic() + 5
+                end = time.monotonic() + support.SECONDS
                 while self.state(sleeper.pid) == "T" and time.monotonic() < end:
                     time.sleep(0.01)
                 self.assertNotEqual(self.state(sleeper.pid), "T")
@@ -148,5 +159,5 @@ class Store(support.Case):
         sleeper = subprocess.Popen(["sleep", "60"])
         self.addCleanup(sleeper.wait)
         self.addCleanup(sleeper.kill)
-        done = subprocess.run([sys.executable, str(GUARD), str(sleeper.pid), "5"], stdin=subprocess.DEVNULL, capture_output=True, timeout=5)
+        done = subprocess.run([sys.executable, str(GUARD), str(sleeper.pid), "5"], stdin=subprocess.DEVNULL, capture_output=True, timeout=support.SECONDS)
         self.assertEqual((done.returncode, done.stdout), (0, b"ready\n"))

@@ -9,6 +9,8 @@ from pathlib import Path
 import support
 
 EXPORT = Path(__file__).with_name("wordpress.xml")
+
+
 class WordPress(support.Case):
     def converted(self) -> dict[str, dict]:
         self.said = self.run_kit(
@@ -67,10 +69,7 @@ class WordPress(support.Case):
     def test_old_addresses_by_nginx(self) -> None:
         rows = self.converted()
         self.run_kit("lint", self.path("all.rows"))
-        with self.served(self.imported(self.path("all.rows"))) as server, self.nginx(
-            f"include {self.room}/redirects.conf;",
-            f"if ($site_moved) {{ return 301 $site_moved; }} location / {{ proxy_pass http://127.0.0.1:{server.port}; }}",
-        ) as port:
+        with self.served(self.imported(self.path("all.rows"))) as site, self.nginx_of(site, self.path("redirects.conf")) as port:
             paths = [row["path"] for row in rows.values() if row.get("path") and row.get("status", True)]
             self.assertEqual(set(support.crawl(port, extra=paths).values()), {200})
             for old, new in (
@@ -78,7 +77,7 @@ class WordPress(support.Case):
                 ("/2018/08/race-report-7/", "/2018/08/race-report-7"), ("/user/", "/pages/user"), ("/CAFE-zum-ruder/", "/cafe-zum-ruder"),
                 ("/index.php?p=4", "/about-us"),
             ):  # fmt: skip
-                connection = http.client.HTTPConnection("127.0.0.1", port, timeout=10)
+                connection = http.client.HTTPConnection("127.0.0.1", port, timeout=support.SECONDS)
                 connection.request("GET", old)
                 reply = connection.getresponse()
                 self.assertEqual((reply.status, reply.getheader("Location", "").partition(str(port))[2]), (301, new), old)
