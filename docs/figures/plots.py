@@ -1,5 +1,5 @@
 #!/usr/bin/env python3
-"""Draws the plots over data/*.csv: page-instructions.svg, proof-seconds.svg, beside-nginx.svg."""
+"""Draws the plots over data/*.csv: page-instructions.svg, proof-seconds.svg, beside-nginx.svg, beside-others.svg."""
 import csv
 import math
 import os
@@ -69,10 +69,56 @@ def bars(name, title):
     canvas.save(name)
 
 
+SERVERS = {
+    "WordPress": "WordPress, uncached", "microcache": "nginx, microcache hit", "Varnish": "Varnish, hit", "file": "nginx, WordPress's page as a file",
+    "site, built": "site, built", "site, reused": "site, reused", "file of site's": "nginx, site's page as a file",
+}
+DOTS = {"1": COLOURS["amber"][1], "4": BLUE, "64": COLOURS["violet"][1]}
+
+
+def axis(canvas, left, wide, top, high, ticks, title):
+    """Lines of a logarithmic scale; gives the place of a value."""
+    low, most = math.log(ticks[0]), math.log(ticks[-1])
+    x_of = lambda value: left + (math.log(max(value, ticks[0])) - low) / (most - low) * wide
+    canvas.text(left, top - 22, title, size=11.5, bold=True)
+    for tick in ticks:
+        canvas.line(x_of(tick), top, x_of(tick), top + high)
+        canvas.text(x_of(tick), top - 6, f"{tick:,}", size=10, anchor="middle", colour=SOFT)
+    return x_of
+
+
+def beside_others(name, title):
+    """For each page: bars of processor time a request with 4 connections, and dots of requests a second with 1, 4 and 64."""
+    rows, step, left, wide, gap = table(name), 24, 220, 330, 60
+    high = step * len(SERVERS)
+    canvas = Canvas(left + 2 * wide + gap + 60, 60 + 2 * (high + 90), title)
+    canvas.text(20, 28, title, size=14, bold=True)
+    for number, (connections, colour) in enumerate(DOTS.items()):
+        canvas.dot(left + wide + gap + number * 110, 24, colour, 4.5)
+        canvas.text(left + wide + gap + 10 + number * 110, 28, f"{connections} connection{'s' if connections != '1' else ''}", size=11)
+    for block, page in enumerate(("article", "listing")):
+        top = 110 + block * (high + 90)
+        canvas.text(20, top - 22, f"The {page}", size=13, bold=True)
+        time_of = axis(canvas, left, wide, top, high, [1, 10, 100, 1_000, 10_000, 100_000, 1_000_000], "processor time a request, µs (4 connections)")
+        rate_of = axis(canvas, left + wide + gap, wide, top, high, [1, 10, 100, 1_000, 10_000, 100_000, 1_000_000], "requests a second")
+        for at, (server, label) in enumerate(SERVERS.items()):
+            y = top + at * step + step / 2
+            colour = COLOURS["green" if server.startswith("site") else "plain"][1]
+            canvas.text(left - 10, y + 4, label, size=11.5, anchor="end", bold=server.startswith("site"))
+            for row in (row for row in rows if row["server"] == server and row["page"] == page):
+                if row["connections"] == "4":
+                    took = float(row["user"]) + float(row["system"])
+                    canvas.parts.append(f'<rect x="{left}" y="{y - 7}" width="{time_of(took) - left:.1f}" height="14" fill="{colour}" opacity="0.8"/>')
+                    canvas.text(time_of(took) + 5, y + 4, f"{took:,.0f}" if took >= 100 else f"{took:.1f}", size=10.5)
+                canvas.dot(rate_of(float(row["rate"])), y, DOTS[row["connections"]], 4.5)
+    canvas.save(name)
+
+
 def main():
     steps("page-instructions", "Instructions of one page of a new site", [("built", "rendered", BLUE), ("found", "given before", GREEN)], [1_000, 3_000, 10_000, 30_000, 100_000, 300_000], "instructions")
     steps("beside-nginx", "Processor time a request, nginx = 1", [("publisher", "an article (4,433 bytes)", BLUE), ("town", "the login page (4,105 bytes)", GREEN)], [0.5, 1, 2, 5, 10, 20, 40], "times nginx's")
     bars("proof-seconds", "Processor seconds of each crate")
+    beside_others("beside-others", "An article and a listing, by site and by what one would take in its place")
 
 
 if __name__ == "__main__":
