@@ -1,5 +1,5 @@
 -- A bucket that is read at the place of a key, and the map once another stands there.
-use Rattle.std.proofs.Common.{ℕ, List, [], ◌≡◌, ◌≤◌, ◌<◌, ◌+◌, length, get_or, sym, ◌∙◌, ap, subst, arith}
+use Rattle.std.proofs.Common.{ℕ, zero, suc, List, [], ◌∷◌, refl, ◌≡◌, ◌≤◌, ◌<◌, ◌+◌, length, get_or, sym, ◌∙◌, ap, subst, arith}
 use Rattle.std.specs.Prelude.{slice_set}
 use Rattle.std.specs.List.Sorted.{IsStrictlySortedBy}
 use Rattle.std.specs.Cmp.{IsTotalOrder}
@@ -10,6 +10,11 @@ use Rattle.std.proofs.lemmas.List.{get_or_read}
 use Rattle.std.proofs.lemmas.Map.Lookups.{CmpEqualImpliesEq}
 use Rattle.bucket_map.specs.Buckets.{flat, in_order, ArePlaced, bucket_size}
 use Rattle.bucket_map.proofs.InBuckets.{bucket_sorted, bucket_within, size_is, size_replaced, put_placed, cut_placed, put_in_buckets, cut_in_buckets}
+
+same_set : {A : Type 0} (xs : List A) (i : ℕ) (d : A) → slice_set xs i (get_or xs i d) ≡ xs
+same_set [] i d = refl
+same_set (y ∷ xs) zero d = refl
+same_set (y ∷ xs) (suc i) d = ap (λ l. y ∷ l) (same_set xs i d)
 
 module _ {K X : Type 0} (R : K → K → Ordering) (total : IsTotalOrder R) (exact : CmpEqualImpliesEq R) (place : K → ℕ) (bs : List (List (K × X))) (h : ArePlaced R place 0 bs) (k : K) (i : ℕ) (x : List (K × X)) (at : i ≡ place k) (within : i < length bs) (is : x ≡ get_or bs i x) where
   own_is : x ≡ get_or bs (place k) []
@@ -36,6 +41,10 @@ module _ {K X : Type 0} (R : K → K → Ordering) (total : IsTotalOrder R) (exa
       let own = ap length own_is in
       let there = ap (λ j. length (flat (slice_set bs j b'))) at in
       omega arith
+
+  -- a bucket that is put in its own place again
+  pub kept : (b' : List (K × X)) → b' ≡ x → slice_set bs i b' ≡ bs
+  kept b' same = ap (λ b. slice_set bs i b) (same ∙ is) ∙ same_set bs i x
 
   module _ (b' : List (K × X)) where
     pub placed_put : (v : X) → b' ≡ insert_entry R x k v → ArePlaced R place 0 (slice_set bs i b')

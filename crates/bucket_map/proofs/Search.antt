@@ -1,5 +1,5 @@
 -- Where a key stands among entries in order, or where it would go: how a search comes to it, and what follows.
-use Rattle.std.proofs.Common.{ℕ, zero, suc, List, [], ◌∷◌, ◌++◌, ◌≡◌, ◌≤◌, ◌<◌, ◌+◌, length, get_or, take, drop, refl, sym, ◌∙◌, ap, subst, arith, Some, None}
+use Rattle.std.proofs.Common.{ℕ, zero, suc, List, [], ◌∷◌, ◌++◌, ◌≡◌, ◌≤◌, ◌<◌, ◌+◌, length, get_or, take, drop, refl, sym, ◌∙◌, ap, subst, arith, Some, None, slice_set}
 use Rattle.std.specs.List.{AllByRecursion}
 use Rattle.std.specs.List.Sorted.{IsStrictlySortedBy}
 use Rattle.std.specs.Ordering.{match_ordering, is_eq, ordering_reverse}
@@ -8,7 +8,7 @@ use Rattle.std.specs.declared.cmp.Ordering.TheVariants.{Less, Equal, Greater}
 use Rattle.std.specs.Cmp.{IsTotalOrder}
 use Rattle.std.specs.Map.{lookup, remove_entry, keys_of}
 use Rattle.std.specs.BTreeMap.{is_at, insert_entry}
-use Rattle.std.proofs.lemmas.List.{drop_all}
+use Rattle.std.proofs.lemmas.List.{drop_all, length-append, take-append-drop}
 use Rattle.std.proofs.lemmas.Map.Lookups.{CmpEqualImpliesEq}
 use Rattle.bucket_map.specs.Buckets.{StandsAt, GoesTo}
 use Rattle.bucket_map.proofs.Entries.{taken, passed, below_all}
@@ -19,6 +19,11 @@ next i = omega arith
 -- an entry below another that is below the key
 lower : {K : Type 0} {R : K → K → Ordering} → IsTotalOrder R → (e y k : K) → R e y ≡ Less → R k y ≡ Greater → R k e ≡ Greater
 lower total e y k less greater = total.antisymm k e ∙ ap ordering_reverse (total.trans e y k less (total.antisymm y k ∙ ap ordering_reverse greater))
+
+length_set : {A : Type 0} (xs : List A) (i : ℕ) (x : A) → length (slice_set xs i x) ≡ length xs
+length_set [] i x = refl
+length_set (y ∷ xs) zero x = refl
+length_set (y ∷ xs) (suc i) x = ap suc (length_set xs i x)
 
 module _ {K X : Type 0} (R : K → K → Ordering) (total : IsTotalOrder R) (exact : CmpEqualImpliesEq R) where
   all_at : (P : K → Type 0) (es : List (K × X)) (i : ℕ) (d : K × X) → AllByRecursion P (keys_of es) → i < length es → P ((get_or es i d).0)
@@ -115,3 +120,25 @@ module _ {K X : Type 0} (R : K → K → Ordering) (total : IsTotalOrder R) (exa
       passed (is_eq (R k e.0)) es (e ∷ remove_entry (is_at (R k)) es) (ap is_eq h.1.0) ∙ ap (λ l. e ∷ l) (cut_none es k 0 (tt, h.1.1, omega arith))
   cut_none (e ∷ es) k (suc i) h =
       passed (is_eq (R k e.0)) es (e ∷ remove_entry (is_at (R k)) es) (ap is_eq h.0.0) ∙ ap (λ l. e ∷ l) (cut_none es k i (h.0.1, h.1, let l = h.2 in omega arith))
+
+  -- ---- an entry that is written over another
+
+  pub put_over : (es : List (K × X)) (k : K) (i : ℕ) (v : X) → StandsAt R es k i → slice_set es i (k, v) ≡ insert_entry R es k v
+  put_over [] k i v h = absurd (let l = h.2 in omega arith)
+  put_over (e ∷ es) k zero v h =
+      ap (λ q. (q, v) ∷ es) (exact k e.0 h.1.0) ∙ sym (by_rank (R k e.0) Equal ((k, v) ∷ e ∷ es) ((e.0, v) ∷ es) (e ∷ insert_entry R es k v) h.1.0)
+  put_over (e ∷ es) k (suc i) v h =
+      ap (λ l. e ∷ l) (put_over es k i v (h.0.1, h.1, let l = h.2 in omega arith))
+      ∙ sym (by_rank (R k e.0) Greater ((k, v) ∷ e ∷ es) ((e.0, v) ∷ es) (e ∷ insert_entry R es k v) h.0.0)
+
+  -- ---- how many entries there are then
+
+  pub length_at : (es : List (K × X)) (k : K) (i : ℕ) (v : X) → StandsAt R es k i → length (insert_entry R es k v) ≡ length es + 0
+  length_at es k i v h =
+      ap length (sym (put_over es k i v h)) ∙ length_set es i (k, v) ∙ omega arith
+
+  pub length_between : (es : List (K × X)) (k : K) (i : ℕ) (v : X) → GoesTo R es k i → length (insert_entry R es k v) ≡ length es + 1
+  length_between es k i v h =
+      let split = ap length (sym (take-append-drop i es)) ∙ length-append (take i es) (drop i es) in
+      let new = ap length (put_between es k i v h) ∙ length-append (take i es) ((k, v) ∷ drop i es) in
+      omega arith

@@ -1,5 +1,5 @@
-//! A bucket: some entries of a map, which never change once they are in it.
-ghost use Rattle.std.specs.Prelude.{◌≡◌, ◌≤◌, ◌<◌, ◌+◌, ◌++◌, ◌∷◌, [], IfOk, IfErr, OnOk, length};
+//! A bucket: some entries of a map, which never change while several maps have it.
+ghost use Rattle.std.specs.Prelude.{◌≡◌, ◌≤◌, ◌<◌, ◌+◌, ◌++◌, ◌∷◌, [], IfOk, IfErr, OnOk, OnErr, cond, length};
 ghost use Rattle.std.specs.Option.{option_copied};
 ghost use Rattle.std.specs.Map.{lookup, remove_entry, keys_of};
 ghost use Rattle.std.specs.List.Sorted.{IsStrictlySortedBy};
@@ -102,27 +102,29 @@ impl<K: Placed, V: Again> Bucket<K, V> {
         }
     }
 
-    /// A new bucket, in which a key has a value.
-    pub(crate) fn with<L: Ledger>(
-        &self,
+    /// Sets the value of a key, and tells whether the key is a new one. Where no other map has this bucket, it is changed;
+    /// otherwise a new one takes its place.
+    pub(crate) fn put<L: Ledger>(
+        &mut self,
         alloc: Global,
         key: &K,
         value: &V,
         steps: &mut Steps<L>,
-    ) -> Result<Self, AllocError>
-        requires { IsStrictlySortedBy K.cmp (keys_of self.now) }
-        ensures same { IfOk result (λ b. b ≡ insert_entry K.cmp self.now key.now value.now) }
-        ensures cost { steps.new ≤ steps.old + (length self.now + 1) }
+    ) -> Result<bool, AllocError>
+        requires { IsStrictlySortedBy K.cmp (keys_of self.old) }
+        ensures ok { OnOk result (self.new ≡ insert_entry K.cmp self.old key.now value.now) }
+        ensures size { IfOk result (λ is_new. length self.new ≡ length self.old + cond is_new 1 0) }
+        ensures err { OnErr result (self.new ≡ self.old) }
+        ensures cost { steps.new ≤ steps.old + (length self.old + 1) }
     {
-        let old = self.entries.as_slice();
-        let (before, after) = around(old, key);
-        let mut new = Vec::with_capacity(alloc, old.len() + 1)?;
-        put_all(&mut new, before, steps)?;
-        put(&mut new, key, value, steps)?;
-        put_all(&mut new, after, steps)?;
-        Ok(Bucket {
-            entries: Arc::new(alloc, new)?,
-        })
+        let is_new = lacks(self.entries.as_slice(), key);
+        if let Some(entries) = Arc::get_mut(&mut self.entries) {
+            put_here(entries, key, value, steps)?;
+            return Ok(is_new);
+        }
+        let new = with(alloc, self.entries.as_slice(), key, value, steps)?;
+        self.entries = Arc::new(alloc, new)?;
+        Ok(is_new)
     }
 
     /// A new bucket without a key.
@@ -166,6 +168,17 @@ fn place_in<K: Placed, V>(entries: &[(K, V)], key: &K) -> Result<usize, usize>
     Err(low)
 }
 
+/// Whether entries in order lack a key, so that there is one more once it has a value.
+fn lacks<K: Placed, V>(entries: &[(K, V)], key: &K) -> bool
+    requires { IsStrictlySortedBy K.cmp (keys_of entries.now) }
+    ensures { (v : V) → length (insert_entry K.cmp entries.now key.now v) ≡ length entries.now + cond result 1 0 }
+{
+    match place_in(entries, key) {
+        Ok(_) => false,
+        Err(_) => true,
+    }
+}
+
 /// The entries below a key and those above it, of entries in order.
 fn around<'a, K: Placed, V>(entries: &'a [(K, V)], key: &K) -> (&'a [(K, V)], &'a [(K, V)])
     requires { IsStrictlySortedBy K.cmp (keys_of entries.now) }
@@ -177,6 +190,51 @@ fn around<'a, K: Placed, V>(entries: &'a [(K, V)], key: &K) -> (&'a [(K, V)], &'
         Ok(at) => (&entries[..at], &entries[at + 1..]),
         Err(at) => (&entries[..at], &entries[at..]),
     }
+}
+
+/// These entries, in which a key has a value, for a new bucket.
+fn with<K: Placed, V: Again, L: Ledger>(
+    alloc: Global,
+    old: &[(K, V)],
+    key: &K,
+    value: &V,
+    steps: &mut Steps<L>,
+) -> Result<Vec<(K, V)>, AllocError>
+    requires { IsStrictlySortedBy K.cmp (keys_of old.now) }
+    ensures same { IfOk result (λ entries. entries.items ≡ insert_entry K.cmp old.now key.now value.now) }
+    ensures cost { steps.new ≤ steps.old + (length old.now + 1) }
+{
+    let (before, after) = around(old, key);
+    let mut entries = Vec::with_capacity(alloc, old.len().saturating_add(1))?;
+    put_all(&mut entries, before, steps)?;
+    put(&mut entries, key, value, steps)?;
+    put_all(&mut entries, after, steps)?;
+    Ok(entries)
+}
+
+/// Sets the value of a key among the entries of a bucket that no other map has.
+fn put_here<K: Placed, V: Again, L: Ledger>(
+    entries: &mut Vec<(K, V)>,
+    key: &K,
+    value: &V,
+    steps: &mut Steps<L>,
+) -> Result<(), AllocError>
+    requires { IsStrictlySortedBy K.cmp (keys_of entries.old.items) }
+    ensures ok { OnOk result (entries.new.items ≡ insert_entry K.cmp entries.old.items key.now value.now) }
+    ensures err { OnErr result (entries.new.items ≡ entries.old.items) }
+    ensures cost { steps.new ≡ steps.old + 1 }
+{
+    let new = entry(key, value, steps)?;
+    match place_in(entries.as_slice(), key) {
+        Ok(at) => entries[at] = new,
+        Err(at) => {
+            // Room for this one and no more, as a bucket has that is made anew: a thousand buckets that grow by halves would
+            // leave as much behind.
+            entries.reserve_exact(1)?;
+            entries.insert(at, new)?;
+        }
+    }
+    Ok(())
 }
 
 /// Puts these entries into a new bucket.
@@ -194,7 +252,7 @@ fn put_all<K: Placed, V: Again, L: Ledger>(
     Ok(())
 }
 
-/// Puts one entry into a new bucket. This is the step that is counted.
+/// Puts one entry into a new bucket.
 fn put<K: Placed, V: Again, L: Ledger>(
     new: &mut Vec<(K, V)>,
     key: &K,
@@ -204,7 +262,19 @@ fn put<K: Placed, V: Again, L: Ledger>(
     ensures same { OnOk result (new.new.items ≡ new.old.items ++ (key.now, value.now) ∷ []) }
     ensures cost { steps.new ≡ steps.old + 1 }
 {
-    steps.tick();
-    new.push((*key, value.again()?))?;
+    new.push(entry(key, value, steps)?)?;
     Ok(())
+}
+
+/// An entry, to be put into a bucket. This is the step that is counted.
+fn entry<K: Placed, V: Again, L: Ledger>(
+    key: &K,
+    value: &V,
+    steps: &mut Steps<L>,
+) -> Result<(K, V), AllocError>
+    ensures same { IfOk result (λ entry. entry ≡ (key.now, value.now)) }
+    ensures cost { steps.new ≡ steps.old + 1 }
+{
+    steps.tick();
+    Ok((*key, value.again()?))
 }

@@ -17,7 +17,8 @@ use std::sync::ledger::Ledger;
 const BUCKETS: usize = 1_024;
 
 /// A finite map, which contracts see as the list of its entries in the order of their keys. Each entry stands in the
-/// bucket whose number its key tells. Maps share buckets: a change of one map makes a new bucket in the place of one.
+/// bucket whose number its key tells. Maps share buckets: a change of one map makes a new bucket in the place of one that
+/// another has too.
 pub struct BucketMap<K: Placed, V: Again> {
     alloc: Global,
     /// How many entries it has.
@@ -157,11 +158,14 @@ impl<K: Placed, V: Again> BucketMap<K, V> {
         ensures cost { steps.new ≤ steps.old + (bucket_size K.place self.old (K.place key.now) + 1) }
     {
         fill(self.alloc, &mut self.buckets)?;
-        let at = key.place();
-        let bucket = self.buckets[at].with(self.alloc, key, value, steps)?;
-        let size = size_with(self.size, self.buckets[at].as_slice(), bucket.as_slice())?;
-        self.buckets[at] = bucket;
-        self.size = size;
+        // 2 ^ 64 entries would want more memory than there can be
+        let Some(one_more) = self.size.checked_add(1) else {
+            return Err(AllocError);
+        };
+        let bucket = &mut self.buckets[key.place()];
+        if bucket.put(self.alloc, key, value, steps)? {
+            self.size = one_more;
+        }
         Ok(())
     }
 

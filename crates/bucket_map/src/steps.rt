@@ -4,7 +4,7 @@ ghost use Rattle.std.specs.Prelude.{◌≡◌, ◌+◌, ◌<◌};
 use std::marker::Model;
 use std::sync::ledger::{Blank, Book, Ledger, Share};
 
-/// How many entries were put into new buckets. A count is for proofs alone: it has no bytes, and none of it runs.
+/// How many entries were put into buckets. A count is for proofs alone: it has no bytes, and none of it runs.
 #[derive(Drop)]
 pub struct Steps<L: Ledger> {
     book: Book<L>,

@@ -87,7 +87,7 @@ impl IndexedRows {
         })
     }
 
-    /// The rows after these writes. Each row is shared, and none is copied: the steps are those that are put into new buckets.
+    /// The rows after these writes. Each row is shared, and none is copied: the steps are those that are put into buckets.
     /// `Err` only where memory is wanting.
     pub fn after<L: Ledger>(
         &self,

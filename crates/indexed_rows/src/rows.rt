@@ -253,7 +253,7 @@ impl Rows {
         }
     }
 
-    /// As `set`, with a count of the entries that are put into new buckets: as many as the cell's bucket has, and one, at most.
+    /// As `set`, with a count of the entries that are put into buckets: as many as the cell's bucket has, and one, at most.
     pub fn set_counted<L: Ledger>(
         &mut self,
         cell: Cell,
@@ -275,7 +275,7 @@ impl Rows {
         remove_from::<Brand>(&mut self.map, &CellKey(*cell), Blank::new(1))
     }
 
-    /// As `remove`, with a count of the entries that are put into new buckets: as many as the cell's bucket has, at most.
+    /// As `remove`, with a count of the entries that are put into buckets: as many as the cell's bucket has, at most.
     pub fn remove_counted<L: Ledger>(
         &mut self,
         cell: &Cell,

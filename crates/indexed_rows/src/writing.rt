@@ -15,7 +15,7 @@ use std::sync::Arc;
 use std::sync::ledger::Ledger;
 
 /// Makes each of these writes in turn, and keeps the indexes of the rows with them. `Err` only where memory is wanting. The
-/// steps are the rows that are put into new buckets.
+/// steps are the rows that are put into buckets.
 pub fn write_all<L: Ledger>(
     alloc: Global,
     rows: &mut Rows,

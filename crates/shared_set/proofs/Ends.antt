@@ -1,7 +1,7 @@
 -- Lists in order, and what one key that is not below another tells of the keys around it.
 use Rattle.std.proofs.Common.{ℕ, zero, suc, List, [], ◌∷◌, ◌++◌, ◌≡◌, ◌≤◌, ◌<◌, ◌-◌, length, get_or, take, drop, refl, sym, ◌∙◌, ap, subst, arith, Bool, true, false, cond, ◌+◌, add-one}
 use Rattle.std.specs.Prelude.{not, ◌||◌, ◌&&◌}
-use Rattle.std.specs.List.{AllByRecursion, filter, list_any}
+use Rattle.std.specs.List.{AllByRecursion, filter}
 use Rattle.std.specs.List.Sorted.{IsStrictlySortedBy}
 use Rattle.std.specs.Ordering.{is_eq, is_gt, is_lt, match_ordering}
 use Rattle.std.specs.Cmp.{IsTotalOrder}
@@ -195,6 +195,18 @@ module _ {S K : Type 0} {R : K → K → Ordering} (beside : S → K → Orderin
         go : (b : Bool) → is_from beside s x ≡ b → (reaches beside s xs ≡ true → filter (is_from beside s) ys ≡ ys) → filter (is_from beside s) ys ≡ ys
         go true e rest = all_from x ys e (all_after (λ y. R x y ≡ Less) xs ys (sorted_head R x (xs ++ ys) h))
         go false e rest = rest (second (is_from beside s x) (reaches beside s xs) g e)
+
+    -- where a list in order is before it to the last key, what stands before that list is, too
+    pub none_before : (xs ys : List K) → IsStrictlySortedBy R (xs ++ ys) → 0 < length ys → reaches beside s ys ≡ false → reaches beside s (xs ++ ys) ≡ false
+    none_before [] ys h some g = g
+    none_before (x ∷ xs) [] h some g = absurd (omega arith)
+    none_before (x ∷ xs) (y ∷ ys) h some g =
+        let less : R x y ≡ Less = (all_after (λ z. R x z ≡ Less) xs (y ∷ ys) (sorted_head R x (xs ++ y ∷ ys) h)).0 in
+        ap (λ a. a || reaches beside s (xs ++ y ∷ ys)) (go less (is_from beside s x) refl) ∙ none_before xs (y ∷ ys) (sorted_tail R x (xs ++ y ∷ ys) h) some g
+      where
+        go : R x y ≡ Less → (b : Bool) → is_from beside s x ≡ b → is_from beside s x ≡ false
+        go less true e = never (sym (on x y less e) ∙ (neither (is_from beside s y) (reaches beside s ys) g).0)
+        go less false e = e
 
     none_to : (x : K) (xs : List K) (i : ℕ) (d : K) → IsStrictlySortedBy R (x ∷ xs) → i < length xs → is_from beside s (get_or xs i d) ≡ false → is_from beside s x ≡ false
     none_to x xs i d h l g = go (is_from beside s x) refl

@@ -1,7 +1,7 @@
 -- Chunks in a row, of which one is replaced.
-use Rattle.std.proofs.Common.{ℕ, zero, suc, List, [], ◌∷◌, ◌++◌, ◌≡◌, ◌<◌, ◌≤◌, ◌+◌, length, get_or, take, drop, append_assoc, refl, sym, ◌∙◌, ap, subst, arith, Bool, true, false, cond, add-one, slice_set}
-use Rattle.std.specs.Prelude.{◌||◌, ◌&&◌}
-use Rattle.std.specs.List.{filter, list_any, AllByRecursion}
+use Rattle.std.proofs.Common.{ℕ, zero, suc, List, [], ◌∷◌, ◌++◌, ◌≡◌, ◌<◌, ◌≤◌, ◌+◌, length, get_or, take, drop, append_assoc, refl, sym, ◌∙◌, ap, subst, arith, Bool, true, false, add-one, slice_set}
+use Rattle.std.specs.Prelude.{◌||◌}
+use Rattle.std.specs.List.{filter}
 use Rattle.std.specs.List.Sorted.{IsStrictlySortedBy}
 use Rattle.std.specs.Cmp.{IsTotalOrder}
 use Rattle.std.specs.BTreeSet.{insert_key}
@@ -11,7 +11,7 @@ use Rattle.std.proofs.lemmas.List.{append-nil, drop-set-lt, take-append-drop, ta
 use Rattle.std.proofs.lemmas.List.Folds.{list_any-append}
 use Rattle.std.proofs.lemmas.List.Elements.{filter-append}
 use Rattle.shared_set.specs.Keys.{flat, is_other, is_from, reaches}
-use Rattle.shared_set.proofs.Ends.{others_below, others_above, above_rest, put_past, put_within, sorted_after, rest_from, from_none}
+use Rattle.shared_set.proofs.Ends.{others_below, others_above, above_rest, put_past, put_within, sorted_after, sorted_before, rest_from, from_none, none_before}
 
 pub flat_append : {A : Type 0} (bs cs : List (List A)) → flat (bs ++ cs) ≡ flat bs ++ flat cs
 flat_append [] cs = refl
@@ -62,27 +62,20 @@ pub replaced_none : {A : Type 0} (bs : List (List A)) (i : ℕ) (keys : List A) 
 replaced_none bs i keys none =
     flat_append (take i bs) (drop (suc i) bs) ∙ ap (λ n. flat (take i bs) ++ flat (drop n bs)) (sym (add-one i)) ∙ ap (λ l. flat (take i bs) ++ (l ++ flat (drop (i + 1) bs))) (sym none)
 
--- one more chunk does not reach a key
-pub reaches_more : {K : Type 0} (R : K → K → Ordering) (k : K) (bs : List (List K)) (i : ℕ) → i < length bs → reaches R k (flat (take i bs)) ≡ false → reaches R k (get_or bs i []) ≡ false → reaches R k (flat (take (i + 1) bs)) ≡ false
-reaches_more R k [] i l h g = absurd (omega arith)
-reaches_more {K = K} R k (b ∷ bs) i l h g = ap (λ n. reaches R k (flat (take n (b ∷ bs)))) (add-one i) ∙ more (b ∷ bs) i l ∙ ap (λ a. a || reaches R k (get_or (b ∷ bs) i [])) h ∙ g
-  where
-    or_assoc : (x y z : Bool) → (x || (y || z)) ≡ ((x || y) || z)
-    or_assoc true y z = refl
-    or_assoc false y z = refl
+taken_next : {A : Type 0} (bs : List (List A)) (i : ℕ) → i < length bs → flat (take (suc i) bs) ≡ flat (take i bs) ++ get_or bs i []
+taken_next [] i l = absurd (omega arith)
+taken_next (b ∷ bs) zero l = append-nil b
+taken_next (b ∷ bs) (suc i) l = ap (λ l. b ++ l) (taken_next bs i (omega arith)) ∙ sym (append_assoc b (flat (take i bs)) (get_or bs i []))
 
-    or_false : (x : Bool) → (x || false) ≡ x
-    or_false true = refl
-    or_false false = refl
-
-    more : (cs : List (List K)) (j : ℕ) → j < length cs → reaches R k (flat (take (suc j) cs)) ≡ (reaches R k (flat (take j cs)) || reaches R k (get_or cs j []))
-    more [] j l = absurd (omega arith)
-    more (c ∷ cs) zero l = ap (reaches R k) (append-nil c)
-    more (c ∷ cs) (suc j) l =
-        list_any-append (is_from R k) c (flat (take (suc j) cs))
-        ∙ ap (λ x. reaches R k c || x) (more cs j (omega arith))
-        ∙ or_assoc (reaches R k c) (reaches R k (flat (take j cs))) (reaches R k (get_or cs j []))
-        ∙ ap (λ x. x || reaches R k (get_or cs j [])) (sym (list_any-append (is_from R k) c (flat (take j cs))))
+-- a chunk that does not reach a key or a stretch: none of the chunks before it does
+pub reaches_up_to : {S K : Type 0} {R : K → K → Ordering} (beside : S → K → Ordering) (s : S) → ((x y : K) → R x y ≡ Less → is_from beside s x ≡ true → is_from beside s y ≡ true)
+    → (bs : List (List K)) (i : ℕ) → i < length bs → IsStrictlySortedBy R (flat bs) → 0 < length (get_or bs i []) → reaches beside s (get_or bs i []) ≡ false → reaches beside s (flat (take (i + 1) bs)) ≡ false
+reaches_up_to {R = R} beside s on bs i l sorted some h =
+    let past = flat (take i bs) in
+    let here = get_or bs i [] in
+    let parted : flat bs ≡ (past ++ here) ++ flat (drop (i + 1) bs) = flat_split bs i l ∙ sym (append_assoc past here (flat (drop (i + 1) bs))) in
+    ap (λ n. reaches beside s (flat (take n bs))) (add-one i) ∙ ap (reaches beside s) (taken_next bs i l)
+    ∙ none_before beside s on past here (sorted_before R (past ++ here) (flat (drop (i + 1) bs)) (subst (IsStrictlySortedBy R) parted sorted)) some h
 
 module _ {K : Type 0} {R : K → K → Ordering} (o : IsTotalOrder R) (k : K) (bs : List (List K)) (i : ℕ) (l : i < length bs) (before : reaches R k (flat (take i bs)) ≡ false) where
   abbrev past : List K
@@ -136,5 +129,23 @@ pub begun_at : {S K : Type 0} {R : K → K → Ordering} (beside : S → K → O
     → (b ys : List K) → IsStrictlySortedBy R (b ++ ys) → reaches beside s b ≡ true → filter (is_from beside s) b ++ ys ≡ filter (is_from beside s) (b ++ ys)
 begun_at beside s on b ys h g = sym (filter-append (is_from beside s) b ys ∙ ap (λ l. filter (is_from beside s) b ++ l) (rest_from beside s on b ys h g))
 
-pub passed_by : {S K : Type 0} (beside : S → K → Ordering) (s : S) (b ys : List K) → reaches beside s b ≡ false → filter (is_from beside s) ys ≡ filter (is_from beside s) (b ++ ys)
-passed_by beside s b ys h = sym (filter-append (is_from beside s) b ys ∙ ap (λ l. l ++ filter (is_from beside s) ys) (from_none beside s b h))
+pub passed_by : {S K : Type 0} (beside : S → K → Ordering) (s : S) (bs : List (List K)) (i : ℕ) → reaches beside s (flat (take i bs)) ≡ false → filter (is_from beside s) (flat (drop i bs)) ≡ filter (is_from beside s) (flat bs)
+passed_by beside s bs i h =
+    let past = flat (take i bs) in
+    let rest = flat (drop i bs) in
+    sym (ap (λ cs. filter (is_from beside s) (flat cs)) (sym (take-append-drop i bs)) ∙ ap (filter (is_from beside s)) (flat_append (take i bs) (drop i bs))
+    ∙ filter-append (is_from beside s) past rest ∙ ap (λ l. l ++ filter (is_from beside s) rest) (from_none beside s past h))
+
+-- the chunk with which the rest of some chunks begins
+pub first_of_rest : {K : Type 0} (R : K → K → Ordering) (bs : List (List K)) (i : ℕ) (b : List K) (others : List (List K)) → drop i bs ≡ b ∷ others → IsStrictlySortedBy R (flat bs)
+    → (i < length bs) × (b ≡ get_or bs i []) × IsStrictlySortedBy R (b ++ flat others)
+first_of_rest R [] zero b others parted h = cc
+first_of_rest R [] (suc i) b others parted h = cc
+first_of_rest R (c ∷ bs) zero b others parted h = (omega arith, sym (ap (λ l. get_or l 0 []) parted), subst (λ l. IsStrictlySortedBy R (flat l)) parted h)
+first_of_rest R (c ∷ bs) (suc i) b others parted h =
+    let rest = first_of_rest R bs i b others parted (sorted_after R c (flat bs) h) in
+    (let l = rest.0 in omega arith, rest.1, rest.2)
+
+pub nothing : {A : Type 0} (xs : List A) → length xs ≡ 0 → xs ≡ []
+nothing [] h = refl
+nothing (x ∷ xs) h = absurd (omega arith)

@@ -1,5 +1,5 @@
 //! A short list of keys in order, which several sets share and which never changes.
-ghost use Rattle.std.specs.Prelude.{◌≡◌, IfOk};
+ghost use Rattle.std.specs.Prelude.{◌≡◌, ◌<◌, IfOk, length};
 ghost use Rattle.std.specs.List.{filter};
 ghost use Rattle.std.specs.List.Sorted.{IsStrictlySortedBy};
 ghost use Rattle.std.specs.BTreeSet.{insert_key};
@@ -10,7 +10,7 @@ use std::alloc::{AllocError, Global};
 use std::marker::Model;
 use std::sync::Arc;
 
-/// Some keys in order. Contracts see the list of them.
+/// At least one key, and more in order. Contracts see the list of them.
 pub struct Chunk<K: Ord + Copy> {
     keys: Arc<Vec<K>>,
 }
@@ -22,7 +22,7 @@ impl<K: Ord + Copy> Drop for Chunk<K> {
 }
 
 impl<K: Ord + Copy> Model for Chunk<K> {
-    ghost use Rattle.std.specs.Prelude.{List};
+    ghost use Rattle.std.specs.Prelude.{◌<◌, List, length};
     ghost use Rattle.std.specs.Arc.{arc_value};
     ghost use Rattle.std.specs.List.Sorted.{IsStrictlySortedBy};
 
@@ -30,13 +30,14 @@ impl<K: Ord + Copy> Model for Chunk<K> {
 
     ghost view = { λ c. (arc_value c.keys).items };
 
-    ghost invariant = { λ c. IsStrictlySortedBy K.cmp (arc_value c.keys).items };
+    ghost invariant = { λ c. IsStrictlySortedBy K.cmp (arc_value c.keys).items × (0 < length (arc_value c.keys).items) };
 }
 
 impl<K: Ord + Copy> Chunk<K> {
-    /// A chunk of these keys, which stand in order.
+    /// A chunk of these keys, which stand in order, and of which there is one at least.
     pub fn of(alloc: Global, keys: &[K]) -> Result<Self, AllocError>
-        requires { IsStrictlySortedBy K.cmp keys.now }
+        requires ordered { IsStrictlySortedBy K.cmp keys.now }
+        requires some { 0 < length keys.now }
         ensures { IfOk result (λ c. c ≡ keys.now) }
     {
         let keys = Vec::from_slice(alloc, keys)?;
@@ -64,7 +65,8 @@ impl<K: Ord + Copy> Chunk<K> {
 
     /// Whether some key is not below this one.
     pub fn reaches(&self, key: &K) -> bool
-        ensures { result ≡ reaches K.cmp key.now self.now }
+        ensures same { result ≡ reaches K.cmp key.now self.now }
+        ensures some { 0 < length self.now }
     {
         match self.keys.last() {
             Some(last) => !key.cmp(last).is_gt(),
@@ -74,7 +76,8 @@ impl<K: Ord + Copy> Chunk<K> {
 
     /// Whether some key is not before a stretch.
     pub fn enters<S: Span<K>>(&self, span: &S) -> bool
-        ensures { result ≡ reaches S.beside span.now self.now }
+        ensures same { result ≡ reaches S.beside span.now self.now }
+        ensures some { 0 < length self.now }
     {
         match self.keys.last() {
             Some(last) => !span.beside(last).is_gt(),

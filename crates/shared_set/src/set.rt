@@ -151,7 +151,7 @@ fn in_order<K: Ord + Copy>(alloc: Global, keys: &[K]) -> Result<Vec<K>, AllocErr
 fn listed<K: Ord + Copy>(alloc: Global, set: &BTreeSet<K>) -> Result<Vec<K>, AllocError>
     ensures { IfOk result (λ v. v.items ≡ set.now.keys) }
 {
-    let mut keys = Vec::new(alloc);
+    let mut keys = Vec::with_capacity(alloc, set.len())?;
     'keys: for key in set {
         keys.push(*key)?;
     }

@@ -15,17 +15,23 @@ const LONGEST: usize = 128;
 const FIRST: usize = 96;
 
 /// The place of the first chunk with a key that is not below this one, or how many chunks there are where none has one.
+/// By halves.
 pub fn first_reaching<K: Ord + Copy>(chunks: &[Chunk<K>], key: &K) -> usize
+    requires { IsStrictlySortedBy K.cmp (flat chunks.now) }
     ensures bound { result ≤ length chunks.now }
     ensures before { reaches K.cmp key.now (flat (take result chunks.now)) ≡ false }
     ensures there { result < length chunks.now → reaches K.cmp key.now (get_or chunks.now result []) ≡ true }
 {
-    'places: for place in 0..chunks.len() {
-        if chunks[place].reaches(key) {
-            return place;
+    let (mut low, mut high) = (0, chunks.len());
+    'halves: while low < high {
+        let middle = low + (high - low) / 2;
+        if chunks[middle].reaches(key) {
+            high = middle;
+        } else {
+            low = middle + 1;
         }
     }
-    chunks.len()
+    low
 }
 
 /// The same chunks, shared.
@@ -89,6 +95,7 @@ pub fn put_in<K: Ord + Copy>(
     chunks: &mut Vec<Chunk<K>>,
     key: &K,
 ) -> Result<(), AllocError>
+    requires { IsStrictlySortedBy K.cmp (flat chunks.old.items) }
     ensures { OnOk result (flat chunks.new.items ≡ insert_key K.cmp (flat chunks.old.items) key.now) }
 {
     let place = first_reaching(chunks.as_slice(), key);

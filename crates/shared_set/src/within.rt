@@ -1,8 +1,8 @@
 //! The keys of a set in a stretch.
-ghost use Rattle.std.specs.Prelude.{◌≡◌, ◌++◌, ◌≤◌, [], length, drop};
+ghost use Rattle.std.specs.Prelude.{◌≡◌, ◌++◌, ◌<◌, ◌≤◌, [], true, false, length, take, drop, get_or};
 ghost use Rattle.std.specs.List.{filter};
 ghost use Rattle.std.specs.List.Sorted.{IsStrictlySortedBy};
-ghost use Rattle.shared_set.specs.Keys.{flat, is_in, is_from};
+ghost use Rattle.shared_set.specs.Keys.{flat, is_in, is_from, reaches};
 
 use crate::chunk::Chunk;
 use crate::span::Span;
@@ -95,7 +95,6 @@ pub fn stretch<'a, K: Ord + Copy, S: Span<K>>(chunks: &'a [Chunk<K>], span: S) -
 }
 
 /// The keys of some chunks but those before a stretch.
-#[tactic(auto, using(crate::proofs::Splits::passed_by, crate::proofs::Ends::sorted_after))]
 fn begin<'a, K: Ord + Copy, S: Span<K>>(
     chunks: &'a [Chunk<K>],
     span: &S,
@@ -103,14 +102,31 @@ fn begin<'a, K: Ord + Copy, S: Span<K>>(
     requires { IsStrictlySortedBy K.cmp (flat chunks.now) }
     ensures { result.0.now ++ flat result.1.now ≡ filter (is_from S.beside span.now) (flat chunks.now) }
 {
-    let mut rest = chunks;
-    'chunks: while let Some((chunk, others)) = rest.split_first() {
-        if chunk.enters(span) {
-            return (keys_from(chunk.as_slice(), span), others);
-        }
-        rest = others;
+    let rest = &chunks[first_entering(chunks, span)..];
+    match rest.split_first() {
+        Some((chunk, others)) => (keys_from(chunk.as_slice(), span), others),
+        None => (&[], rest),
     }
-    (&[], rest)
+}
+
+/// The place of the first chunk with a key that is not before a stretch, or how many chunks there are where none has one.
+/// By halves.
+fn first_entering<K: Ord + Copy, S: Span<K>>(chunks: &[Chunk<K>], span: &S) -> usize
+    requires { IsStrictlySortedBy K.cmp (flat chunks.now) }
+    ensures bound { result ≤ length chunks.now }
+    ensures before { reaches S.beside span.now (flat (take result chunks.now)) ≡ false }
+    ensures there { result < length chunks.now → reaches S.beside span.now (get_or chunks.now result []) ≡ true }
+{
+    let (mut low, mut high) = (0, chunks.len());
+    'halves: while low < high {
+        let middle = low + (high - low) / 2;
+        if chunks[middle].enters(span) {
+            high = middle;
+        } else {
+            low = middle + 1;
+        }
+    }
+    low
 }
 
 /// The keys of a list in order but those before a stretch.

@@ -31,8 +31,8 @@ abbrev pub fullest_touched : State → Commit → ℕ
 fullest_touched state commit =
     max (fullest cell_place state.rows (cells_of commit.writes)) (fullest tag_place state.counts (tags_of_commit state.rows commit))
 
--- how many entries are put into new buckets at most: each change of one copies that bucket, which has grown by one at most for
--- each change before
+-- how many entries are put into buckets at most: each change of one copies that bucket at most, which has grown by one at most
+-- for each change before
 abbrev pub steps_of : State → Commit → ℕ
 steps_of state commit =
     let writes = length commit.writes in

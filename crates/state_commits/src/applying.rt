@@ -79,8 +79,8 @@ fn apply_from<L: Ledger>(
     apply_counted(alloc, state, commit, &mut steps)
 }
 
-/// As `apply`, and it counts the entries that are put into new buckets. A state shares every bucket that an edit doesn't touch
-/// with the state before. An edit of `w` writes that invalidates `b` tags puts at most `(m + w + b) * (w + b)` entries into new
+/// As `apply`, and it counts the entries that are put into buckets. A state shares every bucket that an edit doesn't touch
+/// with the state before. An edit of `w` writes that invalidates `b` tags puts at most `(m + w + b) * (w + b)` entries into
 /// buckets, where `m` is how many the fullest bucket has before of those that it touches.
 #[tactic(auto, unfolding(content_state::specs::Replay::step))]
 pub fn apply_counted<L: Ledger>(

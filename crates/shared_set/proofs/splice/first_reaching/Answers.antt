@@ -1,15 +1,36 @@
-use Rattle.std.proofs.Common.{rules, arith, ◌≡◌, ◌∙◌, false, sym, ap, get_or, []}
+use Rattle.std.proofs.Common.{arith, ◌≡◌, ◌∙◌, ◌+◌, ◌-◌, ◌/◌, ◌<◌, true, false, sym, ap, subst, length, get_or, []}
 use Rattle.std.proofs.lemmas.List.{get_or_read}
 use Rattle.shared_set.specs.Keys.{reaches}
-use Rattle.shared_set.proofs.Splits.{reaches_more}
+use Rattle.shared_set.proofs.Ends.{from_on}
+use Rattle.shared_set.proofs.Splits.{reaches_up_to}
 use Rattle.shared_set.proofs.splice.first_reaching.Goals as goal
 
-pub places-preserved : goal.places-preserved
-places-preserved g c =
-    let R = g.K.Ord.cmp in
-    let k = c.args.key.now in
+pub halves-preserved-then-reaches : goal.halves-preserved-then-reaches
+halves-preserved-then-reaches g c =
     let bs = c.args.chunks.now in
-    let i = c.places.place in
-    let read : c.index-chunks-place.result ≡ get_or bs i [] = get_or_read bs i c.index-chunks-place.result c.places-test.true c.index-chunks-place.is [] in
-    let here : reaches R k (get_or bs i []) ≡ false = ap (reaches R k) (sym read) ∙ sym c.reaches.ensures ∙ c.if-reaches.false in
-    reaches_more R k bs i c.places-test.true c.places.invariant here
+    let i = c.halves.low + (c.halves.high - c.halves.low) / 2 in
+    let x = c.index-chunks-middle.result in
+    let l : i < length bs = omega arith in
+    let read : x ≡ get_or bs i [] = get_or_read bs i x l c.index-chunks-middle.is [] in
+    record {
+      bound = omega arith;
+      within = omega arith;
+      passed = c.halves.invariant.passed;
+      there = λ _. ap (reaches g.K.Ord.cmp c.args.key.now) (sym read) ∙ sym c.reaches.ensures.same ∙ c.if-reaches.true;
+    }
+
+pub halves-preserved : goal.halves-preserved
+halves-preserved g c =
+    let bs = c.args.chunks.now in
+    let i = c.halves.low + (c.halves.high - c.halves.low) / 2 in
+    let x = c.index-chunks-middle.result in
+    let l : i < length bs = omega arith in
+    let read : x ≡ get_or bs i [] = get_or_read bs i x l c.index-chunks-middle.is [] in
+    let some : 0 < length (get_or bs i []) = subst (λ b. 0 < length b) read c.reaches.ensures.some in
+    let not_there : reaches g.K.Ord.cmp c.args.key.now (get_or bs i []) ≡ false = ap (reaches g.K.Ord.cmp c.args.key.now) (sym read) ∙ sym c.reaches.ensures.same ∙ c.if-reaches.false in
+    record {
+      bound = omega arith;
+      within = c.halves.invariant.within;
+      passed = reaches_up_to g.K.Ord.cmp c.args.key.now (from_on g.met.K.Ord.total c.args.key.now) bs i l c.requires some not_there;
+      there = c.halves.invariant.there;
+    }

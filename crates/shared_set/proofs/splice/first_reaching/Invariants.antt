@@ -1,6 +1,14 @@
-use Rattle.std.proofs.Common.{◌≡◌, take, false}
+use Rattle.std.proofs.Common.{◌≡◌, ◌≤◌, ◌<◌, ◌-◌, [], length, take, get_or, true, false}
 use Rattle.shared_set.specs.Keys.{flat, reaches}
 use Rattle.shared_set.proofs.splice.first_reaching.Given as goal
 
-abbrev pub invariant-places : goal.invariant-places
-invariant-places g l = reaches g.K.Ord.cmp l.key (flat (take l.place l.chunks)) ≡ false
+abbrev pub invariant-halves : goal.invariant-halves
+invariant-halves g l = record {
+  bound : l.low ≤ l.high;
+  within : l.high ≤ length l.chunks;
+  passed : reaches g.K.Ord.cmp l.key (flat (take l.low l.chunks)) ≡ false;
+  there : l.high < length l.chunks → reaches g.K.Ord.cmp l.key (get_or l.chunks l.high []) ≡ true;
+}
+
+abbrev pub decreases-halves : goal.decreases-halves
+decreases-halves g l = l.high - l.low

@@ -6,8 +6,8 @@ use Rattle.shared_set.specs.Keys.{reaches}
 use Rattle.shared_set.proofs.Ends.{reaches_by_last, from_on}
 use Rattle.shared_set.proofs.chunk.Chunk.reaches.Goals as goal
 
-pub returns-in-Some : goal.returns-in-Some
-returns-in-Some g c =
+pub returns-in-Some-clause-same : goal.returns-in-Some-clause-same
+returns-in-Some-clause-same g c =
     let R = g.K.Ord.cmp in
     let k = c.args.key.now in
     let xs = c.deref-2.result.now in
@@ -15,5 +15,5 @@ returns-in-Some g c =
     let some : 1 ≤ length xs = search rules in
     let at : l ≡ get_or xs (length xs - 1) l = search rules in
     let own : xs ≡ c.args.self.now = search rules in
-    let sorted : IsStrictlySortedBy R xs = subst (IsStrictlySortedBy R) (sym c.deref-2.ensures.value) (subst (λ v. IsStrictlySortedBy R v.items) (sym c.deref.ensures) c.self.invariant) in
+    let sorted : IsStrictlySortedBy R xs = subst (IsStrictlySortedBy R) (sym c.deref-2.ensures.value) (subst (λ v. IsStrictlySortedBy R v.items) (sym c.deref.ensures) c.self.invariant.0) in
     ap not (c.is_gt.ensures ∙ ap is_gt c.cmp.ensures) ∙ reaches_by_last R k (from_on g.met.K.Ord.total k) l xs sorted some at ∙ ap (reaches R k) own

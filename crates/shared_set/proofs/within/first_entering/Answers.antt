@@ -1,0 +1,36 @@
+use Rattle.std.proofs.Common.{arith, ◌≡◌, ◌∙◌, ◌+◌, ◌-◌, ◌/◌, ◌<◌, false, sym, ap, subst, length, get_or, []}
+use Rattle.std.proofs.lemmas.List.{get_or_read}
+use Rattle.shared_set.specs.Keys.{reaches}
+use Rattle.shared_set.proofs.Ends.{stays_from}
+use Rattle.shared_set.proofs.Splits.{reaches_up_to}
+use Rattle.shared_set.proofs.within.first_entering.Goals as goal
+
+pub halves-preserved-then-enters : goal.halves-preserved-then-enters
+halves-preserved-then-enters g c =
+    let bs = c.args.chunks.now in
+    let i = c.halves.low + (c.halves.high - c.halves.low) / 2 in
+    let x = c.index-chunks-middle.result in
+    let l : i < length bs = omega arith in
+    let read : x ≡ get_or bs i [] = get_or_read bs i x l c.index-chunks-middle.is [] in
+    record {
+      bound = omega arith;
+      within = omega arith;
+      passed = c.halves.invariant.passed;
+      there = λ _. ap (reaches g.S.Span.beside c.args.span.now) (sym read) ∙ sym c.enters.ensures.same ∙ c.if-enters.true;
+    }
+
+pub halves-preserved : goal.halves-preserved
+halves-preserved g c =
+    let bs = c.args.chunks.now in
+    let i = c.halves.low + (c.halves.high - c.halves.low) / 2 in
+    let x = c.index-chunks-middle.result in
+    let l : i < length bs = omega arith in
+    let read : x ≡ get_or bs i [] = get_or_read bs i x l c.index-chunks-middle.is [] in
+    let some : 0 < length (get_or bs i []) = subst (λ b. 0 < length b) read c.enters.ensures.some in
+    let not_there : reaches g.S.Span.beside c.args.span.now (get_or bs i []) ≡ false = ap (reaches g.S.Span.beside c.args.span.now) (sym read) ∙ sym c.enters.ensures.same ∙ c.if-enters.false in
+    record {
+      bound = omega arith;
+      within = c.halves.invariant.within;
+      passed = reaches_up_to g.S.Span.beside c.args.span.now (stays_from g.S.Span.beside c.args.span.now (g.met.S.Span.before c.args.span.now)) bs i l c.requires some not_there;
+      there = c.halves.invariant.there;
+    }
