@@ -9,3 +9,4 @@ pub mod RegionBlocks
 pub mod Walks
 pub mod Terms
 pub mod ChosenLaws
+pub mod DecodedFirst
