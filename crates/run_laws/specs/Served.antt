@@ -1,4 +1,4 @@
--- What many workers do over one hall, and why they stop.
+-- What many workers do over one engine, and why they stop.
 use Rattle.std.specs.Prelude.{ℕ, zero, suc, List, [], ◌∷◌, ◌≡◌, ◌⊎◌, Bool, true, false, All}
 use Rattle.std.specs.List.{AllZip}
 use Rattle.site_io.specs.Told.{Rose}
@@ -51,7 +51,7 @@ SomeDoorFails (old ∷ before) (new ∷ after) = Rose old.faults new.faults ⊎ 
 
 -- What workers answer, and why. Each connection ends as its requests do, with a reply to each of them, where neither of its ends
 -- failed; or memory was wanting. That all stopped because none was left to take comes exactly where no door's count of faults
--- rose, and the other answer where one did. That the keeper failed was answered only where the hall's count of its faults rose.
+-- rose, and the other answer where one did. That the keeper failed was answered only where the engine's count of its faults rose.
 pub record AnswerFor (old new : HallView) (before after : List StationView) (whole : Bool) (shifts : List Shift) : Type 0 where
   pub each : All (IsWholeShift old new) shifts
   pub all : whole ≡ true → AreSteady before after

@@ -14,8 +14,8 @@ pub fn workers_complete()
     ensures { WorkersComplete }
 {}
 
-/// The law of many workers over one hall: the same of each connection of each of them; one stopped early exactly where its door
-/// failed; and that the keeper failed was answered only where the hall's count of its faults rose.
+/// The law of many workers over one engine: the same of each connection of each of them; one stopped early exactly where its door
+/// failed; and that the keeper failed was answered only where the engine's count of its faults rose.
 pub fn servers_complete()
     ensures { ServersComplete }
 {}

@@ -1,4 +1,4 @@
--- From what a keeper holds to the hall of its site, or to why there is none.
+-- From what a keeper holds to the engine of its site, or to why there is none.
 use Rattle.std.proofs.Common.{◌≡◌, ℕ, ◌^◌, ◌≤◌, Bool, Option, refl, sym, subst}
 use Rattle.content_state.specs.Replay.{replay}
 use Rattle.content_state.specs.declared.site_rules.Refusal.{Refusal}
@@ -17,7 +17,7 @@ use Rattle.site_jobs.specs.declared.fault.NoJob.{NoJob}
 use Rattle.site_jobs.specs.declared.fault.NoJob.TheVariants as none
 use Rattle.serve_store.specs.Job.{IsOpened}
 
--- ---- a hall
+-- ---- an engine
 
 opened_view : (kept kept' : Option Kept) (faults faults' : ℕ) (steadfast : Bool) (stored : Stored) → kept' ≡ kept → faults' ≡ faults → IfTold kept (λ held. stored ≡ held)
     → IsHall (opened_with stored kept' faults' steadfast) → stored.head ≤ 2 ^ 62 → IsOpened kept faults (opened_with stored kept' faults' steadfast)

@@ -7,9 +7,10 @@ use Rattle.content_state.specs.declared.commit.Commit.{Commit}
 use Rattle.indexed_rows.specs.Rows.{AreValidRows}
 use Rattle.site_keeper.specs.Keeper.{IfTold, Kept}
 use Rattle.site_keeper.specs.Steps.{stored_of}
+use Rattle.site_keeper.specs.Keeping.{and_batches, batches_of, with_pending}
 use Rattle.site_house.specs.House.{HouseView, IsSublist, Moves, Stays}
 use Rattle.site_hall.specs.Alone.{AloneView, house_of, IsAlone}
-use Rattle.site_hall.specs.Hall.{HallView, IsHall, and_batches, batches_of, with_pending, with_stock}
+use Rattle.site_hall.specs.Hall.{HallView, IsHall, with_stock}
 use Rattle.site_hall.specs.Opened.{opened_in}
 use Rattle.site_hall.specs.Stock.{Stock, bins_in}
 use Rattle.site_io.specs.Series.{AreFirstOf, GivesInTurn, last_moment}
@@ -33,7 +34,7 @@ pub if_err_of : {A E X : Type 0} → (r : Result A E) → X → IfErr r (λ _. X
 if_err_of (Ok a) x = tt
 if_err_of (Err e) x = x
 
--- ---- a hall over which nothing was edited
+-- ---- an engine over which nothing was edited
 
 pub unchanged : (hall : HallView) → IsNew hall → OnlyPages hall hall
 unchanged hall is = record { same = refl; is_hall = is.is_hall }
@@ -64,7 +65,7 @@ pub newest_base : (hall : HallView) (state : State) → IsNew hall → state ≡
 unfolding replay
 newest_base hall state is same = same ∙ ap (replay hall.base) is.log
 
--- ---- the hall once the keeper is back
+-- ---- the engine once the keeper is back
 
 -- nothing was handed in, so nothing was published, and nothing is pending
 unlisted : (log : List Commit) (pending : Option Commit) → with_pending log pending ≡ [] → (log ≡ []) × (pending ≡ None)

@@ -46,7 +46,7 @@ pub record Front : Type 0 where
 
 -- ---- at open stations
 
--- A worker at each of these stations served the connections of its door, over this hall, and all was given back. Each stopped
+-- A worker at each of these stations served the connections of its door, over this engine, and all was given back. Each stopped
 -- because no connection was left to take, and then as many were served as there were; or some stopped for their doors, and they
 -- were fewer.
 pub record ServedAt (what : ToServe) (hall : HallView) (stations : List StationView) (whole : Bool) (old new : PlaceView) : Type 0 where
@@ -100,7 +100,7 @@ pub record StopsWarming (what : ToServe) (hall : HallView) (stations : List Stat
   pub stops : StopsBy ended hall (then_listening what old) new.written
   pub back : ServedNone hall stations (place_then true old.place) new.place
 
--- the workers started, over the hall with the pages that were rendered, if that was asked for
+-- the workers started, over the engine with the pages that were rendered, if that was asked for
 pub record ServesReady (what : ToServe) (hall : HallView) (stations : List StationView) (ended : ServeEnd) (old new : Front) : Type 0 where
   pub hall-then : HallView
   pub is_ready : IsReady what.warm old.place hall hall-then
@@ -144,7 +144,7 @@ ServesHall what hall ended old new = OpensStations what hall ended old new ⊎ S
 
 -- ---- over the store
 
--- a hall over the site that a keeper holds, which told this and had failed so often: nothing was edited yet
+-- an engine over the site that a keeper holds, which told this and had failed so often: nothing was edited yet
 pub record IsOpened (kept : Option Kept) (faults : ℕ) (hall : HallView) : Type 0 where
   pub base : Holds kept hall.base
   pub site : IsSite hall.base

@@ -14,7 +14,7 @@ use Rattle.serve_store.specs.declared.ending.ServeEnd.{ServeEnd}
 use Rattle.serve_store.specs.declared.ending.ServeEnd.TheVariants as end
 use Rattle.serve_store.specs.Texts.{warmed_text}
 
--- nothing was edited over a hall yet
+-- nothing was edited over an engine yet
 pub record IsNew (hall : HallView) : Type 0 where
   pub log : hall.log ≡ []
   pub pending : hall.pending ≡ None
@@ -29,11 +29,11 @@ first_targets hall = take MOST_PAGES (targets_of hall.base.rows)
 abbrev pub warmed_count : HallView → ℕ
 warmed_count hall = min (length (targets_of hall.base.rows)) MOST_PAGES
 
--- what a hall keeps of pages, and how often something wasn't kept
+-- what an engine keeps of pages, and how often something wasn't kept
 abbrev pub shelves_in : HallView → ℕ → Shelves
 shelves_in hall unkept = record { bins = bins_in hall.stock; unkept = unkept }
 
--- nothing of a hall changed but what it keeps of pages
+-- nothing of an engine changed but what it keeps of pages
 pub record OnlyPages (old new : HallView) : Type 0 where
   pub same : new ≡ with_stock old new.stock
   pub is_hall : IsHall new
@@ -60,7 +60,7 @@ pub record Warmed (place : PlaceView) (old new : HallView) : Type 0 where
 
 -- ---- whether that is asked for
 
--- the hall that the workers begin with: with these pages where that is asked for, and else as it was
+-- the engine that the workers begin with: with these pages where that is asked for, and else as it was
 abbrev pub IsReady : Bool → PlaceView → HallView → HallView → Type 0
 IsReady true place old new = Warmed place old new
 IsReady false place old new = new ≡ old

@@ -15,7 +15,7 @@ use crate::opening::{Unopened, hall_of};
 use crate::serving::Serving;
 use crate::texts::{announce, listening_text, served_text};
 use crate::warming::{Unwarmed, made_warm};
-use site_hall::Hall;
+use site_hall::Engine;
 use site_io::{Door, write_whole};
 use site_jobs::NoJob;
 use site_places::{NoDevice, Place};
@@ -78,12 +78,12 @@ fn close<P: Place>(
     }
 }
 
-/// Serves the site of a hall at these stations, and gives all back.
+/// Serves the site of an engine at these stations, and gives all back.
 fn work_stations<P: Place, R: Threads + Wait + Sync>(
     rt: &R,
     alloc: Global,
     serving: &Serving,
-    hall: Hall<P::Keeper>,
+    hall: Engine<P::Keeper>,
     stations: Vec<Station<P::Door, P::Clock, P::Entropy, P::Gate>>,
     closing: &[u8],
     place: &mut P,
@@ -114,12 +114,12 @@ where
 }
 
 /// Prints that the doors at these stations are open, renders the pages that anybody may see where that is asked for, and serves
-/// the site of a hall, of which nothing was edited yet; gives all back.
+/// the site of an engine, of which nothing was edited yet; gives all back.
 fn serve_stations<P: Place, R: Threads + Wait + Sync>(
     rt: &R,
     alloc: Global,
     serving: &Serving,
-    hall: Hall<P::Keeper>,
+    hall: Engine<P::Keeper>,
     ready: Ready<P>,
     place: &mut P,
     output: &mut P::Out,
@@ -158,12 +158,12 @@ where
     }
 }
 
-/// Opens the stations of the workers, and serves the site of a hall at them.
+/// Opens the stations of the workers, and serves the site of an engine at them.
 fn serve_hall<P: Place, R: Threads + Wait + Sync>(
     rt: &R,
     alloc: Global,
     serving: &Serving,
-    hall: Hall<P::Keeper>,
+    hall: Engine<P::Keeper>,
     ready: Ready<P>,
     place: &mut P,
     output: &mut P::Out,

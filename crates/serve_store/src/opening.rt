@@ -5,7 +5,7 @@ ghost use Rattle.site_jobs.specs.Ground.{IsNoSiteOf};
 ghost use Rattle.site_jobs.specs.Jobs.{CountsKeeper, IsNoBase};
 ghost use Rattle.serve_store.specs.Job.{IsOpened};
 
-use site_hall::{Hall, NoHall};
+use site_hall::{Engine, NoEngine};
 use site_jobs::{NoJob, no_site};
 use site_keeper::Keeper;
 use std::alloc::Global;
@@ -17,11 +17,11 @@ pub(crate) struct Unopened<K> {
     pub(crate) why: NoJob,
 }
 
-/// The hall of the site that a keeper holds, where nothing was edited yet.
+/// The engine of the site that a keeper holds, where nothing was edited yet.
 ///
 /// `Refused` comes exactly where it holds no site, with the first fault, and `Keeper` exactly where the keeper's count of
 /// faults rose in this call.
-pub(crate) fn hall_of<K: Keeper>(alloc: Global, mut keeper: K) -> Result<Hall<K>, Unopened<K>>
+pub(crate) fn hall_of<K: Keeper>(alloc: Global, mut keeper: K) -> Result<Engine<K>, Unopened<K>>
     ensures opened { IfOk result (IsOpened (K.kept keeper) (K.faults keeper)) }
     ensures is_hall { IfOk result (λ hall. IsHall hall) }
     ensures none { IfErr result (λ none. IsNoBase IsNoSiteOf (K.kept keeper) none.why) }
@@ -29,9 +29,9 @@ pub(crate) fn hall_of<K: Keeper>(alloc: Global, mut keeper: K) -> Result<Hall<K>
     ensures cause { IfErr result (λ none. CountsKeeper none.why (K.faults keeper) (K.faults none.keeper)) }
 {
     match keeper.load(alloc) {
-        Ok(stored) => match Hall::new(alloc, keeper, stored) {
+        Ok(stored) => match Engine::new(alloc, keeper, stored) {
             Ok(hall) => Ok(hall),
-            Err(NoHall { keeper, why, .. }) => Err(Unopened {
+            Err(NoEngine { keeper, why, .. }) => Err(Unopened {
                 keeper,
                 why: no_site(alloc, why),
             }),

@@ -11,7 +11,7 @@ use crate::ending::ServeEnd;
 use crate::texts::{announce, warmed_text};
 use content_rows::Text;
 use content_state::State;
-use site_hall::{Alone, Hall};
+use site_hall::{Alone, Engine};
 use site_io::Clock;
 use site_keeper::{Batch, Keeper, KeeperFault, Stored};
 use site_places::Place;
@@ -47,15 +47,15 @@ impl Keeper for NoKeeper {
     }
 }
 
-/// A hall whose pages were to be rendered, and how it ends where they weren't, or where that wasn't printed.
+/// An engine whose pages were to be rendered, and how it ends where they weren't, or where that wasn't printed.
 #[derive(Drop)]
 pub(crate) struct Unwarmed<K: Keeper> {
-    pub(crate) hall: Hall<K>,
+    pub(crate) hall: Engine<K>,
     pub(crate) end: ServeEnd,
 }
 
-/// The targets of a hall's site that anybody may see. `Err` only where memory is wanting.
-fn open_targets<K: Keeper>(alloc: Global, hall: &Hall<K>) -> Result<Vec<Text>, AllocError>
+/// The targets of an engine's site that anybody may see. `Err` only where memory is wanting.
+fn open_targets<K: Keeper>(alloc: Global, hall: &Engine<K>) -> Result<Vec<Text>, AllocError>
     requires { IsNew hall.now }
     ensures { IfOk result (λ targets. targets.items ≡ targets_of hall.now.base.rows) }
 {
@@ -64,14 +64,14 @@ fn open_targets<K: Keeper>(alloc: Global, hall: &Hall<K>) -> Result<Vec<Text>, A
     targets(alloc, state)
 }
 
-/// Renders the pages of the first 1,024 of these targets over a hall, for nobody's session, and answers how many those are. The
+/// Renders the pages of the first 1,024 of these targets over an engine, for nobody's session, and answers how many those are. The
 /// keeper is set aside meanwhile. `Err` only where memory is wanting.
 fn warm_hall<K: Keeper + Drop>(
     alloc: Global,
-    hall: Hall<K>,
+    hall: Engine<K>,
     targets: &[Text],
     now: u64,
-) -> (Hall<K>, Result<u64, AllocError>)
+) -> (Engine<K>, Result<u64, AllocError>)
     requires new { IsNew hall }
     requires targets { targets.now ≡ targets_of hall.base.rows }
     ensures pages { OnlyPages hall result.0 }
@@ -89,9 +89,9 @@ fn warm_hall<K: Keeper + Drop>(
 /// is wanting.
 fn warm_site<K: Keeper + Drop>(
     alloc: Global,
-    hall: Hall<K>,
+    hall: Engine<K>,
     now: u64,
-) -> (Hall<K>, Result<Vec<u8>, AllocError>)
+) -> (Engine<K>, Result<Vec<u8>, AllocError>)
     requires { IsNew hall }
     ensures pages { OnlyPages hall result.0 }
     ensures text { IfOk result.1 (λ text. text.items ≡ warmed_text (warmed_count hall)) }
@@ -110,10 +110,10 @@ fn warm_site<K: Keeper + Drop>(
 /// Renders the pages that anybody may see, at the moment of the place's next clock, and prints how many they are.
 fn warm_first<P: Place>(
     alloc: Global,
-    hall: Hall<P::Keeper>,
+    hall: Engine<P::Keeper>,
     place: &mut P,
     output: &mut P::Out,
-) -> Result<Hall<P::Keeper>, Unwarmed<P::Keeper>>
+) -> Result<Engine<P::Keeper>, Unwarmed<P::Keeper>>
     requires { IsNew hall }
     ensures warmed { IfOk result (Warmed (P.sees place.old) hall) }
     ensures written { OnOk result (P.Out.written output.new ≡ written_then true hall (P.Out.written output.old)) }
@@ -143,10 +143,10 @@ fn warm_first<P: Place>(
 pub(crate) fn made_warm<P: Place>(
     alloc: Global,
     asked: bool,
-    hall: Hall<P::Keeper>,
+    hall: Engine<P::Keeper>,
     place: &mut P,
     output: &mut P::Out,
-) -> Result<Hall<P::Keeper>, Unwarmed<P::Keeper>>
+) -> Result<Engine<P::Keeper>, Unwarmed<P::Keeper>>
     requires { IsNew hall }
     ensures ready { IfOk result (IsReady asked (P.sees place.old) hall) }
     ensures none_pending { IfOk result (λ warm. warm.pending ≡ None) }

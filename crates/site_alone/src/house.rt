@@ -7,7 +7,7 @@ ghost use Rattle.site_hall.specs.Alone.{house_of};
 ghost use Rattle.site_alone.specs.House.{opened_on};
 
 use content_state::State;
-use site_hall::{Alone, Hall};
+use site_hall::{Alone, Engine};
 use site_keeper::{MemoryKeeper, Stored};
 use std::alloc::{AllocError, Global};
 
@@ -31,7 +31,7 @@ pub fn alone_with(alloc: Global, state: &State) -> Result<Alone<MemoryKeeper>, A
     ensures { IfOk result (λ alone. house_of alone ≡ opened_on state.now) }
 {
     let keeper = MemoryKeeper::new(alloc, stored(alloc, state)?, Vec::new(alloc));
-    match Hall::new(alloc, keeper, stored(alloc, state)?) {
+    match Engine::new(alloc, keeper, stored(alloc, state)?) {
         Ok(hall) => Ok(Alone::new(alloc, hall)),
         Err(_) => Err(AllocError),
     }

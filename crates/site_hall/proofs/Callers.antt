@@ -1,7 +1,6 @@
--- What always holds of a caller that has a hall for itself goes on to hold, and what its house does.
+-- What always holds of a caller that has an engine for itself goes on to hold, and what its house does.
 use Rattle.std.proofs.Common.{◌≡◌, ◌∙◌, ◌+◌, ◌≤◌, ◌++◌, ◌⊎◌, ◌==◌, Bool, true, false, ℕ, List, [], ◌∷◌, Option, Some, None, length, drop, ap, sym, subst, refl, inl, inr, arith, length-append}
-use Rattle.std.specs.Prelude.{All, if◌then◌else◌, Result, Ok, Err}
-use Rattle.std.specs.declared.alloc.AllocError.{AllocError}
+use Rattle.std.specs.Prelude.{All, if◌then◌else◌}
 use Rattle.std.proofs.lemmas.List.{drop-append-le}
 use Rattle.std.proofs.lemmas.List.Elements.{All-push, All-take}
 use Rattle.std.proofs.Math.Seq.{take-append_seam}
@@ -9,23 +8,19 @@ use Rattle.content_state.specs.State.{State}
 use Rattle.content_state.specs.Replay.{Begins}
 use Rattle.content_state.specs.declared.ask.Ask.{Ask}
 use Rattle.content_state.specs.declared.commit.Commit.{Commit}
-use Rattle.cache_entries.specs.declared.key.Key.{Key}
-use Rattle.cache_entries.specs.declared.kept.Bin.{Bin}
-use Rattle.cache_entries.specs.declared.kept.Found.{Found}
-use Rattle.cache_entries.specs.declared.kept.Kept.{Kept}
 use Rattle.site_commands.specs.Judged.{judged}
 use Rattle.site_commands.specs.declared.command.Command.{Command}
 use Rattle.site_keeper.specs.Batch.{Batch}
+use Rattle.site_keeper.specs.Keeping.{with_pending}
 use Rattle.site_house.specs.House.{IsSublist, AreOwn, AreValid, CountRose, Moves, KeepsAll, Accepts, Fails, up}
 use Rattle.site_house.proofs.Moving.{begins_same, begins_more, moves_same}
-use Rattle.site_hall.specs.Hall.{HallView, with_stock, IsHall, Settles, StaysSteadfast, settled_by, with_pending, number_of}
+use Rattle.site_hall.specs.Hall.{HallView, with_stock, IsHall, Settles, StaysSteadfast, settled_by, number_of}
 use Rattle.site_hall.specs.ReadyEdit.{Ready}
 use Rattle.site_hall.specs.Ready.{IsReadyAfter, IsPending, published}
 use Rattle.site_hall.specs.Alone.{AloneView, IsAlone, IsAllOf, house_of}
 use Rattle.site_hall.specs.Stock.{Stock, bins_in}
-use Rattle.site_hall.specs.Looked.{LooksUp, KeepsUnder}
 use Rattle.site_hall.specs.Handed.{handed_in}
-use Rattle.site_hall.proofs.Logs.{valid_front}
+use Rattle.site_hall.proofs.Logs.{valid_without}
 use Rattle.site_hall.proofs.Sublists.{sublist_both, sublist_front, sublist_filter}
 
 -- ---- the caller's own edits
@@ -179,11 +174,7 @@ handed_as a hall hall' c handed' is same more =
 -- ---- its house
 
 pub valid_seen : (hall : HallView) → IsHall hall → AreValid hall.base hall.log
-valid_seen hall h = go hall.pending h.valid
-  where
-    go : (pending : Option Commit) → AreValid hall.base (with_pending hall.log pending) → AreValid hall.base hall.log
-    go None valid = valid
-    go (Some c) valid = valid_front hall.base hall.log c valid
+valid_seen hall h = valid_without hall.base hall.log hall.pending h.valid
 
 -- its edits since the caller came are of those that it handed in, in that order
 pub alone_own : (a : AloneView) → IsAlone a → AreOwn (house_of a)
@@ -322,12 +313,3 @@ stock_moves a hall unkept is same more =
     alone_moves a (record a { hall = hall; unkept = unkept }) is refl (ap (λ (n : HallView). n.base) same)
     (subst (Begins a.hall.log) (sym log) (begins_same a.hall.log)) (omega arith)
     (record { tells = ap (λ (n : HallView). n.steadfast) same; stays = λ _. faults }) (inl refl) more
-
--- whatever the answer
-pub kept_beside : {E : Type 0} (result : Result (Unit {0}) E) (old new : HallView) (b : Bin) (key : Key) (k : Kept) → KeepsUnder result old new b key k → new ≡ with_stock old new.stock
-kept_beside (Ok done) old new b key k keeps = keeps.1
-kept_beside (Err e) old new b key k keeps = subst (λ (n : HallView). n ≡ with_stock old n.stock) (sym keeps) refl
-
-pub looked_beside : (result : Result Found AllocError) (old new : HallView) (b : Bin) (key : Key) → LooksUp result old new b key → new ≡ with_stock old new.stock
-looked_beside (Ok found) old new b key looks = looks.1
-looked_beside (Err e) old new b key looks = subst (λ (n : HallView). n ≡ with_stock old n.stock) (sym looks) refl

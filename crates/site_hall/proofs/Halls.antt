@@ -1,4 +1,4 @@
--- What always holds of a hall goes on to hold: as it is opened, once what is pending is settled, and once an edit is kept.
+-- What always holds of an engine goes on to hold: as it is opened, once what is pending is settled, and once an edit is kept.
 use Rattle.std.proofs.Common.{◌≡◌, ◌≢◌, ◌∙◌, ◌+◌, ◌<◌, ◌++◌, ◌⊎◌, ◌==◌, ℕ, Bool, true, false, List, [], ◌∷◌, Option, Some, None, length, ap, sym, subst, refl, inl, inr, arith}
 use Rattle.std.specs.Prelude.{is_some, if◌then◌else◌, Result, Ok, Err, IfOk, OnOk, OnErr}
 use Rattle.std.specs.declared.alloc.AllocError.{AllocError}
@@ -14,25 +14,29 @@ use Rattle.cache_entries.specs.declared.key.Key.{Key}
 use Rattle.cache_entries.specs.declared.kept.Bin.{Bin}
 use Rattle.cache_entries.specs.declared.kept.Found.{Found}
 use Rattle.cache_entries.specs.declared.kept.Kept.{Kept as Placed}
+use Rattle.cache_entries.specs.Sound.{IsSoundKept, IsSoundFound}
 use Rattle.fragment_cache.specs.Bins.{thing_of, thing_found}
+use Rattle.page_meaning.specs.Meaning.{meaning}
 use Rattle.site_keeper.specs.Keeper.{Kept, IfTold, held_of, with_batch, and_batch, CountsFault, LeavesBatch}
 use Rattle.site_keeper.specs.Steps.{batch_of}
+use Rattle.site_keeper.specs.Keeping.{batches_of, and_batches, with_pending, HoldsState}
 use Rattle.site_keeper.specs.declared.stored.Stored.{Stored}
 use Rattle.site_keeper.specs.declared.fault.KeeperFault.{KeeperFault}
 use Rattle.site_keeper.specs.declared.fault.KeeperFault.TheVariants as keeper_fault
+use Rattle.site_keeper.proofs.Keeping.{number_after, log_held, right_next, kept_more, at_true, at_false, settled_kept}
 use Rattle.site_house.specs.History.{newest_of}
 use Rattle.site_house.specs.House.{AreValid}
-use Rattle.site_hall.specs.Log.{Log, Made}
+use Rattle.site_hall.specs.Log.{Log, Made, newest_in}
 use Rattle.site_hall.specs.ReadyEdit.{Ready}
 use Rattle.site_hall.specs.Stock.{Stock, bins_in, AreSound, Finds, Puts}
-use Rattle.site_hall.specs.Hall.{HallView, with_stock, IsHall, Settles, settled_by, batches_of, and_batches, with_pending, number_of}
-use Rattle.site_hall.specs.Looked.{IsSoundIn, MayBeKept}
+use Rattle.site_hall.specs.Hall.{HallView, with_stock, IsHall, Settles, settled_by, number_of}
+use Rattle.site_hall.specs.Accepted.{MayFollow}
 use Rattle.site_hall.specs.Within.{view_of, told_before, HasPlace, IsWhole}
 use Rattle.site_hall.specs.Opened.{state_in, opened_in}
 use Rattle.site_hall.specs.Ready.{newest_of_hall, MayBeNext, LeavesPending, IsPending, published}
 use Rattle.site_hall.proofs.Stocks.{bins_more, bins_looked, bins_kept, good_kept, sound_found}
-use Rattle.site_hall.proofs.Logs.{number_after, valid_more, valid_front}
-use Rattle.site_hall.proofs.Batches.{HoldsState, log_held, right_next, kept_more, at_true, at_false, settled_kept, told_first, told_stays}
+use Rattle.site_hall.proofs.Logs.{valid_more, valid_front}
+use Rattle.site_hall.proofs.Batches.{told_first, told_stays}
 
 abbrev pub hall_of : State → List Commit → Option Commit → Option Kept → Option Kept → ℕ → Bool → Stock → HallView
 hall_of base log pending opened kept faults steadfast stock =
@@ -71,14 +75,17 @@ opened_view log stored kept faults steadfast stock base edits told =
     ∙ ap (λ (o : Option Kept). hall_of (state_in stored) [] None o kept faults steadfast stock) (told_first (state_in stored) kept told)
 
 -- nothing is pending, so no place is needed
-pub whole_settled : (log : Log) (kept : Option Kept) (faults : ℕ) (steadfast : Bool) (stock : Stock) → IsHall (view_of log None kept faults steadfast stock) → IsWhole log None kept faults steadfast stock
-whole_settled log kept faults steadfast stock is_hall = record { is_hall = is_hall; has_place = none }
+pub none_place : (log : Log) → ForSome None (HasPlace log)
+none_place log made is = absurd (never is)
   where
-    none : ForSome None (HasPlace log)
-    none made is = absurd (never is)
-      where
-        never : None ≡ Some made → ⊥
-        never is = cc
+    never : None ≡ Some made → ⊥
+    never is = cc
+
+pub some_place : (log : Log) (made : Made) → HasPlace log made → ForSome (Some made) (HasPlace log)
+some_place log made place other is = let same : made ≡ other = cc in subst (HasPlace log) same place
+
+pub whole_settled : (log : Log) (kept : Option Kept) (faults : ℕ) (steadfast : Bool) (stock : Stock) → IsHall (view_of log None kept faults steadfast stock) → IsWhole log None kept faults steadfast stock
+whole_settled log kept faults steadfast stock is_hall = record { is_hall = is_hall; has_place = none_place log }
 
 pub whole_none : (log : Log) (pending : Option Made) (kept : Option Kept) (faults : ℕ) (steadfast : Bool) (stock : Stock) → (view_of log pending kept faults steadfast stock).pending ≡ None → IsHall (view_of log pending kept faults steadfast stock) → IsWhole log pending kept faults steadfast stock
 whole_none log None kept faults steadfast stock none is_hall = whole_settled log kept faults steadfast stock is_hall
@@ -207,7 +214,7 @@ newest_held hall h none =
 -- and once the batch of an edit is kept, the rows that it holds are right
 pub right_after : (hall : HallView) (ready : Ready) → IsHall hall → MayBeNext hall ready → IfTold hall.kept (λ held. AreValidRows (with_batch held ready.batch).rows)
 right_after hall ready h next =
-    right_next hall.kept (newest_of_hall hall) ready.batch ready.batch.commit (newest_held hall h next.none_pending) (ap (λ (r : Ready). r.batch) next.of_newest) next.valid.rows
+    right_next hall.kept (newest_of_hall hall) ready.batch ready.batch.commit (newest_held hall h next.none_pending) (ap (λ (r : Ready). r.batch) next.follows.of_newest) next.follows.valid.rows
 
 -- what was told before goes on to be
 told_on : (log : Log) (pending : Option Made) (kept : Option Kept) (faults : ℕ) (steadfast : Bool) (stock : Stock) (ready : Ready) → IsHall (view_of log pending kept faults steadfast stock) → MayBeNext (view_of log pending kept faults steadfast stock) ready
@@ -216,7 +223,7 @@ told_on log pending kept faults steadfast stock ready h next =
     let hall = view_of log pending kept faults steadfast stock in
     let newest = newest_of_hall hall in
     let number = number_after log.base log.edits in
-    ap (λ (r : Ready). told_before log.base (and_batch kept r.batch)) next.of_newest
+    ap (λ (r : Ready). told_before log.base (and_batch kept r.batch)) next.follows.of_newest
     ∙ told_stays log.base kept newest ready.batch.commit (omega arith) (newest_held hall h next.none_pending)
 
 -- it is published
@@ -237,14 +244,17 @@ published_view log log' pending kept kept' faults faults' steadfast steadfast' s
 keeps_more : (hall : HallView) (ready : Ready) → IsHall hall → MayBeNext hall ready
     → and_batch hall.kept ready.batch ≡ and_batches hall.opened (batches_of hall.base (hall.log ++ ready.batch.commit ∷ []))
 keeps_more hall ready h next =
-    ap (λ (r : Ready). and_batch hall.kept r.batch) next.of_newest
+    ap (λ (r : Ready). and_batch hall.kept r.batch) next.follows.of_newest
     ∙ ap (λ (k : Option Kept). and_batch k (batch_of (newest_of_hall hall) ready.batch.commit)) (keeps_log hall h next.none_pending)
     ∙ sym (kept_more hall.opened hall.base hall.log ready.batch.commit)
 
+-- an edit that may follow leaves all valid
+pub valid_follows : (base : State) (log : List Commit) (ready : Ready) → AreValid base log → MayFollow (replay base log) (length log) ready → AreValid base (log ++ ready.batch.commit ∷ [])
+valid_follows base log ready valid follows = valid_more base log ready.batch.commit valid follows.is_commit follows.valid
+
 valid_next : (hall : HallView) (ready : Ready) → IsHall hall → MayBeNext hall ready → AreValid hall.base (hall.log ++ ready.batch.commit ∷ [])
 valid_next hall ready h next =
-    let valid : AreValid hall.base hall.log = subst (λ (p : Option Commit). AreValid hall.base (with_pending hall.log p)) next.none_pending h.valid in
-    valid_more hall.base hall.log ready.batch.commit valid next.is_commit next.valid
+    valid_follows hall.base hall.log ready (subst (λ (p : Option Commit). AreValid hall.base (with_pending hall.log p)) next.none_pending h.valid) next.follows
 
 pub published_hall : (hall : HallView) (ready : Ready) → IsHall hall → MayBeNext hall ready → IsHall (published hall ready.batch)
 published_hall hall ready h next = record {
@@ -289,23 +299,20 @@ pending_hall hall ready kept faults h next keeps = record {
 }
 
 -- the log has a place for it
-pub next_place : (log log' : Log) (pending : Option Made) (kept : Option Kept) (faults : ℕ) (steadfast : Bool) (stock : Stock) (ready : Ready) (made : Made) → MayBeNext (view_of log pending kept faults steadfast stock) ready
+pub next_place : (log log' : Log) (ready : Ready) (made : Made) → MayFollow (newest_in log) (length log.edits) ready
     → log'.base ≡ log.base → log'.edits ≡ log.edits → 0 < log'.room → made.commit ≡ ready.batch.commit → made.state ≡ ready.state → HasPlace log' made
-next_place log log' pending kept faults steadfast stock ready made next base edits room same state = record {
+next_place log log' ready made follows base edits room same state = record {
   next =
-      state ∙ ap (λ (r : Ready). r.state) next.of_newest
+      state ∙ ap (λ (r : Ready). r.state) follows.of_newest
       ∙ ap (λ (b : State). step (replay b log.edits) ready.batch.commit) (sym base)
       ∙ ap (λ (l : List Commit). step (replay log'.base l) ready.batch.commit) (sym edits)
       ∙ ap (step (replay log'.base log'.edits)) (sym same);
   room = room;
-  short = subst (λ (l : List Commit). length l < 1000000) (sym edits) next.short;
+  short = subst (λ (l : List Commit). length l < 1000000) (sym edits) follows.short;
 }
 
 pub whole_pending : (log : Log) (made : Made) (kept : Option Kept) (faults : ℕ) (steadfast : Bool) (stock : Stock) → IsHall (view_of log (Some made) kept faults steadfast stock) → HasPlace log made → IsWhole log (Some made) kept faults steadfast stock
-whole_pending log made kept faults steadfast stock is_hall place = record { is_hall = is_hall; has_place = has }
-  where
-    has : ForSome (Some made) (HasPlace log)
-    has other is = let same : made ≡ other = cc in subst (HasPlace log) same place
+whole_pending log made kept faults steadfast stock is_hall place = record { is_hall = is_hall; has_place = some_place log made place }
 
 -- all that becomes of it then
 pub pending_after : (log log' : Log) (pending : Option Made) (kept kept' : Option Kept) (faults faults' : ℕ) (steadfast steadfast' : Bool) (stock : Stock) (ready : Ready) (made : Made)
@@ -321,7 +328,7 @@ pending_after log log' pending kept kept' faults faults' steadfast steadfast' st
 
 -- ---- what is kept of pages
 
--- the hall with another stock, sound as it was
+-- the engine with another stock, sound as it was
 pub stock_hall : (hall : HallView) (stock : Stock) → IsHall hall → AreSound hall.base hall.log (bins_in stock) → IsHall (with_stock hall stock)
 stock_hall hall stock h entries = record { valid = h.valid; keeps = h.keeps; loaded = h.loaded; entries = entries }
 
@@ -330,21 +337,20 @@ pub whole_stock : {log : Log} {pending : Option Made} {kept : Option Kept} {faul
 whole_stock {log} {pending} {kept} {faults} {steadfast} {old} new whole entries =
     record { is_hall = stock_hall (view_of log pending kept faults steadfast old) new whole.is_hall entries; has_place = whole.has_place }
 
-module _ (log : Log) (pending : Option Made) (kept : Option Kept) (faults : ℕ) (steadfast : Bool) (old new : Stock) (b : Bin) (key : Key) where
+module _ (base : State) (log : List Commit) (old new : Stock) (b : Bin) (key : Key) where
   -- something was looked for
-  pub looked_whole : (result : Result Found AllocError) → IfOk result (λ f. Finds old new b key f) → OnErr result (new ≡ old)
-      → IsWhole log pending kept faults steadfast old → IsWhole log pending kept faults steadfast new
-  looked_whole (Ok f) finds refused whole = whole_stock new whole (bins_looked log.base log.edits (bins_in old) (bins_in new) b key (thing_found f) finds.bins whole.is_hall.entries)
-  looked_whole (Err e) finds refused whole = subst (IsWhole log pending kept faults steadfast) (sym refused) whole
+  pub looked_bins : (result : Result Found AllocError) → IfOk result (λ f. Finds old new b key f) → OnErr result (new ≡ old)
+      → AreSound base log (bins_in old) → AreSound base log (bins_in new)
+  looked_bins (Ok f) finds refused are = bins_looked base log (bins_in old) (bins_in new) b key (thing_found f) finds.bins are
+  looked_bins (Err e) finds refused are = subst (λ (s : Stock). AreSound base log (bins_in s)) (sym refused) are
 
   pub looked_sound : (result : Result Found AllocError) → IfOk result (λ f. Finds old new b key f)
-      → IsWhole log pending kept faults steadfast old → IfOk result (λ f. IsSoundIn (view_of log pending kept faults steadfast new) key f)
-  looked_sound (Ok f) finds whole = sound_found log.base log.edits (bins_in old) (bins_in new) b key f finds.bins whole.is_hall.entries
-  looked_sound (Err e) finds whole = tt
+      → AreSound base log (bins_in old) → IfOk result (λ f. IsSoundFound meaning base log key f)
+  looked_sound (Ok f) finds are = sound_found base log (bins_in old) (bins_in new) b key f finds.bins are
+  looked_sound (Err e) finds are = tt
 
   -- something was to be kept
-  pub kept_whole : {E : Type 0} (k : Placed) (result : Result (Unit {0}) E) → OnOk result (Puts old new b key k) → OnErr result (new ≡ old)
-      → MayBeKept (view_of log pending kept faults steadfast old) key k → IsWhole log pending kept faults steadfast old → IsWhole log pending kept faults steadfast new
-  kept_whole k (Ok done) puts refused sound whole =
-      whole_stock new whole (bins_kept log.base log.edits (bins_in old) (bins_in new) b key (thing_of k) puts.bins (good_kept log.base log.edits key k sound) whole.is_hall.entries)
-  kept_whole k (Err e) puts refused sound whole = subst (IsWhole log pending kept faults steadfast) (sym refused) whole
+  pub kept_bins : {E : Type 0} (k : Placed) (result : Result (Unit {0}) E) → OnOk result (Puts old new b key k) → OnErr result (new ≡ old)
+      → IsSoundKept meaning base log key k → AreSound base log (bins_in old) → AreSound base log (bins_in new)
+  kept_bins k (Ok done) puts refused sound are = bins_kept base log (bins_in old) (bins_in new) b key (thing_of k) puts.bins (good_kept base log key k sound) are
+  kept_bins k (Err e) puts refused sound are = subst (λ (s : Stock). AreSound base log (bins_in s)) (sym refused) are

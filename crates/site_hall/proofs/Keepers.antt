@@ -1,7 +1,6 @@
--- A hall with another keeper of what was loaded, where nothing was edited.
+-- An engine with another keeper of what was loaded, where nothing was edited.
 use Rattle.std.proofs.Common.{◌≡◌, ◌∙◌, ℕ, Bool, List, [], Option, None, ap, sym, subst, refl}
 use Rattle.std.specs.Prelude.{option_map}
-use Rattle.content_state.specs.State.{State}
 use Rattle.content_state.specs.Replay.{replay}
 use Rattle.content_state.specs.declared.commit.Commit.{Commit}
 use Rattle.site_keeper.specs.Keeper.{Kept, IfTold}
@@ -13,7 +12,7 @@ use Rattle.site_hall.specs.Opened.{opened_in}
 use Rattle.site_hall.specs.Within.{view_of, told_before, IsWhole}
 use Rattle.site_hall.proofs.Halls.{hall_of, opened_hall, opened_view, whole_none}
 
--- it is a hall as it is opened
+-- it is an engine as it is opened
 pub kept_by : (log : Log) (pending : Option Made) (kept : Option Kept) (faults : ℕ) (steadfast : Bool) (stock : Stock)
     → log.edits ≡ [] → option_map (λ (made : Made). made.commit) pending ≡ None → IfTold kept (λ held. held ≡ stored_of log.base)
     → view_of log pending kept faults steadfast stock ≡ opened_in stock (stored_of log.base) kept faults steadfast

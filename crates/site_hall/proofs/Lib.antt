@@ -5,6 +5,8 @@ pub mod Verdicts
 pub mod Halls
 pub mod Keepers
 pub mod Readiness
+pub mod Sides
+pub mod Wholes
 pub mod Sublists
 pub mod Callers
 pub mod Crossing

@@ -1,5 +1,5 @@
 -- The states that the edits of a log make, and a log with one edit more.
-use Rattle.std.proofs.Common.{◌≡◌, ◌∙◌, ◌≤◌, ◌<◌, ◌++◌, ◌⊎◌, ℕ, List, [], ◌∷◌, length, take, ap, sym, subst, refl, inl, inr, arith, length-append}
+use Rattle.std.proofs.Common.{◌≡◌, ◌∙◌, ◌≤◌, ◌<◌, ◌++◌, ◌⊎◌, ℕ, List, [], ◌∷◌, Option, None, Some, length, take, ap, sym, subst, refl, inl, inr, arith, length-append}
 use Rattle.std.specs.Prelude.{All}
 use Rattle.std.proofs.Math.Seq.{take-length, take-append_seam}
 use Rattle.std.proofs.lemmas.List.{take-append-le, take_all}
@@ -8,15 +8,11 @@ use Rattle.content_state.specs.State.{State}
 use Rattle.content_state.specs.Replay.{step, replay, IsCommit}
 use Rattle.content_state.specs.SiteRules.{IsValidState}
 use Rattle.content_state.specs.declared.commit.Commit.{Commit}
+use Rattle.site_keeper.specs.Keeping.{with_pending}
+use Rattle.site_keeper.proofs.Keeping.{number_after}
 use Rattle.site_house.specs.History.{newest_of}
 use Rattle.site_house.specs.House.{AreValid}
 use Rattle.site_hall.specs.Log.{Log, Made, IsLog, IsNext}
-
--- each edit adds one to the number
-pub number_after : (base : State) (log : List Commit) → (replay base log).number ≡ newest_of base log
-unfolding replay step
-number_after base [] = omega arith
-number_after base (c ∷ cs) = let rest = number_after (step base c) cs in omega arith
 
 pub replay_more : (base : State) (log : List Commit) (c : Commit) → replay base (log ++ c ∷ []) ≡ step (replay base log) c
 unfolding replay
@@ -73,6 +69,11 @@ valid_front base log c valid = record {
   where
     within : (count : ℕ) → (count ≤ length log) ⊎ (length log < count)
     within count = grind arith
+
+-- without the edit that is pending, if one is
+pub valid_without : (base : State) (log : List Commit) (pending : Option Commit) → AreValid base (with_pending log pending) → AreValid base log
+valid_without base log None valid = valid
+valid_without base log (Some c) valid = valid_front base log c valid
 
 pub valid_newest : (base : State) (log : List Commit) → AreValid base log → IsValidState (replay base log)
 valid_newest base log valid = subst (λ (l : List Commit). IsValidState (replay base l)) (take-length log) (valid.states (length log))

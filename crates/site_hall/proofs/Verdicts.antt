@@ -1,5 +1,5 @@
 -- What an accepted edit tells: its log has a place for it, and no tag that it invalidates has a count that cannot be raised.
-use Rattle.std.proofs.Common.{◌≡◌, ◌+◌, ◌<◌, ℕ, Bool, true, false, List, [], ◌∷◌, Option, Some, None, length, sym, subst, refl, arith}
+use Rattle.std.proofs.Common.{◌≡◌, ◌+◌, ◌<◌, ℕ, Bool, true, false, List, [], ◌∷◌, Option, Some, None, sym, subst, refl, arith}
 use Rattle.std.specs.Prelude.{nat_le, option_map, unwrap_or, is_some, if◌then◌else◌}
 use Rattle.std.proofs.lemmas.Bool.Decides.{nat_tests}
 use Rattle.cacheability.specs.declared.op.Op.TheVariants as op
@@ -10,7 +10,6 @@ use Rattle.content_rows.specs.declared.row.Row.{Row}
 use Rattle.content_rows.specs.declared.row.Row.TheVariants as row
 use Rattle.content_rows.specs.declared.row.User.{User}
 use Rattle.content_state.specs.State.{State}
-use Rattle.content_state.specs.Replay.{replay}
 use Rattle.content_state.specs.Viewer.{viewer_of}
 use Rattle.indexed_rows.specs.Rows.{seq_of, type_of, user_of, term_of, node_of, session_of, row_at}
 use Rattle.content_state.specs.declared.ask.Ask.{Ask}
@@ -21,7 +20,7 @@ use Rattle.json_keys.specs.declared.checked.Checked.{Checked}
 use Rattle.json_keys.specs.declared.checked.Checked.TheVariants as checked
 use Rattle.site_access.specs.Access.{access_to_node}
 use Rattle.site_commands.specs.Causes.{Decision, Accepted, Refused, unless, decided, where_true, unless_allowed, needs, of_body, of_target, set, removed, commit_of, accepted}
-use Rattle.site_commands.specs.Judged.{judged, log_limit, in_log, unguarded}
+use Rattle.site_commands.specs.Judged.{log_limit, in_log, unguarded}
 use Rattle.site_commands.specs.Verdict.{verdict}
 use Rattle.site_commands.specs.Nodes as nodes
 use Rattle.site_commands.specs.Terms as terms
@@ -43,6 +42,7 @@ use Rattle.site_commands.specs.declared.command.UserChange.{UserChange}
 use Rattle.site_commands.specs.declared.command.ConfigKind.{ConfigKind}
 use Rattle.site_commands.specs.declared.command.Command.{Command}
 use Rattle.site_commands.specs.declared.command.Command.TheVariants as command
+use Rattle.site_hall.specs.Accepted.{judged_at}
 
 -- ---- no count is full
 
@@ -205,7 +205,7 @@ pub none_full : (state : State) (viewer : Viewer) (asked : Command) (now pass : 
 unfolding RaisesAll
 none_full state viewer asked now pass commit done accepts = subst (RaisesAll state) accepts (verdict_raises state viewer asked now pass)
 
--- ---- what is accepted on a log
+-- ---- what is accepted in a log
 
 of_guard : (guard : Option Refusal) (decision : Decision) (commit : Commit) (done : Done) → unless guard decision ≡ Accepted commit done → decision ≡ Accepted commit done
 of_guard None decision commit done is = is
@@ -234,13 +234,12 @@ of_log count (Accepted c d) commit done is = go (nat_le log_limit count) refl is
         never is = cc
     go false of_count is = (is, grind (arith, nat_tests))
 
-pub accepted_in : (base : State) (log : List Commit) (ask : Ask) (csrf : Option (List ℕ)) (asked : Command) (now pass : ℕ) (commit : Commit) (done : Done)
-    → judged base log ask csrf asked now pass ≡ Accepted commit done
-    → IsAcceptedIn (replay base log) (length log) (viewer_of (replay base log).rows ask.cookie now) asked now pass commit done
-unfolding judged
-accepted_in base log ask csrf asked now pass commit done is =
-    let state = replay base log in
+pub accepted_at : (state : State) (count : ℕ) (ask : Ask) (csrf : Option (List ℕ)) (asked : Command) (now pass : ℕ) (commit : Commit) (done : Done)
+    → judged_at state count ask csrf asked now pass ≡ Accepted commit done
+    → IsAcceptedIn state count (viewer_of state.rows ask.cookie now) asked now pass commit done
+unfolding judged_at
+accepted_at state count ask csrf asked now pass commit done is =
     let viewer = viewer_of state.rows ask.cookie now in
-    let both = of_log (length log) (verdict state viewer asked now pass) commit done
-    (of_guard (unguarded viewer.session csrf) (in_log (length log) (verdict state viewer asked now pass)) commit done is) in
+    let both = of_log count (verdict state viewer asked now pass) commit done
+    (of_guard (unguarded viewer.session csrf) (in_log count (verdict state viewer asked now pass)) commit done is) in
     record { accepts = both.0; short = both.1 }

@@ -1,8 +1,8 @@
--- The hall of a site: the one place where its edits are judged, kept and published, one after the other, and where what is
--- kept of its pages lies.
+-- The engine of a site, which is a hall with its desk: the one place where its edits are judged, kept and published, one after the
+-- other, and where what is kept of its pages lies.
 use Rattle.std.specs.Prelude.{ℕ, List, [], ◌∷◌, ◌++◌, ◌≡◌, ◌+◌, ◌==◌, ◌⊎◌, Bool, true, false, Option, Some, None, if◌then◌else◌}
 use Rattle.content_state.specs.State.{State}
-use Rattle.content_state.specs.Replay.{step, replay}
+use Rattle.content_state.specs.Replay.{replay}
 use Rattle.content_state.specs.declared.ask.Ask.{Ask}
 use Rattle.content_state.specs.declared.commit.Commit.{Commit}
 use Rattle.site_commands.specs.Causes.{Accepted, Refused}
@@ -12,21 +12,21 @@ use Rattle.site_commands.specs.declared.answer.Answer.TheVariants as answer
 use Rattle.site_commands.specs.declared.answer.Done.{Done}
 use Rattle.site_commands.specs.declared.answer.Refusal.{Refusal}
 use Rattle.site_commands.specs.declared.command.Command.{Command}
-use Rattle.site_keeper.specs.Batch.{Batch}
 use Rattle.site_keeper.specs.Keeper.{Kept, IfTold, and_batch}
-use Rattle.site_keeper.specs.Steps.{stored_of, batch_of}
+use Rattle.site_keeper.specs.Steps.{batch_of}
+use Rattle.site_keeper.specs.Keeping.{with_pending, HoldsState, KeepsFor}
 use Rattle.site_house.specs.History.{newest_of}
 use Rattle.site_house.specs.House.{AreValid, CountRose}
 use Rattle.site_hall.specs.Stock.{Stock, bins_in, AreSound}
 
--- all that contracts see of a hall
+-- all that contracts see of an engine: a hall and its desk
 pub record HallView : Type 0 where
   -- the state that was loaded, and the edits that were published since, the first one first
   pub base : State
   pub log : List Commit
   -- an edit that the keeper failed to keep, or kept and didn't say so: the next edit settles which
   pub pending : Option Commit
-  -- what the keeper told when the hall was made, and what it tells now, where it tells
+  -- what the keeper told when the engine was made, and what it tells now, where it tells
   pub opened : Option Kept
   pub kept : Option Kept
   -- how often the keeper has failed, up to the greatest u64, and whether it tells that it never fails
@@ -35,7 +35,7 @@ pub record HallView : Type 0 where
   -- what is kept of pages, and how often it was looked for, found and kept
   pub stock : Stock
 
--- the hall with something else kept of pages
+-- the engine with something else kept of pages
 abbrev pub with_stock : HallView → Stock → HallView
 with_stock hall stock = record hall { stock = stock }
 
@@ -43,34 +43,15 @@ with_stock hall stock = record hall { stock = stock }
 abbrev pub number_of : HallView → ℕ
 number_of hall = newest_of hall.base hall.log
 
--- ---- what the keeper holds
+-- ---- what always holds
 
--- the batches of the edits of a log, one after the other
-abbrev pub batches_of : State → List Commit → List Batch
-batches_of state [] = []
-batches_of state (commit ∷ commits) = batch_of state commit ∷ batches_of (step state commit) commits
-
--- what is told once these batches more are kept
-abbrev pub and_batches : Option Kept → List Batch → Option Kept
-and_batches kept [] = kept
-and_batches kept (batch ∷ batches) = and_batches (and_batch kept batch) batches
-
--- the keeper has kept the edits of this log since the hall was made, and no others
-abbrev pub HasKept : HallView → List Commit → Type 0
-HasKept hall log = hall.kept ≡ and_batches hall.opened (batches_of hall.base log)
-
--- the edits that were published and the one that is pending
-abbrev pub with_pending : List Commit → Option Commit → List Commit
-with_pending log None = log
-with_pending log (Some commit) = log ++ commit ∷ []
-
--- What always holds of a hall: each state that its edits make of the loaded one is valid, that of the pending edit
+-- What always holds of an engine: each state that its edits make of the loaded one is valid, that of the pending edit
 -- too; where the keeper told what was loaded, it has kept just the published edits, or the pending one besides; and each
 -- entry that is kept of pages is sound over the published edits.
 pub record IsHall (hall : HallView) : Type 0 where
   pub valid : AreValid hall.base (with_pending hall.log hall.pending)
-  pub keeps : HasKept hall hall.log ⊎ HasKept hall (with_pending hall.log hall.pending)
-  pub loaded : IfTold hall.opened (λ held. held ≡ stored_of hall.base)
+  pub keeps : KeepsFor hall.base hall.opened hall.kept hall.log hall.pending
+  pub loaded : HoldsState hall.opened hall.base
   pub entries : AreSound hall.base hall.log (bins_in hall.stock)
 
 -- A keeper that tells that it never fails goes on to tell it, and its count of faults stays.
@@ -80,7 +61,7 @@ pub record StaysSteadfast (old new : HallView) : Type 0 where
 
 -- ---- what becomes of an edit
 
--- The hall once the keeper has told its number: the pending edit is published exactly where the number is that of the
+-- The engine once the keeper has told its number: the pending edit is published exactly where the number is that of the
 -- state that it makes, and else forgotten.
 abbrev pub settled_by : HallView → ℕ → Option Commit → HallView
 settled_by hall head None = hall
@@ -95,7 +76,7 @@ pub record Settles (old new : HallView) : Type 0 where
   pub held_is : IfTold old.kept (λ held. head ≡ held.head)
   pub settled : new ≡ settled_by old head old.pending
 
--- the judgement of an edit on the newest state of a hall
+-- the judgement of an edit on the newest state of an engine
 abbrev pub IsAcceptedOn : HallView → Ask → Option (List ℕ) → Command → ℕ → ℕ → Commit → Done → Type 0
 IsAcceptedOn hall ask csrf command now pass commit done = judged hall.base hall.log ask csrf command now pass ≡ Accepted commit done
 

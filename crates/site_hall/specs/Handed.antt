@@ -1,4 +1,4 @@
--- What becomes of an edit that a caller hands in, who has a hall for itself.
+-- What becomes of an edit that a caller hands in, who has an engine for itself.
 use Rattle.std.specs.Prelude.{[], ◌∷◌, ◌++◌, ◌≡◌}
 use Rattle.content_state.specs.declared.commit.Commit.{Commit}
 use Rattle.site_keeper.specs.Batch.{Batch}
@@ -8,7 +8,7 @@ use Rattle.site_hall.specs.Hall.{HallView}
 use Rattle.site_hall.specs.Ready.{IsPending}
 use Rattle.site_hall.specs.Alone.{AloneView}
 
--- the hall is another one, and an edit more was handed in
+-- the engine is another one, and an edit more was handed in
 abbrev pub handed_in : AloneView → HallView → Commit → AloneView
 handed_in alone hall commit = record alone { hall = hall; handed = alone.handed ++ commit ∷ [] }
 

@@ -2,10 +2,12 @@ pub mod Log
 pub mod ReadyEdit
 pub mod Stock
 pub mod Hall
+pub mod Sides
 pub mod Looked
 pub mod Within
 pub mod Opened
 pub mod Stopped
+pub mod Accepted
 pub mod Ready
 pub mod Alone
 pub mod Handed

@@ -1,4 +1,4 @@
--- A hall as it is opened, and what comes back where none is.
+-- An engine as it is opened, and what comes back where none is.
 use Rattle.std.specs.Prelude.{ℕ, [], ◌≡◌, Bool, Option, Some, None}
 use Rattle.std.specs.NonZero.{non_zero_usize_get}
 use Rattle.std.specs.Option.{ForSome}

@@ -1,8 +1,7 @@
 -- An accepted edit, with all that it takes to keep and to publish it, and what becomes of it then.
-use Rattle.std.specs.Prelude.{ℕ, List, [], ◌∷◌, ◌++◌, ◌≡◌, ◌<◌, ◌⊎◌, length, Option, Some, None}
+use Rattle.std.specs.Prelude.{ℕ, List, [], ◌∷◌, ◌++◌, ◌≡◌, ◌⊎◌, length, Option, Some, None}
 use Rattle.content_state.specs.State.{State}
-use Rattle.content_state.specs.Replay.{step, replay, IsCommit}
-use Rattle.content_state.specs.SiteRules.{IsValidState}
+use Rattle.content_state.specs.Replay.{replay}
 use Rattle.content_state.specs.declared.ask.Ask.{Ask}
 use Rattle.site_commands.specs.Causes.{Refused}
 use Rattle.site_commands.specs.Judged.{judged}
@@ -13,22 +12,19 @@ use Rattle.site_keeper.specs.declared.fault.KeeperFault.{KeeperFault}
 use Rattle.site_keeper.specs.declared.fault.KeeperFault.TheVariants as keeper_fault
 use Rattle.site_house.specs.House.{CountRose}
 use Rattle.site_hall.specs.Hall.{HallView, Settles, IsAcceptedOn, FailsHead, Starves}
-use Rattle.site_hall.specs.ReadyEdit.{Ready, ready_of}
+use Rattle.site_hall.specs.ReadyEdit.{Ready}
+use Rattle.site_hall.specs.Accepted.{MayFollow}
 use Rattle.site_hall.specs.declared.stop.Stop.{Stop}
 use Rattle.site_hall.specs.declared.stop.Stop.TheVariants as stop
 
--- the newest state of a hall
+-- the newest state of an engine
 abbrev pub newest_of_hall : HallView → State
 newest_of_hall hall = replay hall.base hall.log
 
--- An edit may be kept and published next: nothing is pending, it is one of the newest state, which it leaves valid, and the
--- log has a place for it.
+-- An edit may be kept and published next: nothing is pending, and it may follow the newest state.
 pub record MayBeNext (hall : HallView) (ready : Ready) : Type 0 where
   pub none_pending : hall.pending ≡ None
-  pub of_newest : ready ≡ ready_of (newest_of_hall hall) ready.batch.commit ready.done
-  pub short : length hall.log < 1000000
-  pub is_commit : IsCommit ready.batch.commit
-  pub valid : IsValidState (step (newest_of_hall hall) ready.batch.commit)
+  pub follows : MayFollow (newest_of_hall hall) (length hall.log) ready
 
 -- what was asked for is accepted, and may be kept and published next
 pub record IsReady (hall : HallView) (ask : Ask) (csrf : Option (List ℕ)) (command : Command) (now pass : ℕ) (ready : Ready) : Type 0 where
@@ -53,7 +49,7 @@ Stops (stop.Refused refusal) old new ask csrf command now pass =
 Stops stop.Failed old new ask csrf command now pass = FailsHead old new × CountRose old.faults new.faults
 Stops stop.OutOfMemory old new ask csrf command now pass = Starves old new
 
--- the same, once it is settled, of a hall that stays
+-- the same, once it is settled, of an engine that stays
 abbrev pub IsUnready : Stop → HallView → Ask → Option (List ℕ) → Command → ℕ → ℕ → Type 0
 IsUnready (stop.Refused refusal) hall ask csrf command now pass =
     judged hall.base hall.log ask csrf command now pass ≡ Refused refusal
@@ -62,7 +58,7 @@ IsUnready stop.OutOfMemory hall ask csrf command now pass = Unit {0}
 
 -- ---- what becomes of it
 
--- the hall once an edit is kept and published
+-- the engine once an edit is kept and published
 abbrev pub published : HallView → Batch → HallView
 published hall batch = record hall { log = hall.log ++ batch.commit ∷ []; kept = and_batch hall.kept batch }
 

@@ -1,4 +1,4 @@
-//! A caller that has a hall for itself.
+//! A caller that has an engine for itself.
 ghost use Rattle.std.specs.Prelude.{◌≡◌, ◌≤◌, [], length, None, IfErr, OnOk};
 ghost use Rattle.site_house.specs.House.{AreOwn, up};
 ghost use Rattle.site_hall.specs.Ready.{MayBeNext, published};
@@ -7,7 +7,7 @@ ghost use Rattle.site_hall.specs.Hall.{StaysSteadfast};
 ghost use Rattle.site_hall.specs.Handed.{handed_in, LeavesHanded};
 
 use crate::edit::SharedEdit;
-use crate::hall::Hall;
+use crate::engine::Engine;
 use crate::making::Ready;
 use crate::stop::Stop;
 use cache_entries::{Bin, Found, Kept, Key};
@@ -19,12 +19,12 @@ use std::alloc::{AllocError, Global};
 use std::marker::Model;
 use std::sync::Arc;
 
-/// A caller that has a hall for itself, as a house: it has seen all that the hall published. Its edits bear the number 0.
-/// Contracts see the hall, how many edits its log had when the caller came, the edits that the caller handed in, how often
+/// A caller that has an engine for itself, as a house: it has seen all that the engine published. Its edits bear the number 0.
+/// Contracts see the engine, how many edits its log had when the caller came, the edits that the caller handed in, how often
 /// it was told that the keeper failed, and how often something that it had to keep wasn't kept.
 #[derive(Drop)]
 pub struct Alone<K: Keeper> {
-    hall: Hall<K>,
+    hall: Engine<K>,
     opened: usize,
     handed: Vec<SharedEdit>,
     keepers: u64,
@@ -42,8 +42,8 @@ impl<K: Keeper> Model for Alone<K> {
 }
 
 impl<K: Keeper> Alone<K> {
-    /// The caller of this hall, where nothing is pending. It handed nothing in yet.
-    pub fn new(alloc: Global, hall: Hall<K>) -> Alone<K>
+    /// The caller of this engine, where nothing is pending. It handed nothing in yet.
+    pub fn new(alloc: Global, hall: Engine<K>) -> Alone<K>
         requires { hall.pending ≡ None }
         ensures alone { result ≡ record { hall = hall; opened = length hall.log; handed = []; keepers = 0; unkept = 0 } }
         ensures is_alone { IsAlone result }
@@ -67,8 +67,8 @@ impl<K: Keeper> Alone<K> {
         self.handed.len()
     }
 
-    /// The hall, as it is.
-    pub fn into_hall(self) -> Hall<K>
+    /// The engine, as it is.
+    pub fn into_hall(self) -> Engine<K>
         ensures hall { result ≡ self.hall }
         ensures is_alone { IsAlone self }
     {

@@ -1,251 +1,118 @@
 //! The hall of a site.
-ghost use Rattle.std.specs.Prelude.{◌≡◌, ◌≤◌, ◌<◌, ◌^◌, [], length, Some, None, is_some, IfOk, OnOk, IfErr};
+ghost use Rattle.std.specs.Prelude.{◌≡◌, ◌<◌, ◌^◌, length, None, true, IfOk, OnOk, IfErr, OnErr};
 ghost use Rattle.std.specs.Arc.{arc_value};
-ghost use Rattle.std.specs.Option.{option_copied};
-ghost use Rattle.content_rows.specs.Kinds.{IsMoment};
-ghost use Rattle.content_state.specs.Replay.{replay};
-ghost use Rattle.indexed_rows.specs.Rows.{AreValidRows};
-ghost use Rattle.content_state.specs.SiteRules.{IsRefusal};
-ghost use Rattle.site_commands.specs.Right.{IsRight};
-ghost use Rattle.site_keeper.specs.Keeper.{IfTold};
-ghost use Rattle.site_keeper.specs.Steps.{stored_of};
-ghost use Rattle.site_hall.specs.Stock.{bins_in, tally_in, AreSound};
-ghost use Rattle.site_hall.specs.Hall.{IsHall, StaysSteadfast, Settles, Answers, Tells, number_of, settled_by};
-ghost use Rattle.site_hall.specs.Opened.{state_in, stock_in, opened_in, opened_with, IsBack};
-ghost use Rattle.site_hall.specs.Looked.{IsSoundIn, MayBeKept, LooksUp, KeepsUnder};
-ghost use Rattle.site_hall.specs.Ready.{IsReady, IsReadyAfter, MayBeNext, LeavesPending, Stops, IsUnready, published, LeavesReady};
+ghost use Rattle.content_state.specs.SiteRules.{IsValidState};
+ghost use Rattle.cache_entries.specs.Sound.{IsSoundKept, IsSoundFound};
+ghost use Rattle.page_meaning.specs.Meaning.{meaning};
+ghost use Rattle.site_keeper.specs.Steps.{batch_of};
+ghost use Rattle.site_hall.specs.Stock.{tally_in};
+ghost use Rattle.site_hall.specs.Looked.{LooksUp, KeepsUnder};
+ghost use Rattle.site_hall.specs.Accepted.{IsAskedFor};
+ghost use Rattle.site_hall.specs.Within.{side_of, IsWholeSide};
+ghost use Rattle.site_hall.specs.Sides.{newest_at, IsHallSide, with_shelves, announced, settled_side, with_batch_pending, none_pending, OnePending, TellsKept};
 
+use crate::desk::Desk;
 use crate::edit::Made;
-use crate::judging::judged;
 use crate::log::Log;
-use crate::making::{Ready, made_ready};
-use crate::stock::{Rooms, Stock};
-use crate::stop::Stop;
+use crate::making::Ready;
+use crate::stock::Stock;
 use crate::tally::Tally;
 use cache_entries::{Bin, Found, Kept, Key};
-use content_state::{Ask, Refusal, Refused, State};
-use edit_laws::{verdicts_keep_valid, viewers_are_there};
-use site_commands::{Answer, Command, Verdict};
-use site_keeper::{Batch, Keeper, KeeperFault, Stored};
+use content_state::State;
+use site_keeper::Keeper;
 use std::alloc::{AllocError, AllocFailed, Global};
 use std::marker::Model;
 use std::sync::Arc;
 
-/// The hall of a site: its edits are judged on the newest state, kept by the keeper of the rows, and then published, one
-/// after the other. Contracts see the state that was loaded, the edits that were published since, an edit that the keeper
-/// failed to keep, or kept and didn't say so, and what the keeper tells.
-pub struct Hall<K: Keeper> {
+/// The hall of a site, which every caller reads: the published edits, the newest state, and what is kept of pages. An edit is first
+/// announced, which takes all memory that publishing it needs; then it is kept at the desk; then it is published. So no call of the
+/// hall waits for the keeper.
+pub struct Hall {
     log: Log,
     pending: Option<Made>,
     stock: Stock,
-    keeper: K,
 }
 
-impl<K: Keeper + Drop> Drop for Hall<K> {
+impl Drop for Hall {
     fn drop(self) {
         let Hall {
             log: _,
             pending: _,
             stock: _,
-            keeper: _,
         } = self;
     }
 }
 
-impl<K: Keeper> Model for Hall<K> {
-    ghost use Rattle.site_hall.specs.Hall.{HallView};
+impl Model for Hall {
+    ghost use Rattle.site_hall.specs.Sides.{HallSide};
+    ghost use Rattle.site_hall.specs.Within.{side_of, IsWholeSide};
 
-    ghost Value = { HallView };
+    ghost Value = { HallSide };
 
-    ghost use Rattle.site_hall.specs.Within.{view_of, IsWhole};
+    ghost view = { λ h. side_of h.log h.pending h.stock };
 
-    ghost view = { λ h. view_of h.log h.pending (K.kept h.keeper) (K.faults h.keeper) (K.steadfast h.keeper) h.stock };
-
-    ghost invariant = { λ h. IsWhole h.log h.pending (K.kept h.keeper) (K.faults h.keeper) (K.steadfast h.keeper) h.stock };
+    ghost invariant = { λ h. IsWholeSide h.log h.pending h.stock };
 }
 
-/// Why there is no hall of what a keeper holds. The keeper comes back, and what was to be loaded, unless memory was wanting
-/// once that was found to be a site.
-#[derive(Drop)]
-pub struct NoHall<K> {
-    pub keeper: K,
-    pub stored: Option<Stored>,
-    pub why: Refusal,
-}
-
-impl<K: Keeper> Hall<K> {
-    /// The hall of what a keeper holds: rows, each of which is right by itself, counts and a number. They are refused where
-    /// they are no site, and where memory is wanting, as by `State::from_rows`. No edit is published yet, and none is
-    /// pending. Nothing is kept of pages yet, and the bins have the program's room.
-    pub fn new(alloc: Global, keeper: K, stored: Stored) -> Result<Hall<K>, NoHall<K>>
-        requires told { IfTold (K.kept keeper) (λ held. held ≡ stored) }
-        requires rows { AreValidRows stored.rows }
-        ensures opened { IfOk result (λ hall. hall ≡ opened_with stored (K.kept keeper) (K.faults keeper) (K.steadfast keeper)) }
-        ensures is_hall { IfOk result (λ hall. IsHall hall) }
-        ensures small { IfOk result (λ _. stored.head ≤ 2 ^ 62) }
-        ensures refused { IfErr result (λ none. IsRefusal stored.rows stored.head none.why) }
-        ensures keeper_back { IfErr result (λ none. none.keeper ≡ keeper) }
-        ensures stored_back { IfErr result (λ none. IsBack none.why none.stored stored) }
+impl Hall {
+    /// The hall of these parts.
+    pub(crate) fn of_parts(log: Log, pending: Option<Made>, stock: Stock) -> Hall
+        requires { IsWholeSide log pending stock }
+        ensures hall { result ≡ side_of log pending stock }
+        ensures is_hall { IsHallSide result }
     {
-        Hall::with_rooms(alloc, keeper, stored, Rooms::of_program())
-    }
-
-    /// The same, where the bins have so much room.
-    pub fn with_rooms(
-        alloc: Global,
-        keeper: K,
-        stored: Stored,
-        rooms: Rooms,
-    ) -> Result<Hall<K>, NoHall<K>>
-        requires told { IfTold (K.kept keeper) (λ held. held ≡ stored) }
-        requires rows { AreValidRows stored.rows }
-        ensures opened { IfOk result (λ hall. hall ≡ opened_in (stock_in rooms) stored (K.kept keeper) (K.faults keeper) (K.steadfast keeper)) }
-        ensures is_hall { IfOk result (λ hall. IsHall hall) }
-        ensures small { IfOk result (λ _. stored.head ≤ 2 ^ 62) }
-        ensures refused { IfErr result (λ none. IsRefusal stored.rows stored.head none.why) }
-        ensures keeper_back { IfErr result (λ none. none.keeper ≡ keeper) }
-        ensures stored_back { IfErr result (λ none. IsBack none.why none.stored stored) }
-    {
-        match Stock::new(alloc, rooms) {
-            Ok(stock) => Hall::opened(alloc, keeper, stored, stock),
-            Err(_) => Err(NoHall {
-                keeper,
-                stored: Some(stored),
-                why: Refusal::OutOfMemory,
-            }),
+        Hall {
+            log,
+            pending,
+            stock,
         }
     }
 
-    /// The hall of what a keeper holds, with what is kept of pages.
-    fn opened(alloc: Global, keeper: K, stored: Stored, stock: Stock) -> Result<Hall<K>, NoHall<K>>
-        requires told { IfTold (K.kept keeper) (λ held. held ≡ stored) }
-        requires rows { AreValidRows stored.rows }
-        requires entries { AreSound (state_in stored) [] (bins_in stock) }
-        ensures opened { IfOk result (λ hall. hall ≡ opened_in stock stored (K.kept keeper) (K.faults keeper) (K.steadfast keeper)) }
-        ensures is_hall { IfOk result (λ hall. IsHall hall) }
-        ensures small { IfOk result (λ _. stored.head ≤ 2 ^ 62) }
-        ensures refused { IfErr result (λ none. IsRefusal stored.rows stored.head none.why) }
-        ensures keeper_back { IfErr result (λ none. none.keeper ≡ keeper) }
-        ensures stored_back { IfErr result (λ none. IsBack none.why none.stored stored) }
+    /// What it is made of.
+    pub(crate) fn into_parts(self) -> (Log, Option<Made>, Stock)
+        ensures parts { side_of result.0 result.1 result.2 ≡ self }
+        ensures whole { IsWholeSide result.0 result.1 result.2 }
     {
-        let Stored { rows, counts, head } = stored;
-        let base = match State::from_rows(alloc, rows, counts, head) {
-            Ok(base) => base,
-            Err(Refused { rows, counts, why }) => {
-                let stored = Some(Stored { rows, counts, head });
-                return Err(NoHall {
-                    keeper,
-                    stored,
-                    why,
-                });
-            }
-        };
-        match Log::new(alloc, base) {
-            Ok(log) => Ok(Hall {
-                log,
-                pending: None,
-                stock,
-                keeper,
-            }),
-            Err(_) => Err(NoHall {
-                keeper,
-                stored: None,
-                why: Refusal::OutOfMemory,
-            }),
-        }
+        let Hall {
+            log,
+            pending,
+            stock,
+        } = self;
+        (log, pending, stock)
     }
 
-    /// The newest state: that of all edits that were published. It is valid. `Err` only where memory is wanting.
+    /// The newest state: that of all edits that were published. It is valid, and one more than its number is a u64 too. `Err` only
+    /// where memory is wanting.
     pub fn snapshot(&self, _alloc: Global) -> Result<Arc<State>, AllocError>
-        ensures { IfOk result (λ state. arc_value state ≡ replay self.now.base self.now.log) }
+        ensures state { IfOk result (λ state. arc_value state ≡ newest_at self.now) }
+        ensures valid { IfOk result (λ state. IsValidState (arc_value state)) }
+        ensures small { IfOk result (λ state. (arc_value state).number < 2 ^ 63) }
     {
         Arc::try_clone(self.log.newest())
     }
 
-    /// Makes an edit, which bears the number of the caller's pass. Where an edit is pending, the keeper is first asked for
-    /// its number: the pending edit is published exactly where that is the number of the state that it makes, and else
-    /// forgotten. Then the edit is judged on the newest state, for the viewer whom the cookie of the request names there at
-    /// this moment, in seconds since 1970, with the value that was sent to guard the forms of a session. An accepted one is
-    /// kept, and then published.
-    ///
-    /// `Done` and `Refused` tell the number of the newest state. `Keeper` only where the keeper failed in this call: at
-    /// its number nothing changes; at the edit that is pending then. `OutOfMemory` where memory is wanting: nothing of the
-    /// edit is kept.
-    pub fn commit(
-        &mut self,
-        alloc: Global,
-        ask: &Ask,
-        csrf: Option<&[u8]>,
-        command: &Command,
-        now: u64,
-        pass: u32,
-    ) -> Answer
-        requires right { IsRight command.now }
-        requires moment { IsMoment now }
-        ensures answers { Answers result self.old self.new ask.now (option_copied csrf.entry) command.now now pass }
-        ensures is_hall { IsHall self.new }
-        ensures never_falls { self.old.faults ≤ self.new.faults }
-        ensures steadfast { StaysSteadfast self.old self.new }
+    /// How many edits were published. What always holds of a hall holds.
+    pub fn len(&self) -> usize
+        ensures len { result ≡ length self.now.log }
+        ensures is_hall { IsHallSide self.now }
     {
-        let (answer, _) = self.commit_and_tell(alloc, ask, csrf, command, now, pass);
-        answer
+        self.log.len()
     }
 
-    /// Makes an edit as `commit` does, and tells whether it was handed to the keeper, which then didn't refuse it for want of
-    /// memory: it was at `Done`, it wasn't at `Refused` and `OutOfMemory`, and at `Keeper` it was where the keeper failed at
-    /// the edit.
-    pub fn commit_and_tell(
-        &mut self,
-        alloc: Global,
-        ask: &Ask,
-        csrf: Option<&[u8]>,
-        command: &Command,
-        now: u64,
-        pass: u32,
-    ) -> (Answer, bool)
-        requires right { IsRight command.now }
-        requires moment { IsMoment now }
-        ensures answers { Answers result.0 self.old self.new ask.now (option_copied csrf.entry) command.now now pass }
-        ensures tells { Tells result.0 result.1 self.old self.new ask.now (option_copied csrf.entry) command.now now pass }
-        ensures is_hall { IsHall self.new }
-        ensures never_falls { self.old.faults ≤ self.new.faults }
-        ensures steadfast { StaysSteadfast self.old self.new }
+    /// How often something was looked for among what is kept of pages, found there, and kept.
+    pub fn tally(&self) -> Tally
+        ensures { result ≡ tally_in self.now.stock }
     {
-        match self.prepare(alloc, ask, csrf, command, now, pass) {
-            Ok(ready) => {
-                let done = ready.done;
-                match self.keep_edit(alloc, ready) {
-                    Ok(()) => (Answer::Done(done, self.number()), true),
-                    Err(KeeperFault::Failed) => (Answer::Keeper, true),
-                    Err(KeeperFault::OutOfMemory) => (Answer::OutOfMemory, false),
-                }
-            }
-            Err(Stop::Refused(refusal)) => (Answer::Refused(refusal, self.number()), false),
-            Err(Stop::Failed) => (Answer::Keeper, false),
-            Err(Stop::OutOfMemory) => (Answer::OutOfMemory, false),
-        }
-    }
-
-    /// How often the keeper has failed, up to the greatest u64. It never falls.
-    pub fn faults(&self) -> u64
-        ensures { result ≡ self.now.faults }
-    {
-        self.keeper.faults()
-    }
-
-    /// Whether an edit is pending: the keeper failed to keep it, or kept it and didn't say so.
-    pub fn pending(&self) -> bool
-        ensures { result ≡ is_some self.now.pending }
-    {
-        self.pending.is_some()
+        self.stock.tally()
     }
 
     /// What stands under a key in a bin, which then goes first there; an entry is sound over the published edits. The look is
     /// counted. `Err` only where memory is wanting, and then nothing changes.
     pub fn look(&mut self, _alloc: Global, bin: Bin, key: &Key) -> Result<Found, AllocError>
-        ensures looks { LooksUp result self.old self.new bin key.now }
-        ensures sound { IfOk result (λ found. IsSoundIn self.new key.now found) }
-        ensures is_hall { IsHall self.new }
+        ensures looks { LooksUp result self.old.stock self.new.stock bin key.now }
+        ensures beside { self.new ≡ with_shelves self.old self.new.stock }
+        ensures sound { IfOk result (λ found. IsSoundFound meaning self.new.base self.new.log key.now found) }
+        ensures is_hall { IsHallSide self.new }
     {
         self.stock.look(bin, key)
     }
@@ -260,165 +127,28 @@ impl<K: Keeper> Hall<K> {
         key: Key,
         kept: Kept,
     ) -> Result<(), AllocFailed<(Key, Kept)>>
-        requires { MayBeKept self.old key kept }
-        ensures keeps { KeepsUnder result self.old self.new bin key kept }
+        requires { IsSoundKept meaning self.old.base self.old.log key kept }
+        ensures keeps { KeepsUnder result self.old.stock self.new.stock bin key kept }
+        ensures beside { self.new ≡ with_shelves self.old self.new.stock }
         ensures back { IfErr result (λ f. f.value ≡ (key, kept)) }
-        ensures is_hall { IsHall self.new }
+        ensures is_hall { IsHallSide self.new }
     {
         self.stock.keep(bin, key, kept)
     }
 
-    /// How often something was looked for among what is kept of pages, found there, and kept.
-    pub fn tally(&self) -> Tally
-        ensures { result ≡ tally_in self.now.stock }
-    {
-        self.stock.tally()
-    }
-
-    /// The keeper, as it is.
-    pub fn into_keeper(self) -> K
-        ensures kept { K.kept result ≡ self.kept }
-        ensures faults { K.faults result ≡ self.faults }
-    {
-        let Hall {
-            log: _,
-            pending: _,
-            stock: _,
-            keeper,
-        } = self;
-        keeper
-    }
-
-    /// The hall with another keeper, which holds what was loaded, where no edit was published and none is pending; and the
-    /// keeper that it had. What is kept of pages stays.
-    pub fn with_keeper<L: Keeper>(self, keeper: L) -> (Hall<L>, K)
-        requires new { (self.log ≡ []) × (self.pending ≡ None) }
-        requires told { IfTold (L.kept keeper) (λ held. held ≡ stored_of self.base) }
-        ensures hall { result.0 ≡ opened_in self.stock (stored_of self.base) (L.kept keeper) (L.faults keeper) (L.steadfast keeper) }
-        ensures is_hall { IsHall result.0 }
-        ensures kept { K.kept result.1 ≡ self.kept }
-        ensures faults { K.faults result.1 ≡ self.faults }
-        ensures steadfast { K.steadfast result.1 ≡ self.steadfast }
-    {
-        let Hall {
-            log,
-            pending,
-            stock,
-            keeper: former,
-        } = self;
-        let hall = Hall {
-            log,
-            pending,
-            stock,
-            keeper,
-        };
-        (hall, former)
-    }
-
-    /// The number of the newest state.
-    pub(crate) fn number(&self) -> u64
-        ensures { result ≡ number_of self.now }
-    {
-        self.log.number()
-    }
-
-    /// How many edits were published. What always holds of a hall holds.
-    pub fn len(&self) -> usize
-        ensures len { result ≡ length self.now.log }
-        ensures is_hall { IsHall self.now }
-    {
-        self.log.len()
-    }
-
-    /// Settles what is pending, judges an edit, and makes what it takes to keep and to publish it.
-    pub(crate) fn prepare(
+    /// Announces an edit, which was accepted on the newest state: it is pending then, here and at the desk. All memory that it takes
+    /// to publish it is taken now. `Err` only where memory is wanting, and then nothing changes.
+    pub fn announce<K: Keeper>(
         &mut self,
-        alloc: Global,
-        ask: &Ask,
-        csrf: Option<&[u8]>,
-        command: &Command,
-        now: u64,
-        pass: u32,
-    ) -> Result<Ready, Stop>
-        requires right { IsRight command.now }
-        requires moment { IsMoment now }
-        ensures ready { IfOk result (λ ready. IsReadyAfter self.old self.new ask.now (option_copied csrf.entry) command.now now pass ready) }
-        ensures stops { IfErr result (λ stop. Stops stop self.old self.new ask.now (option_copied csrf.entry) command.now now pass) }
-        ensures is_hall { IsHall self.new }
-        ensures never_falls { self.old.faults ≤ self.new.faults }
-        ensures steadfast { StaysSteadfast self.old self.new }
-    {
-        self.settle(alloc)?;
-        self.ready(alloc, ask, csrf, command, now, pass)
-    }
-
-    /// Settles what is pending, if anything is. `Err` where the keeper failed to tell its number, or memory is wanting.
-    fn settle(&mut self, alloc: Global) -> Result<(), KeeperFault>
-        ensures settles { OnOk result (Settles self.old self.new) }
-        ensures none_pending { OnOk result (self.new.pending ≡ None) }
-        ensures leaves { IfErr result (λ fault. LeavesPending fault self.old self.new) }
-        ensures is_hall { IsHall self.new }
-        ensures never_falls { self.old.faults ≤ self.new.faults }
-        ensures steadfast { StaysSteadfast self.old self.new }
-    {
-        if self.pending.is_none() {
-            return Ok(());
-        }
-        let head = self.keeper.head(alloc)?;
-        self.settle_by(head);
-        Ok(())
-    }
-
-    /// Publishes what is pending where it makes the state of this number, and else forgets it.
-    fn settle_by(&mut self, head: u64)
-        requires { IfTold self.old.kept (λ held. head ≡ held.head) }
-        ensures settled { self.new ≡ settled_by self.old head self.old.pending }
-        ensures is_hall { IsHall self.new }
-    {
-        let Some(made) = self.pending.take() else {
-            return;
-        };
-        if head != self.log.number() + 1 {
-            return;
-        }
-        self.log.publish(made);
-    }
-
-    /// Judges an edit on the newest state, and makes what it takes to keep and to publish it.
-    fn ready(
-        &self,
-        alloc: Global,
-        ask: &Ask,
-        csrf: Option<&[u8]>,
-        command: &Command,
-        now: u64,
-        pass: u32,
-    ) -> Result<Ready, Stop>
-        requires right { IsRight command.now }
-        requires moment { IsMoment now }
-        requires none_pending { self.now.pending ≡ None }
-        ensures ready { IfOk result (λ ready. IsReady self.now ask.now (option_copied csrf.entry) command.now now pass ready) }
-        ensures unready { IfErr result (λ stop. IsUnready stop self.now ask.now (option_copied csrf.entry) command.now now pass) }
-    {
-        match judged(alloc, &self.log, ask, csrf, command, now, pass)? {
-            Verdict::Refused(refusal) => Err(Stop::Refused(refusal)),
-            Verdict::Commit(commit, done) => {
-                verdicts_keep_valid();
-                viewers_are_there();
-                Ok(made_ready(alloc, self.log.newest(), commit, done)?)
-            }
-        }
-    }
-
-    /// Keeps an edit, and then publishes it, for which all was made before. Where the keeper failed, the edit is pending; where
-    /// memory is wanting, nothing changes.
-    pub(crate) fn keep_edit(&mut self, alloc: Global, ready: Ready) -> Result<(), KeeperFault>
-        requires { MayBeNext self.old ready }
-        ensures published { OnOk result (self.new ≡ published self.old ready.batch) }
-        ensures leaves { IfErr result (λ fault. LeavesReady fault self.old ready.batch self.new) }
-        ensures is_hall { IsHall self.new }
-        ensures never_falls { self.old.faults ≤ self.new.faults }
-        ensures steadfast { StaysSteadfast self.old self.new }
+        desk: &mut Desk<K>,
+        ready: Ready,
+    ) -> Result<(), AllocError>
+        requires none { (self.old.pending ≡ None) × (desk.old.pending ≡ None) }
+        requires asked { IsAskedFor (newest_at self.old) (length self.old.log) ready }
+        ensures announced { OnOk result (self.new ≡ announced ready.batch.commit self.old) }
+        ensures desk { OnOk result (desk.new ≡ with_batch_pending (batch_of (newest_at self.old) ready.batch.commit) desk.old) }
+        ensures same { OnErr result ((self.new ≡ self.old) × (desk.new ≡ desk.old)) }
+        ensures is_hall { IsHallSide self.new }
     {
         self.log.reserve()?;
         let Ready {
@@ -426,21 +156,37 @@ impl<K: Keeper> Hall<K> {
             done: _,
             state,
         } = ready;
-        let answer = self.keeper.apply(alloc, &batch);
-        let Batch { commit, .. } = batch;
-        let made = Made { commit, state };
-        match answer {
-            Ok(()) => {
-                self.log.publish(made);
-                Ok(())
-            }
-            Err(fault) => match fault {
-                KeeperFault::Failed => {
-                    self.pending = Some(made);
-                    Err(KeeperFault::Failed)
-                }
-                KeeperFault::OutOfMemory => Err(KeeperFault::OutOfMemory),
-            },
+        let commit = Arc::try_clone(&batch.commit)?;
+        self.pending = Some(Made { commit, state });
+        desk.pending = Some(batch);
+        Ok(())
+    }
+
+    /// Settles the edit that is pending: publishes it where the keeper has kept it, and else forgets it. It takes no memory.
+    pub fn settle<K: Keeper>(&mut self, desk: &mut Desk<K>, kept: bool)
+        requires one { OnePending self.old desk.old }
+        requires exactly { TellsKept desk.old.kept desk.old.pending kept }
+        ensures settled { self.new ≡ settled_side kept self.old.pending self.old }
+        ensures desk { desk.new ≡ none_pending desk.old }
+        ensures is_hall { IsHallSide self.new }
+    {
+        desk.pending = None;
+        let Some(made) = self.pending.take() else {
+            unreachable!()
+        };
+        if kept {
+            self.log.publish(made);
         }
+    }
+
+    /// Publishes the edit that is pending, which the keeper has kept. It takes no memory.
+    pub fn publish<K: Keeper>(&mut self, desk: &mut Desk<K>)
+        requires one { OnePending self.old desk.old }
+        requires kept { TellsKept desk.old.kept desk.old.pending true }
+        ensures published { self.new ≡ settled_side true self.old.pending self.old }
+        ensures desk { desk.new ≡ none_pending desk.old }
+        ensures is_hall { IsHallSide self.new }
+    {
+        self.settle(desk, true);
     }
 }

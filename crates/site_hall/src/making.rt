@@ -14,10 +14,13 @@ use std::sync::Arc;
 
 /// An accepted edit, with all that it takes to keep and to publish it.
 #[derive(Drop)]
-pub(crate) struct Ready {
-    pub(crate) batch: Batch,
-    pub(crate) done: Done,
-    pub(crate) state: Arc<State>,
+pub struct Ready {
+    /// What is to be kept of it.
+    pub batch: Batch,
+    /// What it did.
+    pub done: Done,
+    /// The state that it makes.
+    pub state: Arc<State>,
 }
 
 impl Model for Ready {

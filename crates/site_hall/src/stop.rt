@@ -8,7 +8,7 @@ use std::alloc::AllocError;
 
 /// Why nothing of an edit was given to the keeper.
 #[derive(Drop)]
-pub(crate) enum Stop {
+pub enum Stop {
     /// The edit is refused.
     Refused(Refusal),
     /// The keeper failed to tell its number.

@@ -1,3 +1,4 @@
 pub mod Turns
 pub mod Stepping
 pub mod Counting
+pub mod Keeping

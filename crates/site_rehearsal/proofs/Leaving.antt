@@ -1,4 +1,4 @@
--- What acts leave of the hall and of the requester's seat.
+-- What acts leave of the engine and of the requester's seat.
 use Rattle.std.proofs.Common.{◌≡◌, ◌∙◌, ℕ, List, [], ◌∷◌, Option, length, ap, sym, subst, arith, append-nil}
 use Rattle.std.proofs.Math.Seq.{take-length}
 use Rattle.content_state.specs.State.{State}
@@ -11,9 +11,9 @@ use Rattle.site_commands.specs.declared.answer.Answer.TheVariants as answer
 use Rattle.site_commands.specs.declared.command.Command.{Command}
 use Rattle.cache_entries.specs.Sound.{IsOf}
 use Rattle.site_house.proofs.Moving.{begins_more}
+use Rattle.site_keeper.proofs.Keeping.{number_after}
 use Rattle.site_hall.specs.Hall.{HallView, with_stock, number_of, IsHall, StaysSteadfast, Answers, Fails}
 use Rattle.site_hall.specs.Ready.{newest_of_hall}
-use Rattle.site_hall.proofs.Logs.{number_after}
 use Rattle.site_hall.proofs.Callers.{valid_seen, settles_base, settles_grows}
 use Rattle.site_rehearsal.specs.Seats.{Draft, Seat, IsSeat, IsDraft}
 use Rattle.site_rehearsal.specs.Keeping.{Goes, IsSure}

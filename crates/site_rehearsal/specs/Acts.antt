@@ -31,7 +31,7 @@ use Rattle.render_array.specs.Whole.{whole, shown_below, element_level}
 use Rattle.render_array.specs.Shown.{visit_of, meta_text, IsFilled}
 use Rattle.site_hall.specs.Stock.{bins_in}
 use Rattle.site_hall.specs.Hall.{HallView, with_stock, number_of, Answers}
-use Rattle.site_hall.specs.Looked.{IsSoundIn, LooksUp}
+use Rattle.site_hall.specs.Looked.{IsSoundIn, LooksUp, StaysBeside}
 use Rattle.site_hall.specs.Ready.{newest_of_hall}
 use Rattle.site_rehearsal.specs.Seats.{Draft, Seat, IsMade, visit_of_draft, key_by, first_of}
 use Rattle.site_rehearsal.specs.declared.turn.Act.{Act}
@@ -141,7 +141,7 @@ abbrev pub KeepsBuilt : Option Draft → Bool → HallView → HallView → Type
 KeepsBuilt None kept old new = (kept ≡ false) × (new ≡ old)
 KeepsBuilt (Some draft) kept old new = (kept ≡ true) × KeepsDraft draft (bins_in old.stock) (bins_in new.stock) × (new ≡ with_stock old new.stock)
 
--- An act of the requester of a number, by what it answers: what it leaves of the hall and of the requester's seat.
+-- An act of the requester of a number, by what it answers: what it leaves of the engine and of the requester's seat.
 abbrev pub Acts : Act → Reply → ℕ → HallView → Seat → HallView → Seat → Type 0
 Acts act.Snapshot (reply.Snapshot number) n old seat new seat' =
     (number ≡ number_of old) × (new ≡ old) × (seat' ≡ record seat { state = newest_of_hall old })
@@ -149,7 +149,7 @@ Acts (act.Commit command csrf ask now) (reply.Commit answer) n old seat new seat
     IsAnswer answer × Answers answer old new ask csrf command now n
     × (seat' ≡ record seat { state = state_after answer new seat.state })
 Acts (act.Look bin key ask now) (reply.Look found fresh) n old seat new seat' =
-    LooksUp (Ok found) old new bin key × IsSoundIn new key found × (IsTrue fresh ↔ IsFreshFound seat.state ask now found)
+    (LooksUp (Ok found) old.stock new.stock bin key × StaysBeside old new) × IsSoundIn new key found × (IsTrue fresh ↔ IsFreshFound seat.state ask now found)
     × (seat' ≡ seat)
 Acts (act.Build element ask now) (reply.Build text) n old seat new seat' =
     (new ≡ old) × IsShownAs element seat.state ask now text

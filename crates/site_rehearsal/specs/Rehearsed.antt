@@ -1,4 +1,4 @@
--- A rehearsal: turns of requesters, one after the other, over one hall.
+-- A rehearsal: turns of requesters, one after the other, over one engine.
 use Rattle.std.specs.Prelude.{ℕ, List, [], ◌∷◌, ◌≡◌, ◌≢◌, Option, Some, None, true}
 use Rattle.std.specs.BTreeMap.{BTreeMap, get}
 use Rattle.std.specs.Ordering.{nat_cmp}
@@ -26,7 +26,7 @@ MayAct (act.Build element ask now) = IsAsk ask
 MayAct act.Keep = Unit {0}
 MayAct (act.Commit command csrf ask now) = IsRight command × IsMoment now
 
--- the hall, and the seats of those who took part
+-- the engine, and the seats of those who took part
 pub record Stage : Type 0 where
   pub hall : HallView
   pub seats : ℕ → Option Seat
@@ -46,7 +46,7 @@ Rehearsed [] [] old new = new ≡ old
 Rehearsed (turn ∷ turns) (reply ∷ replies) old new = (mid : Stage) × Takes turn reply old mid × Rehearsed turns replies mid new
 Rehearsed _ _ old new = ⊥
 
--- the hall, and the seats as they lie in a map
+-- the engine, and the seats as they lie in a map
 abbrev pub stage_of : HallView → BTreeMap ℕ Seat → Stage
 stage_of hall seats = record { hall = hall; seats = get nat_cmp seats }
 
@@ -58,7 +58,7 @@ pub record IsStage (stage : Stage) : Type 0 where
 abbrev pub MayTake : Turn → Type 0
 MayTake turn = MayAct turn.act
 
--- a hall as it is opened, whose keeper never fails: nothing is published yet
+-- an engine as it is opened, whose keeper never fails: nothing is published yet
 pub record IsOpened (hall : HallView) : Type 0 where
   pub none : hall.log ≡ []
   pub sure : IsSure hall
@@ -67,11 +67,11 @@ pub record IsOpened (hall : HallView) : Type 0 where
 abbrev pub begun_on : HallView → Stage
 begun_on hall = record { hall = hall; seats = λ n. None }
 
--- turns over a hall, from its beginning
+-- turns over an engine, from its beginning
 abbrev pub RehearsedOn : HallView → List Turn → List Reply → Type 0
 RehearsedOn hall turns replies = (end : Stage) × Rehearsed turns replies (begun_on hall) end
 
--- turns over the hall of a site as it is opened, with room for so many things in the bins, whose keeper holds what it was made of
+-- turns over the engine of a site as it is opened, with room for so many things in the bins, whose keeper holds what it was made of
 abbrev pub RehearsesIn : Rooms → Stored → List Turn → List Reply → Type 0
 RehearsesIn rooms base turns replies = RehearsedOn (opened_in (stock_in rooms) base (Some (made_of base)) 0 true) turns replies
 

@@ -21,14 +21,14 @@ use element_entries::{Reader, is_fresh};
 use render_array::Element;
 use site_access::{Account, viewer_of};
 use site_commands::{Answer, Command};
-use site_hall::Hall;
+use site_hall::Engine;
 use site_keeper::Keeper;
 use std::alloc::{AllocError, Global};
 
 /// The requester goes to the newest state.
 fn snapshot<K: Keeper>(
     alloc: Global,
-    hall: &mut Hall<K>,
+    hall: &mut Engine<K>,
     seat: &mut Seat,
 ) -> Result<Reply, AllocError>
     requires { IsSeat hall.old.base hall.old.log seat.old }
@@ -65,7 +65,7 @@ fn is_fresh_found(
 /// Something is looked for.
 fn look<K: Keeper>(
     alloc: Global,
-    hall: &mut Hall<K>,
+    hall: &mut Engine<K>,
     seat: &mut Seat,
     bin: Bin,
     key: &Key,
@@ -85,7 +85,7 @@ fn look<K: Keeper>(
 /// An element is built.
 fn build<K: Keeper>(
     alloc: Global,
-    hall: &mut Hall<K>,
+    hall: &mut Engine<K>,
     seat: &mut Seat,
     element: Element,
     ask: &Ask,
@@ -104,7 +104,11 @@ fn build<K: Keeper>(
 }
 
 /// What was built last is kept.
-fn keep<K: Keeper>(alloc: Global, hall: &mut Hall<K>, seat: &mut Seat) -> Result<Reply, AllocError>
+fn keep<K: Keeper>(
+    alloc: Global,
+    hall: &mut Engine<K>,
+    seat: &mut Seat,
+) -> Result<Reply, AllocError>
     requires { IsSeat hall.old.base hall.old.log seat.old }
     ensures acts { (n : ℕ) → IfOk result (λ reply. Acts act_is.Keep reply n hall.old seat.old hall.new seat.new) }
     ensures seat { OnOk result (IsSeat hall.new.base hall.new.log seat.new) }
@@ -132,7 +136,7 @@ fn sent(csrf: &Option<Text>) -> Option<&[u8]>
 /// An edit is made; where it is accepted, the requester goes to the state that it makes.
 fn commit<K: Keeper>(
     alloc: Global,
-    hall: &mut Hall<K>,
+    hall: &mut Engine<K>,
     seat: &mut Seat,
     requester: u32,
     command: &Command,
@@ -163,7 +167,7 @@ fn commit<K: Keeper>(
 /// An act of a requester with this seat.
 pub(crate) fn act<K: Keeper>(
     alloc: Global,
-    hall: &mut Hall<K>,
+    hall: &mut Engine<K>,
     seat: &mut Seat,
     requester: u32,
     act: &Act,

@@ -15,7 +15,7 @@ use crate::seats::Draft;
 use cache_entries::{Found, Kept};
 use cacheability::{Context, OrderedSet};
 use element_entries::redirect_to;
-use site_hall::Hall;
+use site_hall::Engine;
 use site_keeper::Keeper;
 use std::alloc::{AllocError, Global};
 use std::sync::Arc;
@@ -33,7 +33,7 @@ fn told_in(found: Found) -> Option<Arc<OrderedSet<Context>>>
 /// What a redirect at the first key tells, where one stands there.
 fn told_at<K: Keeper>(
     alloc: Global,
-    hall: &mut Hall<K>,
+    hall: &mut Engine<K>,
     draft: &Draft,
 ) -> Result<Option<Arc<OrderedSet<Context>>>, AllocError>
     ensures told { IfOk result (λ told. IsToldAt draft.now (option_map arc_value told) hall.old hall.new) }
@@ -48,7 +48,7 @@ fn told_at<K: Keeper>(
 /// Keeps something at the key with the values of these contexts.
 fn keep_at<K: Keeper>(
     alloc: Global,
-    hall: &mut Hall<K>,
+    hall: &mut Engine<K>,
     draft: &Draft,
     contexts: &[Context],
     kept: Kept,
@@ -83,7 +83,7 @@ fn second_for(
 /// Keeps what was built at the key with the values of these contexts.
 fn keep_entry<K: Keeper>(
     alloc: Global,
-    hall: &mut Hall<K>,
+    hall: &mut Engine<K>,
     draft: &Draft,
     contexts: &[Context],
 ) -> Result<(), AllocError>
@@ -98,7 +98,7 @@ fn keep_entry<K: Keeper>(
 /// Keeps a redirect at the first key.
 fn keep_redirect<K: Keeper>(
     alloc: Global,
-    hall: &mut Hall<K>,
+    hall: &mut Engine<K>,
     draft: &Draft,
     contexts: &Arc<OrderedSet<Context>>,
 ) -> Result<(), AllocError>
@@ -114,7 +114,7 @@ fn keep_redirect<K: Keeper>(
 /// Keeps what was built under its first key, or, where there is a second one, a redirect and then what was built.
 pub(crate) fn keep_draft<K: Keeper>(
     alloc: Global,
-    hall: &mut Hall<K>,
+    hall: &mut Engine<K>,
     draft: &Draft,
 ) -> Result<(), AllocError>
     requires { IsDraft hall.old.base hall.old.log draft.now }

@@ -1,4 +1,4 @@
-//! Rehearsals: turns of several requesters over one hall, one after the other, each by its own state.
+//! Rehearsals: turns of several requesters over one engine, one after the other, each by its own state.
 #![tactic(auto)]
 
 mod acting;

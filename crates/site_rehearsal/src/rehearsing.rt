@@ -15,7 +15,7 @@ use crate::acting::act;
 use crate::seats::Seat;
 use crate::turn::{Reply, Turn};
 use content_state::{Refusal, State};
-use site_hall::{Hall, NoHall, Rooms};
+use site_hall::{Engine, NoEngine, Rooms};
 use site_keeper::{Keeper, MemoryKeeper, Stored};
 use std::alloc::{AllocError, Global};
 use std::collections::BTreeMap;
@@ -53,7 +53,7 @@ fn put_seat(seats: &mut BTreeMap<u32, Seat>, requester: u32, seat: Seat) -> Resu
 /// A turn.
 fn take_turn<K: Keeper>(
     alloc: Global,
-    hall: &mut Hall<K>,
+    hall: &mut Engine<K>,
     base: &Arc<State>,
     seats: &mut BTreeMap<u32, Seat>,
     turn: &Turn,
@@ -74,7 +74,7 @@ fn take_turn<K: Keeper>(
 /// Turns, one after the other.
 fn take_turns<K: Keeper>(
     alloc: Global,
-    hall: &mut Hall<K>,
+    hall: &mut Engine<K>,
     turns: &[Turn],
 ) -> Result<Vec<Reply>, AllocError>
     requires opened { IsOpened hall.old }
@@ -92,11 +92,11 @@ fn take_turns<K: Keeper>(
     Ok(replies)
 }
 
-/// Why there is no hall.
-fn why_of<K: Drop>(none: NoHall<K>) -> Refusal
+/// Why there is no engine.
+fn why_of<K: Drop>(none: NoEngine<K>) -> Refusal
     ensures { result ≡ none.why }
 {
-    let NoHall {
+    let NoEngine {
         keeper: _,
         stored: _,
         why,
@@ -104,8 +104,8 @@ fn why_of<K: Drop>(none: NoHall<K>) -> Refusal
     why
 }
 
-/// The hall of a site, with a keeper in memory that never fails, and room for so many things in the bins.
-fn opened(alloc: Global, base: Stored, rooms: Rooms) -> Result<Hall<MemoryKeeper>, Refusal>
+/// The engine of a site, with a keeper in memory that never fails, and room for so many things in the bins.
+fn opened(alloc: Global, base: Stored, rooms: Rooms) -> Result<Engine<MemoryKeeper>, Refusal>
     requires { AreValidRows base.rows }
     ensures opened { IfOk result (λ hall. hall ≡ opened_in (stock_in rooms) base (Some (made_of base)) 0 true) }
     ensures refused { IfErr result (λ why. IsRefusal base.rows base.head why) }
@@ -114,13 +114,13 @@ fn opened(alloc: Global, base: Stored, rooms: Rooms) -> Result<Hall<MemoryKeeper
         return Err(Refusal::OutOfMemory);
     };
     let keeper = MemoryKeeper::new(alloc, copy, Vec::new(alloc));
-    match Hall::with_rooms(alloc, keeper, base, rooms) {
+    match Engine::with_rooms(alloc, keeper, base, rooms) {
         Ok(hall) => Ok(hall),
         Err(none) => Err(why_of(none)),
     }
 }
 
-/// The replies to turns of requesters over a site, one after the other: the hall of what is given is theirs alone, with a
+/// The replies to turns of requesters over a site, one after the other: the engine of what is given is theirs alone, with a
 /// keeper in memory that never fails, and bins with room for so many things; and each requester is on a state of its own, the one
 /// of its last snapshot or accepted edit. What is given is refused where it is no site; and where memory is wanting, in any turn,
 /// all is.

@@ -1,4 +1,4 @@
--- What many workers do over one hall.
+-- What many workers do over one engine.
 use Rattle.std.specs.Prelude.{ℕ, zero, suc, List, [], ◌∷◌, ◌++◌, ◌≡◌, ◌+◌, ◌<◌, ◌⊎◌, Bool, true, false, All, map, length, drop, sum_by, option_to_list, None}
 use Rattle.std.specs.List.{list_all}
 use Rattle.content_state.specs.Replay.{Begins}
@@ -55,13 +55,13 @@ bench_of station handed keepers history = record {
   history = history;
 }
 
--- a log of a hall, to the worker of this number
+-- a log of an engine, to the worker of this number
 abbrev pub history_in : HallView → ℕ → List Commit → History
 history_in hall number log = record { base = hall.base; log = log; pass = number }
 
--- A worker began with what the hall had published at the opening, and served its connections over the log of the hall at the end,
+-- A worker began with what the engine had published at the opening, and served its connections over the log of the engine at the end,
 -- of which it had seen a front. Its door failed exactly where it stopped for that; no connection is out; its clock and its chance
--- gave in turn. One of its edits was answered that the keeper failed only where the hall's count of the keeper's faults rose. Its
+-- gave in turn. One of its edits was answered that the keeper failed only where the engine's count of the keeper's faults rose. Its
 -- edits in that log, those past the opening that bear its number, and the pending one where that bears it, are of those that its
 -- connections handed in, in that order.
 pub record IsShift (old new : HallView) (shift : Shift) : Type 0 where
@@ -100,7 +100,7 @@ pub record HaveServed (old new : HallView) (before after : List StationView) (co
   pub count_is : count ≡ sum_by (λ shift. shift.count) shifts
   pub whole_is : whole ≡ list_all (λ shift. had_no_more shift.worked) shifts
 
--- The hall at the end: of the same keeper, and its log begins with the old one. Each edit past it, and the one that is pending,
+-- The engine at the end: of the same keeper, and its log begins with the old one. Each edit past it, and the one that is pending,
 -- bears the number of one of so many workers.
 pub record GoesOn (old new : HallView) (workers : ℕ) : Type 0 where
   pub base : new.base ≡ old.base

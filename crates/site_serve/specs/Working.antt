@@ -68,7 +68,7 @@ AllServed old new = AllZip HasServed old new
 
 -- ---- the crew before its work
 
--- where the passes and the claims lie, the hall that the site was opened with, and how many numbers are claimed from
+-- where the passes and the claims lie, the engine that the site was opened with, and how many numbers are claimed from
 pub record Footing : Type 0 where
   pub room : TableId
   pub claims : TableId

@@ -128,7 +128,7 @@ fn members_of<D: Door + Drop, C: Clock + Drop, E: Entropy + Drop, G: Gate + Drop
 /// empty and have the room.
 pub(crate) fn work_of<
     'r,
-    K: Keeper + Send,
+    K: Keeper + Send + Drop,
     R: Threads + Wait + Sync,
     D: Door + Send + Drop,
     C: Clock + Send + Drop,

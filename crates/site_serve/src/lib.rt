@@ -1,4 +1,4 @@
-//! Workers that serve the connections of their doors over one hall, each in a thread where one can be started.
+//! Workers that serve the connections of their doors over one engine, each in a thread where one can be started.
 #![tactic(auto)]
 
 mod crew;

@@ -9,7 +9,7 @@ use crate::crew::{Member, crew_of, disband, work_of};
 use crate::server::Server;
 use crate::station::Station;
 use site_claims::Claims;
-use site_hall::Hall;
+use site_hall::Engine;
 use site_http::connection_grows;
 use site_io::{Clock, Door, Entropy, Gate};
 use site_keeper::Keeper;
@@ -18,11 +18,11 @@ use std::alloc::{AllocError, Global};
 use std::sync::Wait;
 use std::thread::Threads;
 
-/// What came of workers that served: the hall, their stations, how many connections they served in all, and whether each
+/// What came of workers that served: the engine, their stations, how many connections they served in all, and whether each
 /// stopped only because none was left to take.
 #[derive(Drop)]
 pub struct Served<K: Keeper, D: Door, C: Clock, E: Entropy, G: Gate> {
-    pub hall: Hall<K>,
+    pub hall: Engine<K>,
     pub stations: Vec<Station<D, C, E, G>>,
     pub count: u64,
     pub whole: bool,
@@ -31,7 +31,7 @@ pub struct Served<K: Keeper, D: Door, C: Clock, E: Entropy, G: Gate> {
 /// What comes back where memory was wanting, and nothing was served.
 #[derive(Drop)]
 pub struct Unserved<K: Keeper, D: Door, C: Clock, E: Entropy, G: Gate> {
-    pub hall: Hall<K>,
+    pub hall: Engine<K>,
     pub stations: Vec<Station<D, C, E, G>>,
 }
 
@@ -64,12 +64,12 @@ impl<'r, D: Door + Drop, C: Clock + Drop, E: Entropy + Drop, G: Gate + Drop> Lis
     }
 }
 
-/// Serves the connections of the doors of 1 to 16 stations over one hall, where nothing is pending: a worker for each, which
+/// Serves the connections of the doors of 1 to 16 stations over one engine, where nothing is pending: a worker for each, which
 /// claims one of so many numbers, at most 2^63, for each connection before it takes it. Each worker has a pass of its own to
-/// the site of the hall, with the numbers from 0, and a thread of its own where one can be started. It returns once all have
+/// the site of the engine, with the numbers from 0, and a thread of its own where one can be started. It returns once all have
 /// stopped: each stops where no number is left or where its door fails, and goes on however a connection ends.
 ///
-/// `Unserved` only where memory is wanting; then nothing was served, and the hall and the stations come back.
+/// `Unserved` only where memory is wanting; then nothing was served, and the engine and the stations come back.
 pub fn serve_all<
     K: Keeper + Send + Drop,
     R: Threads + Wait + Sync,
@@ -80,7 +80,7 @@ pub fn serve_all<
 >(
     rt: &R,
     alloc: Global,
-    hall: Hall<K>,
+    hall: Engine<K>,
     stations: Vec<Station<D, C, E, G>>,
     limit: u64,
 ) -> Result<Served<K, D, C, E, G>, Unserved<K, D, C, E, G>>

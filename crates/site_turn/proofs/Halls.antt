@@ -1,5 +1,5 @@
 -- Each call of a hall is a turn, as the rule of turns has it.
-use Rattle.std.proofs.Common.{◌≡◌, ◌≤◌, ◌+◌, ◌==◌, ℕ, List, [], ◌∷◌, ◌++◌, Bool, true, false, Option, Some, None, option_to_list, refl, sym, ap, ◌∙◌, subst, inl, inr, arith, append_assoc, append-nil, le_refl}
+use Rattle.std.proofs.Common.{◌≡◌, ◌≤◌, ◌+◌, ◌==◌, ℕ, List, [], ◌∷◌, ◌++◌, Bool, true, false, Option, Some, None, option_to_list, refl, sym, ap, ◌∙◌, subst, inl, inr, append_assoc, append-nil, le_refl}
 use Rattle.std.specs.Prelude.{if◌then◌else◌, Result, Ok, Err}
 use Rattle.std.specs.declared.alloc.AllocError.{AllocError}
 use Rattle.std.specs.List.{All}
@@ -17,16 +17,17 @@ use Rattle.site_commands.specs.declared.answer.Done.{Done}
 use Rattle.site_commands.specs.declared.command.Command.{Command}
 use Rattle.site_house.specs.House.{IsSublist}
 use Rattle.site_hall.specs.Hall.{HallView, StaysSteadfast, Settles, settled_by, number_of, Accepts, FailsHead, FailsApply, Answers, Tells}
-use Rattle.site_hall.specs.Hall.{with_stock}
+use Rattle.site_hall.specs.Sides.{HallSide, with_shelves}
 use Rattle.site_hall.specs.Stock.{Stock, looked, tally_in}
 use Rattle.site_hall.specs.Looked.{LooksUp, KeepsUnder}
 use Rattle.site_hall.specs.declared.tally.Tally.{Tally}
 use Rattle.site_hall.proofs.Sublists.{sublist_both}
 use Rattle.turn_rule.specs.Logs.{waiting, last_of, newest_of}
-use Rattle.turn_rule.specs.Steps.{zeros, raised, given, Turns}
+use Rattle.turn_rule.specs.Steps.{zeros, raised, given, Turns, Counts}
 use Rattle.turn_rule.specs.declared.notes.TallyNote.{TallyNote}
-use Rattle.site_turn.specs.Views.{noted, tally_note}
-use Rattle.site_turn.specs.Turns.{counts_of_found, counts_of_look, counts_of_keep}
+use Rattle.site_table.specs.Views.{tally_note, part_of}
+use Rattle.site_table.specs.Turns.{counts_of_found, counts_of_look, counts_of_keep, one_kept}
+use Rattle.site_turn.specs.Views.{noted}
 
 last_snoc : (log : List Commit) (c : Commit) → last_of (log ++ c ∷ []) ≡ c ∷ []
 last_snoc [] c = refl
@@ -168,18 +169,20 @@ found_tally (found.Redirect contexts) tally = refl
 found_tally found.Absent tally = refl
 
 -- nothing but what is kept of pages changes
-beside_turn : (more : TallyNote) (pass : ℕ) (old new : HallView) → new ≡ with_stock old new.stock → note_of new.stock ≡ raised more (note_of old.stock) → IsTurn more false pass old new
-beside_turn more pass old new same tally =
-    let faults = ap (λ (h : HallView). h.faults) same in
-    still more pass old new tally (ap (λ (h : HallView). (noted h).loaded) same) (ap (λ (h : HallView). h.log) same) (ap (λ (h : HallView). h.pending) same) (omega arith)
-    (record { tells = ap (λ (h : HallView). h.steadfast) same; stays = λ _. faults })
+beside_counts : (more : TallyNote) (old new : HallSide) → new ≡ with_shelves old new.stock → note_of new.stock ≡ raised more (note_of old.stock) → Counts more (part_of old) (part_of new)
+beside_counts more old new same tally = record {
+  base = ap (λ (h : HallSide). h.base) same;
+  log = ap (λ (h : HallSide). h.log) same;
+  pending = ap (λ (h : HallSide). h.pending) same;
+  tally = tally;
+}
 
--- a look is a turn
-pub look_turn : (result : Result Found AllocError) (pass : ℕ) (old new : HallView) (b : Bin) (key : Key) → LooksUp result old new b key → IsTurn (counts_of_look result) false pass old new
-look_turn (Ok f) pass old new b key looks = beside_turn (counts_of_found f) pass old new looks.1 (ap tally_note looks.0.tally ∙ found_tally f (tally_in old.stock))
-look_turn (Err e) pass old new b key looks = subst (λ (h : HallView). IsTurn zeros false pass old h) (sym looks) (quiet_turn pass old)
+-- a look is counted
+pub look_counts : (result : Result Found AllocError) (old new : HallSide) (b : Bin) (key : Key) → LooksUp result old.stock new.stock b key → new ≡ with_shelves old new.stock → Counts (counts_of_look result) (part_of old) (part_of new)
+look_counts (Ok f) old new b key looks same = beside_counts (counts_of_found f) old new same (ap tally_note looks.tally ∙ found_tally f (tally_in old.stock))
+look_counts (Err e) old new b key looks same = beside_counts zeros old new same (ap note_of looks)
 
 -- and so is keeping something
-pub keep_turn : (result : Result (Unit {0}) AllocError) (pass : ℕ) (old new : HallView) (b : Bin) (key : Key) (k : Kept) → KeepsUnder result old new b key k → IsTurn (counts_of_keep result) false pass old new
-keep_turn (Ok done) pass old new b key k keeps = beside_turn (counts_of_keep (Ok done)) pass old new keeps.1 (ap tally_note keeps.0.tally)
-keep_turn (Err e) pass old new b key k keeps = subst (λ (h : HallView). IsTurn zeros false pass old h) (sym keeps) (quiet_turn pass old)
+pub keep_counts : (result : Result (Unit {0}) AllocError) (old new : HallSide) (b : Bin) (key : Key) (k : Kept) → KeepsUnder result old.stock new.stock b key k → new ≡ with_shelves old new.stock → Counts (counts_of_keep result) (part_of old) (part_of new)
+keep_counts (Ok done) old new b key k keeps same = beside_counts one_kept old new same (ap tally_note keeps.tally)
+keep_counts (Err e) old new b key k keeps same = beside_counts zeros old new same (ap note_of keeps)

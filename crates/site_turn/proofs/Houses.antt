@@ -19,19 +19,23 @@ use Rattle.site_commands.specs.declared.answer.Refusal.{Refusal}
 use Rattle.site_commands.specs.declared.command.Command.{Command}
 use Rattle.site_house.specs.History.{newest_of}
 use Rattle.site_house.specs.House.{HouseView, AreValid, CountRose, Moves, Stays, up, Accepts, Refuses, Fails, Answers}
-use Rattle.site_hall.specs.Hall.{HallView, IsHall, number_of, FailsApply, FailsHead}
+use Rattle.site_hall.specs.Hall.{HallView, IsHall}
 use Rattle.site_hall.specs.Hall as hall
-use Rattle.site_hall.specs.Looked.{IsSoundIn, MayBeKept}
+use Rattle.site_hall.specs.Sides.{HallSide}
 use Rattle.site_hall.proofs.Callers.{valid_seen}
+use Rattle.site_hall.proofs.Logs.{valid_without}
 use Rattle.site_hall.proofs.Stocks.{kept_more}
 use Rattle.turn_rule.specs.declared.notes.TallyNote.{TallyNote}
 use Rattle.turn_rule.specs.declared.notes.HallNote.{HallNote}
+use Rattle.turn_rule.specs.declared.notes.HallPart.{HallPart}
 use Rattle.turn_rule.specs.declared.notes.PassNote.{PassNote}
-use Rattle.turn_rule.specs.Steps.{zeros, given, AreOwnIn, Knows}
+use Rattle.turn_rule.specs.Logs.{hall_part}
+use Rattle.turn_rule.specs.Steps.{zeros, given, AreOwnIn, Knows, KnowsHall}
 use Rattle.turn_rule.proofs.Edits.{begins_then}
-use Rattle.turn_rule.proofs.Books.{own_in_log}
+use Rattle.turn_rule.proofs.Books.{of_hall, own_in_log}
+use Rattle.site_table.specs.Views.{part_of}
 use Rattle.site_turn.specs.Views.{PassView, noted}
-use Rattle.site_turn.specs.Turns.{Went, Looks, Commits}
+use Rattle.site_turn.specs.Turns.{HasLooked, Went, Looks, Commits}
 use Rattle.site_turn.specs.Houses.{table_name, house_of, guest_of, keepers_after}
 use Rattle.site_turn.proofs.Halls.{settled_is, accepted_given, failed_given}
 
@@ -41,7 +45,7 @@ module _ (more : TallyNote) (hands : Bool) (old new : PassNote) (after : HallNot
 
   -- its own edits in what it has seen are of those that it handed in
   pub went_own : AreOwnIn new new.seen
-  went_own = subst (AreOwnIn new) (sym seen_is) (own_in_log after new w.knows)
+  went_own = subst (AreOwnIn new) (sym seen_is) (own_in_log (hall_part after) new (of_hall after new w.knows))
 
   pub went_moves : (name : List ℕ) (keepers keepers' unkept unkept' : ℕ) → unkept ≤ unkept' → (keepers' ≡ keepers) ⊎ CountRose old.faults new.faults → Moves (house_of old name keepers unkept) (house_of new name keepers' unkept')
   went_moves name keepers keepers' unkept unkept' rose cause = record {
@@ -66,7 +70,73 @@ module _ (more : TallyNote) (hands : Bool) (old new : PassNote) (after : HallNot
   stays : (name : List ℕ) (keepers unkept unkept' : ℕ) → hands ≡ false → Stays (house_of old name keepers unkept) (house_of new name keepers unkept')
   stays name keepers unkept unkept' none = record { handed = handed_is [] (ap (λ (b : Bool). given b after) none) ∙ append-nil old.handed; keepers = refl }
 
--- ---- what is kept of pages
+-- ---- turns that read
+
+module _ (more : TallyNote) (old new : PassNote) (after : HallPart) (w : HasLooked more old new after) where
+  looked_seen : new.seen ≡ after.log
+  looked_seen = ap (λ (p : PassNote). p.seen) w.is
+
+  looked_faults : new.faults ≡ old.faults
+  looked_faults = ap (λ (p : PassNote). p.faults) w.is
+
+  looked_own : AreOwnIn new new.seen
+  looked_own = subst (AreOwnIn new) (sym looked_seen) (own_in_log after new w.knows)
+
+  looked_moves : (name : List ℕ) (keepers unkept unkept' : ℕ) → unkept ≤ unkept' → Moves (house_of old name keepers unkept) (house_of new name keepers unkept')
+  looked_moves name keepers unkept unkept' rose = record {
+    base = ap (λ (p : PassNote). p.opened.loaded.base) w.is;
+    number = ap (λ (p : PassNote). p.number) w.is;
+    opened = ap (λ (p : PassNote). length p.opened.log) w.is;
+    name = refl;
+    grows = w.grows;
+    never_falls = let same = looked_faults in omega arith;
+    steadfast = ap (λ (p : PassNote). p.opened.loaded.steadfast) w.is;
+    never_fails = λ _. looked_faults;
+    cause = inl refl;
+    own = λ _. looked_own;
+    told = refl;
+    unkept = rose;
+  }
+
+  looked_stays : (name : List ℕ) (keepers unkept unkept' : ℕ) → Stays (house_of old name keepers unkept) (house_of new name keepers unkept')
+  looked_stays name keepers unkept unkept' = record { handed = ap (λ (p : PassNote). p.handed) w.is; keepers = refl }
+
+-- what the pass has seen, of the base that the site was opened with, is what the hall published
+seen_there : (more : TallyNote) (old new : PassNote) (hall : HallSide) → HasLooked more old new (part_of hall) → (P : State → List Commit → Type 0) → P hall.base hall.log → P new.opened.loaded.base new.seen
+seen_there more old new hall w P p = subst (λ (t : State × List Commit). P t.0 t.1) (λ i. (w.knows.base i, sym (looked_seen more old new (part_of hall) w) i)) p
+
+module _ (more : TallyNote) (does : HallSide → HallSide → Type 0) (old new : PassNote) where
+  pub looks_valid : Looks more does old new → AreValid new.opened.loaded.base new.seen
+  looks_valid l = seen_there more old new l.after l.went AreValid (valid_without l.after.base l.after.log l.after.pending l.is_hall.valid)
+
+  pub looks_moves : (name : List ℕ) (keepers unkept unkept' : ℕ) → unkept ≤ unkept' → Looks more does old new → Moves (house_of old name keepers unkept) (house_of new name keepers unkept')
+  looks_moves name keepers unkept unkept' rose l = looked_moves more old new (part_of l.after) l.went name keepers unkept unkept' rose
+
+  pub looks_stays : (name : List ℕ) (keepers unkept unkept' : ℕ) → Looks more does old new → Stays (house_of old name keepers unkept) (house_of new name keepers unkept')
+  looks_stays name keepers unkept unkept' l = looked_stays more old new (part_of l.after) l.went name keepers unkept unkept'
+
+  pub looks_own : Looks more does old new → AreOwnIn new new.seen
+  looks_own l = looked_own more old new (part_of l.after) l.went
+
+-- the same, of a guest whose site is in the same table
+pub guest_looks : (more : TallyNote) (does : HallSide → HallSide → Type 0) (old new : PassView) (borrow keepers unkept unkept' : ℕ) → new.table ≡ old.table → unkept ≤ unkept' → Looks more does old.note new.note
+    → Moves (guest_of old borrow keepers unkept) (guest_of new borrow keepers unkept')
+guest_looks more does old new borrow keepers unkept unkept' same rose l =
+    subst (λ (t : TableId). Moves (guest_of old borrow keepers unkept) (house_of new.note (borrow ∷ table_name t) keepers unkept')) (sym same)
+    (looks_moves more does old.note new.note (borrow ∷ table_name old.table) keepers unkept unkept' rose l)
+
+-- what was found is sound over what the pass has seen then
+pub looks_sound : (more : TallyNote) (old new : PassNote) (hall : HallSide) (key : Key) (result : Result Found AllocError) → HasLooked more old new (part_of hall) → IfOk result (λ f. IsSoundFound meaning hall.base hall.log key f)
+    → IfOk result (λ f. IsSoundFound meaning new.opened.loaded.base new.seen key f)
+looks_sound more old new hall key result w sound = seen_there more old new hall w (λ base log. IfOk result (λ f. IsSoundFound meaning base log key f)) sound
+
+-- what is sound over what a pass has seen is sound over the log of the hall
+pub sound_out : (pass : PassNote) (hall : HallSide) (key : Key) (k : Kept) → KnowsHall (part_of hall) pass → IsSoundKept meaning pass.opened.loaded.base pass.seen key k → IsSoundKept meaning hall.base hall.log key k
+sound_out pass hall key k knows sound =
+    subst (λ (b : State). IsSoundKept meaning b hall.log key k) (sym knows.base)
+    (kept_more pass.opened.loaded.base pass.seen hall.log knows.seen key k sound)
+
+-- ---- edits
 
 -- the hall's base is the one that the site was opened with
 base_is : (new : PassNote) (hall : HallView) → Knows (noted hall) new → new.opened.loaded.base ≡ hall.base
@@ -75,40 +145,6 @@ base_is new hall k = sym (ap (λ l. l.base) k.loaded)
 went_valid : (more : TallyNote) (hands : Bool) (old new : PassNote) (after : HallView) → Went more hands old new (noted after) → IsHall after → AreValid new.opened.loaded.base new.seen
 went_valid more hands old new after w h =
     subst (λ (t : State × List Commit). AreValid t.0 t.1) (λ i. (sym (base_is new after w.knows) i, sym (seen_is more hands old new (noted after) w) i)) (valid_seen after h)
-
-module _ (more : TallyNote) (does : HallView → HallView → Type 0) (old new : PassNote) where
-  pub looks_valid : Looks more does old new → AreValid new.opened.loaded.base new.seen
-  looks_valid l = went_valid more false old new l.after l.went l.is_hall
-
-  pub looks_moves : (name : List ℕ) (keepers unkept unkept' : ℕ) → unkept ≤ unkept' → Looks more does old new → Moves (house_of old name keepers unkept) (house_of new name keepers unkept')
-  looks_moves name keepers unkept unkept' rose l = went_moves more false old new (noted l.after) l.went name keepers keepers unkept unkept' rose (inl refl)
-
-  pub looks_stays : (name : List ℕ) (keepers unkept unkept' : ℕ) → Looks more does old new → Stays (house_of old name keepers unkept) (house_of new name keepers unkept')
-  looks_stays name keepers unkept unkept' l = stays more false old new (noted l.after) l.went name keepers unkept unkept' refl
-
-  pub looks_own : Looks more does old new → AreOwnIn new new.seen
-  looks_own l = went_own more false old new (noted l.after) l.went
-
--- the same, of a guest whose site is in the same table
-pub guest_looks : (more : TallyNote) (does : HallView → HallView → Type 0) (old new : PassView) (borrow keepers unkept unkept' : ℕ) → new.table ≡ old.table → unkept ≤ unkept' → Looks more does old.note new.note
-    → Moves (guest_of old borrow keepers unkept) (guest_of new borrow keepers unkept')
-guest_looks more does old new borrow keepers unkept unkept' same rose l =
-    subst (λ (t : TableId). Moves (guest_of old borrow keepers unkept) (house_of new.note (borrow ∷ table_name t) keepers unkept')) (sym same)
-    (looks_moves more does old.note new.note (borrow ∷ table_name old.table) keepers unkept unkept' rose l)
-
--- what was found is sound over what the pass has seen then
-pub looks_sound : (more : TallyNote) (old new : PassNote) (hall : HallView) (key : Key) (result : Result Found AllocError) → Went more false old new (noted hall) → IfOk result (λ f. IsSoundIn hall key f)
-    → IfOk result (λ f. IsSoundFound meaning new.opened.loaded.base new.seen key f)
-looks_sound more old new hall key result w sound =
-    subst (λ (t : State × List Commit). IfOk result (λ f. IsSoundFound meaning t.0 t.1 key f)) (λ i. (sym (base_is new hall w.knows) i, sym (seen_is more false old new (noted hall) w) i)) sound
-
--- what is sound over what a pass has seen is sound over the log of the hall
-pub sound_out : (pass : PassNote) (hall : HallView) (key : Key) (k : Kept) → Knows (noted hall) pass → IsSoundKept meaning pass.opened.loaded.base pass.seen key k → MayBeKept hall key k
-sound_out pass hall key k knows sound =
-    subst (λ (b : State). IsSoundKept meaning b hall.log key k) (base_is pass hall knows)
-    (kept_more pass.opened.loaded.base pass.seen hall.log knows.seen key k sound)
-
--- ---- edits
 
 module _ (old new : PassNote) (ask : Ask) (csrf : Option (List ℕ)) (command : Command) (now : ℕ) where
   pub commits_valid : (a : Answer) → Commits a old new ask csrf command now → AreValid new.opened.loaded.base new.seen

@@ -1,7 +1,13 @@
 pub mod Halls
 pub mod Seats
+pub mod Desks
+pub mod Editing
+pub mod Settling
+pub mod Announcing
+pub mod Outcomes
 pub mod Going
 pub mod Houses
 pub mod Ending
+pub mod Opening
 pub mod Working
 pub mod Crossing

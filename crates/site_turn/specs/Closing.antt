@@ -3,11 +3,13 @@ use Rattle.std.specs.Prelude.{◌≡◌, ◌<◌, ◌==◌, ℕ, List, Bool, All
 use Rattle.std.specs.List.{list_any}
 use Rattle.atomic_table.specs.Seated.{TableId}
 use Rattle.turn_rule.specs.declared.notes.HallNote.{HallNote}
+use Rattle.turn_rule.specs.declared.notes.HallPart.{HallPart}
+use Rattle.turn_rule.specs.declared.notes.DeskPart.{DeskPart}
 use Rattle.turn_rule.specs.declared.notes.PassNote.{PassNote}
 use Rattle.turn_rule.specs.declared.notes.FounderNote.{FounderNote}
 use Rattle.turn_rule.specs.declared.notes.Note.{Note}
 use Rattle.turn_rule.specs.Steps.{AreAll, Closes}
-use Rattle.turn_rule.specs.Logs.{since}
+use Rattle.turn_rule.specs.Logs.{since, whole_of, Agree}
 use Rattle.site_turn.specs.Views.{PassView}
 
 -- what these passes know
@@ -31,7 +33,12 @@ pub record IsClosed (founder : FounderNote) (hall : HallNote) (passes : List Pas
   pub closes : Closes founder hall passes
   pub numbered : All (λ commit. commit.pass < founder.made) (since founder.opened hall)
 
--- what the seat that closes a table tells, where it has the hall and the founder
+-- what the seat that closes a table tells, where it has the hall, the desk and the founder
+pub record Ends (hall : HallPart) (desk : DeskPart) (founder : FounderNote) (passes : List PassNote) : Type 0 where
+  pub agree : Agree hall desk
+  pub closes : Closes founder (whole_of hall desk) passes
+  pub numbered : All (λ commit. commit.pass < founder.made) (since founder.opened (whole_of hall desk))
+
 abbrev pub EndsWith : Note → Type 0
-EndsWith note = (hall : HallNote) (founder : FounderNote) → note.hall ≡ Some hall → note.founder ≡ Some founder
-    → Closes founder hall note.passes × All (λ commit. commit.pass < founder.made) (since founder.opened hall)
+EndsWith note = (hall : HallPart) (desk : DeskPart) (founder : FounderNote) → note.hall ≡ Some hall → note.desk ≡ Some desk → note.founder ≡ Some founder
+    → Ends hall desk founder note.passes

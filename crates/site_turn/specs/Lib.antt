@@ -1,6 +1,6 @@
 pub mod Views
 pub mod Turns
-pub mod Kinds
+pub mod Edits
 pub mod Houses
 pub mod Closing
 pub mod Working

@@ -1,65 +1,69 @@
--- A turn: a pass takes the hall out, one call of the hall is made, and the pass gives it back.
-use Rattle.std.specs.Prelude.{◌≡◌, ◌≤◌, ℕ, List, [], ◌∷◌, length, Bool, true, false, Option, Some, None, Result, Ok, Err}
+-- What a turn of a pass does: it takes the hall out, one call of the hall is made, and it gives the hall back. And what an edit does,
+-- which is several turns.
+use Rattle.std.specs.Prelude.{◌≡◌, ◌≤◌, ℕ, List, [], ◌∷◌, Bool, true, Option, Some, Result}
 use Rattle.std.specs.declared.alloc.AllocError.{AllocError}
-use Rattle.atomic_table.specs.Table.{Me}
 use Rattle.cache_entries.specs.declared.key.Key.{Key}
 use Rattle.cache_entries.specs.declared.kept.Bin.{Bin}
 use Rattle.cache_entries.specs.declared.kept.Found.{Found}
-use Rattle.cache_entries.specs.declared.kept.Found.TheVariants as found
 use Rattle.cache_entries.specs.declared.kept.Kept.{Kept}
 use Rattle.content_state.specs.Replay.{Begins}
 use Rattle.content_state.specs.declared.ask.Ask.{Ask}
-use Rattle.content_state.specs.declared.commit.Commit.{Commit}
 use Rattle.site_commands.specs.declared.answer.Answer.{Answer}
 use Rattle.site_commands.specs.declared.command.Command.{Command}
 use Rattle.site_hall.specs.Hall.{HallView, IsHall, Answers, Tells}
 use Rattle.site_hall.specs.Looked.{LooksUp, KeepsUnder}
+use Rattle.site_hall.specs.Sides.{HallSide, IsHallSide, with_shelves}
 use Rattle.turn_rule.specs.declared.notes.TallyNote.{TallyNote}
 use Rattle.turn_rule.specs.declared.notes.HallNote.{HallNote}
+use Rattle.turn_rule.specs.declared.notes.HallPart.{HallPart}
 use Rattle.turn_rule.specs.declared.notes.PassNote.{PassNote}
-use Rattle.turn_rule.specs.declared.notes.Note.{Note}
-use Rattle.turn_rule.specs.Steps.{zeros, bearing, with_hall, after_turn, Knows, Turns}
-use Rattle.site_turn.specs.Views.{noted, first_pass}
+use Rattle.turn_rule.specs.Steps.{zeros, bearing, with_hall, after_turn, after_look, Counts, Knows, KnowsHall}
+use Rattle.site_table.specs.Turns.{counts_of_look, counts_of_keep}
+use Rattle.site_table.specs.Views.{Place, nothing, part_of, pass_at}
+use Rattle.site_turn.specs.Views.{noted}
 
--- ---- what a turn counts
+-- ---- a turn that reads
 
--- a look that found nothing, one that found something, and something kept
-abbrev pub one_look : TallyNote
-one_look = record { looks = 1; found = 0; kept = 0 }
+-- The seat of a pass, and of nothing else, has the hall out. What the turn did to it leaves this hall, and counts this.
+pub record IsOut (more : TallyNote) (me : Place) (hall : HallSide) : Type 0 where
+  pub old : HallPart
+  pub me_is : me ≡ (with_hall (Some old) (bearing (pass_at me)), (0, nothing) ∷ [])
+  pub counts : Counts more old (part_of hall)
 
-abbrev pub one_found : TallyNote
-one_found = record { looks = 1; found = 1; kept = 0 }
+-- A pass once a turn is over that counted this and left this hall: it has seen all that the hall published, and it knows the hall. Its
+-- count of faults stays, since it hasn't asked the keeper.
+pub record HasLooked (more : TallyNote) (old new : PassNote) (hall : HallPart) : Type 0 where
+  pub is : new ≡ after_look more hall old
+  pub grows : Begins old.seen new.seen
+  pub knows : KnowsHall hall new
 
-abbrev pub one_kept : TallyNote
-one_kept = record { looks = 0; found = 0; kept = 1 }
+-- A pass had the hall out, and log and pending edit stayed; its turn did this to the hall, and counted this.
+pub record Looks (more : TallyNote) (does : HallSide → HallSide → Type 0) (old new : PassNote) : Type 0 where
+  pub before : HallSide
+  pub after : HallSide
+  pub knows : KnowsHall (part_of before) old
+  pub did : does before after
+  pub is_hall : IsHallSide after
+  pub went : HasLooked more old new (part_of after)
 
--- what a look counts, by the answer; where memory is wanting nothing is counted
-abbrev pub counts_of_found : Found → TallyNote
-counts_of_found (found.Entry e) = one_found
-counts_of_found (found.Redirect contexts) = one_found
-counts_of_found found.Absent = one_look
+-- it only read: the hall is as it was
+abbrev pub Reads : PassNote → PassNote → Type 0
+Reads old new = Looks zeros (λ before after. after ≡ before) old new
 
-abbrev pub counts_of_look : Result Found AllocError → TallyNote
-counts_of_look (Ok found) = counts_of_found found
-counts_of_look (Err fault) = zeros
+-- something was looked for under a key in a bin of the hall, in which nothing else changed
+abbrev pub LooksFor : Result Found AllocError → Bin → Key → PassNote → PassNote → Type 0
+LooksFor result bin key old new =
+    Looks (counts_of_look result) (λ before after. LooksUp result before.stock after.stock bin key × (after ≡ with_shelves before after.stock)) old new
 
--- what is counted where something was to be kept, by the answer
-abbrev pub counts_of_keep : Result (Unit {0}) AllocError → TallyNote
-counts_of_keep (Ok done) = one_kept
-counts_of_keep (Err fault) = zeros
+-- something was to be kept under a key in a bin of the hall, in which nothing else changed
+abbrev pub PutsUnder : Result (Unit {0}) AllocError → Bin → Key → Kept → PassNote → PassNote → Type 0
+PutsUnder result bin key kept old new =
+    Looks (counts_of_keep result) (λ before after. KeepsUnder result before.stock after.stock bin key kept × (after ≡ with_shelves before after.stock)) old new
 
--- ---- a turn
+-- ---- an edit
 
--- The seat of a pass has the hall out, whose log had this length then. What the turn did to it leaves this hall.
-pub record IsOut (more : TallyNote) (hands : Bool) (me : Me (Option HallView) Note) (hall : HallView) (before : ℕ) : Type 0 where
-  pub old : HallNote
-  pub commits : List Commit
-  pub me_is : me ≡ (with_hall (Some old) (bearing (first_pass me.0.passes)), (0, None) ∷ [])
-  pub turns : Turns more hands (first_pass me.0.passes).number old (noted hall) commits
-  pub before_is : before ≡ length old.log
-
--- A pass once its turn is over, which counted this, left this hall and handed an edit in or nothing: it has seen all that the hall
--- published, and it knows the hall.
+-- A pass once its edit is over, which counted this, left this hall with its desk, and handed an edit in or nothing: it has seen all that
+-- the hall published, and it knows the hall and the desk.
 pub record Went (more : TallyNote) (hands : Bool) (old new : PassNote) (hall : HallNote) : Type 0 where
   pub is : new ≡ after_turn more hands hall old
   pub grows : Begins old.seen new.seen
@@ -67,28 +71,9 @@ pub record Went (more : TallyNote) (hands : Bool) (old new : PassNote) (hall : H
   pub steady : old.opened.loaded.steadfast ≡ true → new.faults ≡ old.faults
   pub knows : Knows hall new
 
--- A pass had the hall out and handed nothing in; its turn did this to the hall, and counted this.
-pub record Looks (more : TallyNote) (does : HallView → HallView → Type 0) (old new : PassNote) : Type 0 where
-  pub before : HallView
-  pub after : HallView
-  pub knows : Knows (noted before) old
-  pub did : does before after
-  pub is_hall : IsHall after
-  pub went : Went more false old new (noted after)
-
--- it only read: the hall is as it was
-abbrev pub Reads : PassNote → PassNote → Type 0
-Reads old new = Looks zeros (λ before after. after ≡ before) old new
-
--- something was looked for under a key in a bin of the hall
-abbrev pub LooksFor : Result Found AllocError → Bin → Key → PassNote → PassNote → Type 0
-LooksFor result bin key old new = Looks (counts_of_look result) (λ before after. LooksUp result before after bin key) old new
-
--- something was to be kept under a key in a bin of the hall
-abbrev pub PutsUnder : Result (Unit {0}) AllocError → Bin → Key → Kept → PassNote → PassNote → Type 0
-PutsUnder result bin key kept old new = Looks (counts_of_keep result) (λ before after. KeepsUnder result before after bin key kept) old new
-
--- A pass had the hall out and made an edit, which bears its number, and was handed in or not.
+-- A pass made an edit, which bears its number, and was handed in or not: it had the desk out, and the hall for a turn at a time. `before`
+-- and `after` are the hall with its desk, when the desk came out and when it went back. What is kept of pages isn't told of them: other
+-- passes look and keep meanwhile.
 pub record Commits (answer : Answer) (old new : PassNote) (ask : Ask) (csrf : Option (List ℕ)) (command : Command) (now : ℕ) : Type 0 where
   pub before : HallView
   pub after : HallView

@@ -1,15 +1,14 @@
 -- A site and its passes, as contracts see them.
-use Rattle.std.specs.Prelude.{◌≡◌, ℕ, List, [], ◌∷◌, false, Option, Some, None}
+use Rattle.std.specs.Prelude.{◌≡◌, ℕ, List, [], ◌∷◌, Option, Some, None}
 use Rattle.atomic_table.specs.Seated.{TableId}
-use Rattle.turn_rule.specs.declared.notes.TallyNote.{TallyNote}
 use Rattle.turn_rule.specs.declared.notes.HallNote.{HallNote}
 use Rattle.turn_rule.specs.declared.notes.PassNote.{PassNote}
 use Rattle.turn_rule.specs.declared.notes.FounderNote.{FounderNote}
 use Rattle.turn_rule.specs.declared.notes.Note.{Note}
-use Rattle.turn_rule.specs.Steps.{zeros, bearing, founding, AreOwnIn}
+use Rattle.turn_rule.specs.Steps.{bearing, founding, AreOwnIn}
 use Rattle.site_hall.specs.Hall.{HallView}
 use Rattle.site_hall.specs.Stock.{tally_in}
-use Rattle.site_hall.specs.declared.tally.Tally.{Tally}
+use Rattle.site_table.specs.Views.{IsRoom, tally_note, no_hall, pass_of}
 
 -- a pass: the table that its site lies in, and what the pass knows
 pub record PassView : Type 0 where
@@ -21,13 +20,7 @@ pub record SiteView : Type 0 where
   pub table : TableId
   pub founder : FounderNote
 
--- ---- halls
-
--- what a hall counted
-abbrev pub tally_note : Tally → TallyNote
-tally_note tally = record { looks = tally.looks; found = tally.found; kept = tally.kept }
-
--- what is noted of a hall
+-- what is noted of an engine
 abbrev pub noted : HallView → HallNote
 noted hall = record {
   loaded = record { base = hall.base; told = hall.opened; steadfast = hall.steadfast };
@@ -37,41 +30,10 @@ noted hall = record {
   tally = tally_note (tally_in hall.stock);
 }
 
--- what is noted of the slot of a table, where a hall lies or none does
-abbrev pub noted_in : Option HallView → Option HallNote
-noted_in None = None
-noted_in (Some hall) = Some (noted hall)
-
--- the table of a site has two words, and one slot
-abbrev pub IsRoom : TableId → Type 0
-IsRoom table = (table.words ≡ 2) × (table.slots ≡ 1)
-
 -- ---- what is read off the seats' notes
-
--- what stands for a note where there is none
-abbrev no_hall : HallNote
-no_hall = record {
-  loaded = record { base = record { rows = []; counts = []; number = 0 }; told = None; steadfast = false };
-  log = [];
-  pending = None;
-  faults = 0;
-  tally = zeros;
-}
-
-abbrev no_pass : PassNote
-no_pass = record { number = 0; opened = no_hall; seen = []; handed = []; faults = 0; tally = zeros }
 
 abbrev no_founder : FounderNote
 no_founder = record { made = 0; opened = no_hall }
-
--- the first of these passes
-abbrev pub first_pass : List PassNote → PassNote
-first_pass [] = no_pass
-first_pass (pass ∷ passes) = pass
-
-abbrev pub pass_of : List Note → PassNote
-pass_of [] = no_pass
-pass_of (note ∷ notes) = first_pass note.passes
 
 abbrev pub founder_in : Option FounderNote → FounderNote
 founder_in None = no_founder

@@ -2,15 +2,15 @@
 ghost use Rattle.std.specs.Prelude.{◌≡◌, ◌<◌, ℕ, IfOk, IfErr, IfSome, IfNone, true, false, []};
 ghost use Rattle.site_hall.specs.Hall.{IsHall};
 ghost use Rattle.turn_rule.specs.Steps.{with_passes};
-ghost use Rattle.site_turn.specs.Views.{IsRoom, noted};
+ghost use Rattle.site_table.specs.Views.{IsRoom};
+ghost use Rattle.site_turn.specs.Views.{noted};
 ghost use Rattle.site_turn.specs.Closing.{notes_of, AreOf, has_number, IsClosed, EndsWith};
 
 use crate::pass::Pass;
-use crate::rules::{Desk, Place, Room, Seating};
 use crate::site::Site;
-use crate::turns::take_out;
-use site_hall::Hall;
+use site_hall::Engine;
 use site_keeper::Keeper;
+use site_table::{Place, Room, Seating, SiteTable, take_desk, take_hall};
 use std::sync::Wait;
 
 /// A site that wasn't closed, with the passes that were handed back: the pass with the number `missing` was made and isn't among these.
@@ -58,23 +58,24 @@ fn gather<K: Keeper>(room: &Room<K>, mut seat: Place<K>, mut passes: Vec<Pass>) 
 }
 
 /// Ends the table, whose rule tells what is true at the end.
-fn end<K: Keeper + Drop>(table: Desk<K>, seat: Place<K>)
+fn end<K: Keeper + Drop>(table: SiteTable<K>, seat: Place<K>)
     requires room { (seat.table_id ≡ table.shared.table_id) × IsRoom table.shared.table_id }
     requires note { seat.me.0.fresh ≡ false }
     ensures { EndsWith seat.me.0 }
 {
     let mut closed = table.close_with(seat);
     drop(closed.take(0));
+    drop(closed.take(1));
     closed.free();
 }
 
 impl<K: Keeper + Drop> Site<K> {
-    /// The hall, once all passes that were made are handed back, which are passes of this site. Otherwise all come back, with the least
-    /// number of a pass that was made and isn't among them. It waits until nobody else has the hall.
-    pub fn close<R: Wait>(self, rt: &R, passes: Vec<Pass>) -> Result<Hall<K>, Unclosed<K>>
+    /// The engine, once all passes that were made are handed back, which are passes of this site. Otherwise all come back, with the
+    /// least number of a pass that was made and isn't among them. It waits until nobody else has the desk or the hall.
+    pub fn close<R: Wait>(self, rt: &R, passes: Vec<Pass>) -> Result<Engine<K>, Unclosed<K>>
         requires { AreOf self.table passes.items }
-        ensures closed { IfOk result (λ hall. IsClosed self.founder (noted hall) (notes_of passes.items)) }
-        ensures is_hall { IfOk result (λ hall. IsHall hall) }
+        ensures closed { IfOk result (λ engine. IsClosed self.founder (noted engine) (notes_of passes.items)) }
+        ensures is_hall { IfOk result (λ engine. IsHall engine) }
         ensures back { IfErr result (λ left. (left.site ≡ self) × (left.passes.items ≡ passes.items)) }
         ensures missing { IfErr result (λ left. (left.missing < self.founder.made) × (has_number left.missing passes.items ≡ false)) }
         ensures least { IfErr result (λ left. (number : ℕ) → number < left.missing → has_number number passes.items ≡ true) }
@@ -89,8 +90,8 @@ impl<K: Keeper + Drop> Site<K> {
         }
     }
 
-    /// The hall, with all passes on the founder's seat, which ends the table.
-    fn closed<R: Wait>(self, rt: &R, passes: Vec<Pass>) -> Hall<K>
+    /// The engine, with all passes on the founder's seat, which ends the table.
+    fn closed<R: Wait>(self, rt: &R, passes: Vec<Pass>) -> Engine<K>
         requires here { AreOf self.table passes.items }
         requires all { (number : ℕ) → number < self.founder.made → has_number number passes.items ≡ true }
         ensures closed { IsClosed self.founder (noted result) (notes_of passes.items) }
@@ -98,10 +99,10 @@ impl<K: Keeper + Drop> Site<K> {
     {
         let (table, founder) = self.into_parts();
         let mut seat = founder.into_seat();
-        let hall = take_out(rt, &table.shared, &mut seat);
+        let desk = take_desk(rt, &table.shared, &mut seat);
+        let hall = take_hall(rt, &table.shared, &mut seat);
         let seat = gather(&table.shared, seat, passes);
         end(table, seat);
-        let _published = hall.len();
-        hall.into_hall()
+        Engine::of_sides(hall.into_hall(), desk.into_desk())
     }
 }

@@ -5,19 +5,19 @@ ghost use Rattle.std.specs.Option.{option_copied};
 ghost use Rattle.content_rows.specs.Kinds.{IsMoment};
 ghost use Rattle.content_state.specs.Replay.{replay};
 ghost use Rattle.site_commands.specs.Right.{IsRight};
-ghost use Rattle.site_turn.specs.Views.{IsRoom};
+ghost use Rattle.site_table.specs.Views.{IsRoom};
 ghost use Rattle.site_house.specs.Bins.{unkept_by, LooksUp, KeepsUnder, MayBeKeptIn, IsSoundIn};
 ghost use Rattle.site_house.specs.House.{AreOwn, AreValid, Answers, Moves, Stays, KeepsAll};
 ghost use Rattle.site_turn.specs.Houses.{keepers_after, guest_of};
 ghost use Rattle.site_turn.specs.Turns.{Reads, LooksFor, PutsUnder, Commits};
 
 use crate::pass::Pass;
-use crate::rules::Room;
 use cache_entries::{Bin, Found, Kept, Key};
 use content_state::{Ask, State};
 use site_commands::{Answer, Command};
 use site_house::House;
 use site_keeper::Keeper;
+use site_table::Room;
 use std::alloc::{AllocError, Global};
 use std::sync::{Arc, Wait};
 
@@ -78,7 +78,7 @@ fn unkept_after(unkept: u64, answer: &Result<(), AllocError>) -> u64
     }
 }
 
-impl<R: Wait, K: Keeper> House for Guest<'_, R, K> {
+impl<R: Wait, K: Keeper + Drop> House for Guest<'_, R, K> {
     ghost use Rattle.site_turn.specs.Houses.{guest_of};
 
     ghost sees = { λ g. guest_of g.pass.now g.pass.ghost_name g.keepers g.unkept };

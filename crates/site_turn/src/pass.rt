@@ -1,32 +1,34 @@
 //! One caller of a site, and its turns.
-ghost use Rattle.std.specs.Prelude.{◌≡◌, IfOk};
+ghost use Rattle.std.specs.Prelude.{◌≡◌, [], ◌∷◌, Some, IfOk};
 ghost use Rattle.std.specs.Arc.{arc_value};
 ghost use Rattle.std.specs.Option.{option_copied};
 ghost use Rattle.content_rows.specs.Kinds.{IsMoment};
 ghost use Rattle.content_state.specs.Replay.{replay};
 ghost use Rattle.site_commands.specs.Right.{IsRight};
-ghost use Rattle.site_turn.specs.Views.{IsRoom};
 ghost use Rattle.cache_entries.specs.Sound.{IsSoundKept, IsSoundFound};
 ghost use Rattle.page_meaning.specs.Meaning.{meaning};
-ghost use Rattle.turn_rule.specs.Steps.{AreOwnIn};
-ghost use Rattle.site_turn.specs.Turns.{Reads, LooksFor, PutsUnder, Commits};
+ghost use Rattle.site_hall.specs.Sides.{IsHallSide};
+ghost use Rattle.site_table.specs.Kinds.{counts_of};
+ghost use Rattle.site_table.specs.Views.{IsRoom, part_of, nothing, pass_of, pass_at};
+ghost use Rattle.turn_rule.specs.Steps.{AreOwnIn, KnowsHall, bearing, with_hall, after_look};
+ghost use Rattle.site_turn.specs.Turns.{IsOut, Reads, LooksFor, PutsUnder, Commits};
 
-use crate::kinds::{kept as deed_of_keep, looked};
-use crate::rules::Room;
-use crate::turns::{back_after, back_from, out};
+use crate::edit::edit;
 use atomic_table::Badge;
 use cache_entries::{Bin, Found, Kept, Key};
 use content_state::{Ask, State};
 use site_commands::{Answer, Command};
-use site_hall::Hall;
 use site_keeper::Keeper;
+use site_table::{
+    Deed, HallHome, Place, Room, count_deed, give_desk, kept_by, looked_by, take_desk, take_hall,
+};
 use std::alloc::{AllocError, Global};
 use std::marker::Model;
 use std::mem;
 use std::sync::{Arc, Wait};
 use turn_rule::Note;
 
-/// A pass to the hall of a site. It goes between threads, and holds nothing between calls. Contracts see the table that the site lies in, and
+/// A pass to a site. It goes between threads, and holds nothing between calls. Contracts see the table that the site lies in, and
 /// what the pass knows: its number, what it has seen and what it handed in.
 #[derive(Drop)]
 pub struct Pass {
@@ -36,13 +38,50 @@ pub struct Pass {
 }
 
 impl Model for Pass {
-    ghost use Rattle.site_turn.specs.Views.{PassView, HasPass, pass_of};
+    ghost use Rattle.site_table.specs.Views.{pass_of};
+    ghost use Rattle.site_turn.specs.Views.{PassView, HasPass};
 
     ghost Value = { PassView };
 
     ghost view = { λ p. record { table = p.seat.table_id; note = pass_of p.seat.views } };
 
     ghost invariant = { λ p. HasPass p.seat.views p.number p.faults };
+}
+
+/// Takes the hall out for a pass.
+fn out<K: Keeper + Drop, R: Wait>(
+    rt: &R,
+    room: &Room<K>,
+    badge: Badge<Note>,
+) -> (Place<K>, HallHome)
+    requires room { (badge.table_id ≡ room.now.table_id) × IsRoom room.now.table_id }
+    requires bears { badge.views ≡ bearing (pass_of badge.views) ∷ [] }
+    ensures same { result.0.table_id ≡ badge.table_id }
+    ensures taken { result.0.me ≡ (with_hall (Some (part_of result.1)) (bearing (pass_of badge.views)), (0, nothing) ∷ []) }
+    ensures knows { KnowsHall (part_of result.1) (pass_of badge.views) }
+{
+    let mut seat = badge.into_seat();
+    let hall = take_hall(rt, room, &mut seat);
+    (seat, hall)
+}
+
+/// Gives the hall back for a pass, after a turn that did this. From then on all know what the turn did.
+fn back<K: Keeper + Drop>(
+    room: &Room<K>,
+    mut seat: Place<K>,
+    hall: HallHome,
+    deed: Deed,
+) -> Badge<Note>
+    requires room { (seat.table_id ≡ room.now.table_id) × IsRoom room.now.table_id }
+    requires out { IsOut (counts_of deed) seat.me hall }
+    ensures same { result.table_id ≡ seat.table_id }
+    ensures back { result.views ≡ bearing (after_look (counts_of deed) (part_of hall) (pass_at seat.me)) ∷ [] }
+    ensures knows { KnowsHall (part_of hall) (after_look (counts_of deed) (part_of hall) (pass_at seat.me)) }
+    ensures own { AreOwnIn (pass_of result.views) (pass_of result.views).seen }
+    ensures is_hall { IsHallSide hall }
+{
+    count_deed(room, &mut seat, hall, deed);
+    seat.into_badge()
 }
 
 impl Pass {
@@ -55,7 +94,7 @@ impl Pass {
         self.number
     }
 
-    /// How often the keeper had failed when the pass last had the hall.
+    /// How often the keeper had failed when the pass made its last edit, or when it was made: a reader doesn't ask the keeper.
     pub(crate) fn faults(&self) -> u64
         ensures count { result ≡ self.now.note.faults }
         ensures own { AreOwnIn self.now.note self.now.note.seen }
@@ -64,7 +103,7 @@ impl Pass {
     }
 
     /// The newest state, in a turn that hands nothing in.
-    pub(crate) fn snapshot<K: Keeper, R: Wait>(
+    pub(crate) fn snapshot<K: Keeper + Drop, R: Wait>(
         &mut self,
         rt: &R,
         alloc: Global,
@@ -77,15 +116,13 @@ impl Pass {
     {
         let badge = mem::replace(&mut self.seat, Badge::blank());
         let (seat, hall) = out(rt, room, badge);
-        let before = hall.len();
         let state = hall.snapshot(alloc);
-        self.faults = hall.faults();
-        self.seat = back_after(room, seat, hall, before, false);
+        self.seat = back(room, seat, hall, Deed::Nothing);
         state
     }
 
     /// What is kept of pages under a key in a bin, in a turn. An entry is sound over all that the pass has now seen.
-    pub(crate) fn look<K: Keeper, R: Wait>(
+    pub(crate) fn look<K: Keeper + Drop, R: Wait>(
         &mut self,
         rt: &R,
         alloc: Global,
@@ -100,16 +137,14 @@ impl Pass {
     {
         let badge = mem::replace(&mut self.seat, Badge::blank());
         let (seat, mut hall) = out(rt, room, badge);
-        let before = hall.len();
         let found = hall.look(alloc, bin, key);
-        let deed = looked(&found);
-        self.faults = hall.faults();
-        self.seat = back_from(room, seat, hall, before, deed);
+        let deed = looked_by(&found);
+        self.seat = back(room, seat, hall, deed);
         found
     }
 
     /// Keeps something of pages under a key in a bin, in a turn. An entry has to be sound over what the pass has seen.
-    pub(crate) fn keep<K: Keeper, R: Wait>(
+    pub(crate) fn keep<K: Keeper + Drop, R: Wait>(
         &mut self,
         rt: &R,
         alloc: Global,
@@ -125,16 +160,15 @@ impl Pass {
     {
         let badge = mem::replace(&mut self.seat, Badge::blank());
         let (seat, mut hall) = out(rt, room, badge);
-        let before = hall.len();
         let answer = hall.keep(alloc, bin, key, kept);
-        let deed = deed_of_keep(&answer);
-        self.faults = hall.faults();
-        self.seat = back_from(room, seat, hall, before, deed);
+        let deed = kept_by(&answer);
+        self.seat = back(room, seat, hall, deed);
         answer
     }
 
-    /// Makes an edit, in one turn.
-    pub(crate) fn commit<K: Keeper, R: Wait>(
+    /// Makes an edit: the pass has the desk out from the first of its turns to the last, and the hall for a call at a time, never while the
+    /// keeper writes.
+    pub(crate) fn commit<K: Keeper + Drop, R: Wait>(
         &mut self,
         rt: &R,
         alloc: Global,
@@ -151,11 +185,23 @@ impl Pass {
         ensures commits { Commits result self.old.note self.new.note ask.now (option_copied csrf.entry) command.now now }
     {
         let badge = mem::replace(&mut self.seat, Badge::blank());
-        let (seat, mut hall) = out(rt, room, badge);
-        let before = hall.len();
-        let (answer, hands) = hall.commit_and_tell(alloc, ask, csrf, command, now, self.number);
-        self.faults = hall.faults();
-        self.seat = back_after(room, seat, hall, before, hands);
+        let mut seat = badge.into_seat();
+        let mut desk = take_desk(rt, room, &mut seat);
+        let answer = edit(
+            rt,
+            alloc,
+            room,
+            &mut seat,
+            &mut desk,
+            ask,
+            csrf,
+            command,
+            now,
+            self.number,
+        );
+        self.faults = desk.faults();
+        give_desk(room, &mut seat, desk);
+        self.seat = seat.into_badge();
         answer
     }
 }

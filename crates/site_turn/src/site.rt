@@ -1,26 +1,31 @@
-//! The table with the hall, and the founder of its passes.
-ghost use Rattle.std.specs.Prelude.{◌≡◌, ◌<◌, ◌+◌, ◌^◌, [], ◌∷◌, None, IfOk, IfErr};
+//! The table with the hall and the desk, and the founder of its passes.
+ghost use Rattle.std.specs.Prelude.{◌≡◌, ◌<◌, ◌+◌, ◌^◌, [], ◌∷◌, Option, None, IfOk, IfErr};
 ghost use Rattle.content_state.specs.Replay.{Begins};
+ghost use Rattle.site_keeper.specs.Keeper.{Kept};
+ghost use Rattle.site_hall.specs.Sides.{Stands, hall_side, desk_side, engine_of};
+ghost use Rattle.site_table.specs.Views.{IsRoom};
 ghost use Rattle.turn_rule.specs.Rule.{unopened};
 ghost use Rattle.turn_rule.specs.Steps.{founding, new_pass, longer, seeing};
-ghost use Rattle.site_turn.specs.Views.{IsRoom, noted};
+ghost use Rattle.site_turn.specs.Views.{noted};
 
-use crate::home::Home;
 use crate::pass::Pass;
-use crate::rules::{Desk, Drawing, Giving, Meeting, Opening, Place, Room, Seating};
-use atomic_table::{Badge, Table};
-use site_hall::Hall;
+use atomic_table::Badge;
+use site_hall::Engine;
 use site_keeper::Keeper;
+use site_table::{
+    DeskHome, Drawing, GivingDesk, GivingHall, HallHome, Meeting, Opening, Place, Room, Seating,
+    SiteTable, new_table,
+};
 use std::alloc::Global;
 use std::marker::Model;
 use std::mem;
 use turn_rule::Note;
 
-/// A site whose hall threads share, each by a pass of its own. Contracts see the table that it lies in, how many passes were made, and
-/// the hall that it was opened with.
+/// A site whose hall and desk threads share, each by a pass of its own. Contracts see the table that it lies in, how many passes were
+/// made, and the engine that it was opened with.
 #[derive(Drop)]
 pub struct Site<K: Keeper> {
-    pub(crate) table: Desk<K>,
+    pub(crate) table: SiteTable<K>,
     pub(crate) founder: Badge<Note>,
     made: u32,
     faults: u64,
@@ -36,38 +41,63 @@ impl<K: Keeper> Model for Site<K> {
     ghost invariant = { λ s. HasFounder s.table.shared.table_id s.founder.table_id s.founder.views s.made s.faults };
 }
 
-impl<K: Keeper> Site<K> {
-    /// The site of this hall, where nothing is pending. No pass is made yet. `Err` gives the hall back, only where memory is wanting.
-    pub fn new(alloc: Global, hall: Hall<K>) -> Result<Site<K>, Hall<K>>
-        requires { hall.pending ≡ None }
-        ensures opened { IfOk result (λ site. site.founder ≡ record { made = 0; opened = noted hall }) }
-        ensures back { IfErr result (λ back. back ≡ hall) }
+/// A hall and a desk behind pointers, which are the two sides of an engine. `Err` gives the engine back, only where memory is wanting.
+fn homes_of<K: Keeper>(
+    alloc: Global,
+    engine: Engine<K>,
+) -> Result<(HallHome, DeskHome<K>), Engine<K>>
+    requires { engine.pending ≡ None }
+    ensures hall { IfOk result (λ homes. homes.0 ≡ hall_side engine) }
+    ensures desk { IfOk result (λ homes. homes.1 ≡ desk_side engine) }
+    ensures stands { IfOk result (λ homes. Stands engine.opened homes.0 homes.1) }
+    ensures back { IfErr result (λ back. back ≡ engine) }
+{
+    let (hall, desk) = engine.into_sides();
+    match HallHome::new(alloc, hall) {
+        Ok(hall) => match DeskHome::new(alloc, desk) {
+            Ok(desk) => Ok((hall, desk)),
+            Err(desk) => Err(Engine::of_sides(hall.into_hall(), desk)),
+        },
+        Err(hall) => Err(Engine::of_sides(hall, desk)),
+    }
+}
+
+impl<K: Keeper + Drop> Site<K> {
+    /// The site of this engine, where nothing is pending. No pass is made yet. `Err` gives the engine back, only where memory is
+    /// wanting.
+    pub fn new(alloc: Global, engine: Engine<K>) -> Result<Site<K>, Engine<K>>
+        requires { engine.pending ≡ None }
+        ensures opened { IfOk result (λ site. site.founder ≡ record { made = 0; opened = noted engine }) }
+        ensures back { IfErr result (λ back. back ≡ engine) }
     {
-        let home = Home::new(alloc, hall)?;
-        match Table::vacant(alloc, &[0, 1], 1, &()) {
-            Ok((table, seat)) => Ok(Site::opened(table, seat, home)),
-            Err(_) => Err(home.into_hall()),
+        let (hall, desk) = homes_of(alloc, engine)?;
+        match new_table(alloc) {
+            Ok((table, seat)) => Ok(Site::opened(table, seat, hall, desk)),
+            Err(_) => Err(Engine::of_sides(hall.into_hall(), desk.into_desk())),
         }
     }
 
-    /// Opens the site with the hall, at the table's first seat.
-    fn opened(table: Desk<K>, mut seat: Place<K>, hall: Home<K>) -> Site<K>
+    /// Opens the site with the hall and the desk, at the table's first seat.
+    fn opened(table: SiteTable<K>, mut seat: Place<K>, hall: HallHome, desk: DeskHome<K>) -> Site<K>
         requires none { hall.pending ≡ None }
+        requires stands { (told : Option Kept) × Stands told hall desk }
         requires room { (seat.table_id ≡ table.shared.table_id) × IsRoom table.shared.table_id }
         requires seat { seat.me ≡ (unopened, []) }
-        ensures { result.founder ≡ record { made = 0; opened = noted hall } }
+        ensures { (told : Option Kept) → Stands told hall desk → result.founder ≡ record { made = 0; opened = noted (engine_of told hall desk) } }
     {
         let length = hall.len() as u64;
-        let faults = hall.faults();
+        let faults = desk.faults();
         let tally = hall.tally();
         counts_fit(tally.looks, tally.found, tally.kept);
-        let home = Some(hall);
+        let both = (Some(hall), Some(desk));
         table
             .shared
-            .compare_exchange_with::<Opening>(&mut seat, 0, 0, length, &home);
-        let slot = table.shared.exchange(&mut seat, 0, home);
-        let None = slot else { unreachable!() };
-        table.shared.store::<Giving>(&mut seat, 1, 0);
+            .compare_exchange_with::<Opening>(&mut seat, 0, 0, length, &both);
+        let (hall, desk) = both;
+        table.shared.exchange(&mut seat, 0, (hall, None));
+        table.shared.store::<GivingHall>(&mut seat, 1, 0);
+        table.shared.exchange(&mut seat, 1, (None, desk));
+        table.shared.store::<GivingDesk>(&mut seat, 2, 0);
         Site {
             table,
             founder: seat.into_badge(),
@@ -75,7 +105,9 @@ impl<K: Keeper> Site<K> {
             faults,
         }
     }
+}
 
+impl<K: Keeper> Site<K> {
     /// What the threads of the site share.
     pub fn room(&self) -> &Room<K>
         ensures same { result.now.table_id ≡ self.now.table }
@@ -133,7 +165,7 @@ impl<K: Keeper> Site<K> {
     }
 
     /// The table, and the founder's seat.
-    pub(crate) fn into_parts(self) -> (Desk<K>, Badge<Note>)
+    pub(crate) fn into_parts(self) -> (SiteTable<K>, Badge<Note>)
         ensures table { result.0.shared.table_id ≡ self.table }
         ensures room { IsRoom self.table }
         ensures seat { result.1.table_id ≡ self.table }

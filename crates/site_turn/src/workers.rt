@@ -1,15 +1,15 @@
 //! Many passes at work, each in a thread where one can be started.
 ghost use Rattle.std.specs.Prelude.{◌≡◌, All};
 ghost use Rattle.site_house.specs.House.{HouseView, Moves};
-ghost use Rattle.site_turn.specs.Views.{IsRoom};
+ghost use Rattle.site_table.specs.Views.{IsRoom};
 ghost use Rattle.site_turn.specs.Working.{MayWork, HasWorked, HaveWorked};
 
 use crate::guest::Guest;
 use crate::pass::Pass;
-use crate::rules::Room;
 use crate::site::Site;
 use site_house::House;
 use site_keeper::Keeper;
+use site_table::Room;
 use std::alloc::Global;
 use std::sync::Wait;
 use std::thread;
@@ -38,7 +38,7 @@ pub struct Worker<W> {
 }
 
 /// Does the work of a worker with a pass of the room's site.
-fn work_here<K: Keeper, R: Wait, W: Work<R>>(
+fn work_here<K: Keeper + Drop, R: Wait, W: Work<R>>(
     rt: &R,
     alloc: Global,
     room: &Room<K>,
@@ -55,7 +55,7 @@ fn work_here<K: Keeper, R: Wait, W: Work<R>>(
 
 /// Does the work of all workers, whose passes are of this site, each in a thread where one can be started; the caller does what no thread
 /// does. It returns once all is done.
-pub fn work_all<K: Keeper + Send, R: Threads + Wait + Sync, W: Work<R> + Send>(
+pub fn work_all<K: Keeper + Send + Drop, R: Threads + Wait + Sync, W: Work<R> + Send>(
     rt: &R,
     alloc: Global,
     site: &Site<K>,

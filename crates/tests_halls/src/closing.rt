@@ -3,20 +3,20 @@ ghost use Rattle.std.specs.Prelude.{◌≡◌};
 ghost use Rattle.site_turn.specs.Closing.{AreOf};
 
 use crate::site::site;
-use site_hall::Hall;
+use site_hall::Engine;
 use site_keeper::MemoryKeeper;
 use site_turn::{Pass, Site};
 use std::alloc::{AllocError, Global};
 use std::sync::Wait;
 
-/// The hall of a site, with two passes of it, which are all.
+/// The engine of a site, with two passes of it, which are all.
 pub fn closed<R: Wait>(
     rt: &R,
     alloc: Global,
     site: Site<MemoryKeeper>,
     one: Pass,
     two: Pass,
-) -> Result<Hall<MemoryKeeper>, AllocError>
+) -> Result<Engine<MemoryKeeper>, AllocError>
     requires one { one.table ≡ site.table }
     requires two { two.table ≡ site.table }
 {

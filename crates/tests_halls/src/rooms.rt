@@ -1,18 +1,18 @@
-//! What halls keep of pages, where each bin has room for one thing.
+//! What engines keep of pages, where each bin has room for one thing.
 ghost use Rattle.std.specs.Prelude.{◌≡◌, IfOk, None};
 
 use crate::site::{key, stored};
 use cache_entries::{Bin, Found, Kept};
 use cacheability::OrderedSet;
-use site_hall::{Alone, Hall, Rooms, Tally};
+use site_hall::{Alone, Engine, Rooms, Tally};
 use site_house::House;
 use site_keeper::MemoryKeeper;
 use std::alloc::{AllocError, Global};
 use std::num::NonZeroUsize;
 use std::sync::Arc;
 
-// The hall of a new site, where each bin has room for one thing.
-fn hall(alloc: Global) -> Result<Hall<MemoryKeeper>, AllocError>
+// The engine of a new site, where each bin has room for one thing.
+fn hall(alloc: Global) -> Result<Engine<MemoryKeeper>, AllocError>
     ensures { IfOk result (λ hall. hall.pending ≡ None) }
 {
     let Some(one) = NonZeroUsize::new(1) else {
@@ -26,7 +26,7 @@ fn hall(alloc: Global) -> Result<Hall<MemoryKeeper>, AllocError>
     let stored = stored(alloc)?;
     let copy = stored.duplicate(alloc)?;
     let keeper = MemoryKeeper::new(alloc, copy, Vec::new(alloc));
-    Hall::with_rooms(alloc, keeper, stored, rooms).map_err(|_| AllocError)
+    Engine::with_rooms(alloc, keeper, stored, rooms).map_err(|_| AllocError)
 }
 
 // Keeps that a block stands under another key.
@@ -63,7 +63,7 @@ fn found<H: House>(alloc: Global, house: &mut H) -> Result<[bool; 5], AllocError
     Ok([before, first, elsewhere, dropped, last])
 }
 
-// Whether a hall finds what was kept last in a bin, and nothing in the others, and counts looks, finds and keeps.
+// Whether an engine finds what was kept last in a bin, and nothing in the others, and counts looks, finds and keeps.
 fn keeps_the_last(alloc: Global) -> Result<bool, AllocError> {
     let mut alone = Alone::new(alloc, hall(alloc)?);
     let Ok(found) = found(alloc, &mut alone) else {

@@ -7,7 +7,7 @@ use cacheability::Name;
 use content_rows::Items;
 use content_state::{Fragment, Rows};
 use site_files::{STARTER, read_rows};
-use site_hall::Hall;
+use site_hall::Engine;
 use site_io::MemorySource;
 use site_keeper::{MemoryKeeper, Stored};
 use site_turn::Site;
@@ -46,7 +46,7 @@ pub fn site(alloc: Global) -> Result<Site<MemoryKeeper>, AllocError>
     let stored = stored(alloc)?;
     let copy = stored.duplicate(alloc)?;
     let keeper = MemoryKeeper::new(alloc, copy, Vec::new(alloc));
-    let Ok(hall) = Hall::new(alloc, keeper, stored) else {
+    let Ok(hall) = Engine::new(alloc, keeper, stored) else {
         return Err(AllocError);
     };
     Site::new(alloc, hall).map_err(|_| AllocError)

@@ -1,12 +1,12 @@
 -- Lists of edits that stand in others, fronts of logs, and counts that stay at the greatest u64.
-use Rattle.std.proofs.Common.{◌≡◌, ◌≢◌, ℕ, zero, suc, ◌+◌, ◌≤◌, List, [], ◌∷◌, ◌++◌, length, get_or, drop, ◌==◌, cond, Bool, true, false, ltb, ltb-true, ltb-false, ◌⊎◌, inl, inr, ⊎_elim, refl, sym, ap, ◌∙◌, subst, arith, append_assoc, append-nil, ne_eqb, eq-eqb}
+use Rattle.std.proofs.Common.{◌≡◌, ◌≢◌, ℕ, zero, suc, ◌+◌, ◌≤◌, List, [], ◌∷◌, ◌++◌, length, get_or, drop, ◌==◌, cond, Bool, true, false, ltb, ltb-true, ltb-false, ◌⊎◌, inl, inr, ⊎_elim, refl, sym, ap, ◌∙◌, subst, arith, append_assoc, append-nil, length-append, ne_eqb, eq-eqb}
 use Rattle.std.specs.List.{All}
 use Rattle.std.proofs.lemmas.List.Elements.{All-nil, All-cons, All-head, All-tail, filter-append}
 use Rattle.content_state.specs.Replay.{Begins}
 use Rattle.content_state.specs.declared.commit.Commit.{Commit}
 use Rattle.site_house.specs.House.{IsSublist, by_pass}
 use Rattle.turn_rule.specs.Rule.{capped}
-use Rattle.turn_rule.specs.Steps.{plus, longer}
+use Rattle.turn_rule.specs.Steps.{plus, longer, front}
 
 -- ---- lists that stand in others
 
@@ -14,7 +14,7 @@ sub_nil : (ys : List Commit) → IsSublist [] ys
 sub_nil [] = refl
 sub_nil (y ∷ ys) = inl (sub_nil ys)
 
-sub_same : (xs : List Commit) → IsSublist xs xs
+pub sub_same : (xs : List Commit) → IsSublist xs xs
 sub_same [] = refl
 sub_same (x ∷ xs) = inr (xs, refl, sub_same xs)
 
@@ -38,6 +38,32 @@ pub sub_all : (P : Commit → Type 0) (xs ys : List Commit) → IsSublist xs ys 
 sub_all P xs [] e h = subst (All P) (sym e) (All-nil P)
 sub_all P xs (y ∷ ys) (inl s) h = sub_all P xs ys s (All-tail P y ys h)
 sub_all P xs (y ∷ ys) (inr s) h = subst (All P) (sym s.1) (All-cons P y s.0 (All-head P y ys h) (sub_all P s.0 ys s.2 (All-tail P y ys h)))
+
+last_one : (xs : List Commit) (c y : Commit) (rest : List Commit) → xs ++ c ∷ [] ≡ y ∷ rest → rest ≡ [] → xs ≡ []
+last_one [] c y rest e n = refl
+last_one (x ∷ xs) c y rest e n =
+    let l : suc (length (xs ++ c ∷ [])) ≡ suc (length rest) = ap length e in
+    let m : length rest ≡ 0 = ap length n in
+    let k = length-append xs (c ∷ []) in absurd (omega (arith, k))
+
+no_more : (xs : List Commit) (c : Commit) → xs ++ c ∷ [] ≡ [] → ⊥
+no_more xs c e = let l : length (xs ++ c ∷ []) ≡ 0 = ap length e in let k = length-append xs (c ∷ []) in omega (arith, k)
+
+-- the same last edit is left out of both
+pub sub_cancel : (xs ys : List Commit) (c : Commit) → IsSublist (xs ++ c ∷ []) (ys ++ c ∷ []) → IsSublist xs ys
+sub_cancel xs [] c (inl e) = absurd (no_more xs c e)
+sub_cancel xs [] c (inr s) = last_one xs c c s.0 s.1 s.2
+sub_cancel xs (y ∷ ys) c (inl s) = inl (sub_cancel xs ys c s)
+sub_cancel [] (y ∷ ys) c (inr s) = sub_nil (y ∷ ys)
+sub_cancel (x ∷ xs) (y ∷ ys) c (inr s) =
+    let tails : xs ++ c ∷ [] ≡ s.0 = ap (drop 1) s.1 in
+    inr (xs, (λ i. ap (λ (z : List Commit). get_or z 0 x) s.1 i ∷ xs), sub_cancel xs ys c (subst (λ (l : List Commit). IsSublist l (ys ++ c ∷ [])) (sym tails) s.2))
+
+-- all but the last
+pub front_snoc : (xs : List Commit) (c : Commit) → front (xs ++ c ∷ []) ≡ xs
+front_snoc [] c = refl
+front_snoc (x ∷ []) c = refl
+front_snoc (x ∷ y ∷ xs) c = λ i. x ∷ front_snoc (y ∷ xs) c i
 
 -- ---- the edits of one pass
 

@@ -3,6 +3,7 @@
 use Rattle.std.specs.Prelude.{◌≡◌, ◌≢◌, ℕ, ◌+◌, ◌<◌, ◌≤◌, min, List, [], ◌∷◌, ◌++◌, length, All, true, false, ◌⊎◌, Option, Some, None}
 use Rattle.std.specs.List.{sum_by}
 use mathlib.Core.Option.{some}
+use mathlib.Core.Option as maybe
 use lib.ListN.{get_elem?}
 use Rattle.atomic_table.specs.Table.{State}
 use Rattle.content_state.specs.Replay.{Begins}
@@ -10,10 +11,13 @@ use Rattle.content_state.specs.declared.commit.Commit.{Commit}
 use Rattle.site_house.specs.House.{IsSublist, by_pass}
 use Rattle.turn_rule.specs.declared.notes.TallyNote.{TallyNote}
 use Rattle.turn_rule.specs.declared.notes.HallNote.{HallNote}
+use Rattle.turn_rule.specs.declared.notes.HallPart.{HallPart}
+use Rattle.turn_rule.specs.declared.notes.DeskPart.{DeskPart}
+use Rattle.turn_rule.specs.declared.notes.DeskNote.{DeskNote}
 use Rattle.turn_rule.specs.declared.notes.PassNote.{PassNote}
 use Rattle.turn_rule.specs.declared.notes.FounderNote.{FounderNote}
 use Rattle.turn_rule.specs.declared.notes.Note.{Note}
-use Rattle.turn_rule.specs.Logs.{waiting}
+use Rattle.turn_rule.specs.Logs.{waiting, hall_part, desk_part, StandsFor}
 
 -- ---- the account
 
@@ -26,10 +30,11 @@ pub record Books : Type 0 where
   pub made : ℕ
   pub passes : List PassNote
 
--- the account: the books, and which seats have the hall, the founder and each pass
+-- the account: the books, and which seats have the hall, the desk, the founder and each pass
 pub record Account : Type 0 where
   pub books : Books
   pub owner : ℕ
+  pub clerk : ℕ
   pub head : ℕ
   pub holder : ℕ → ℕ
 
@@ -103,33 +108,58 @@ Stands notes seat pass = (note : Note) × (get_elem? notes seat ≡ some note) �
 abbrev pub founder_in : Books → FounderNote
 founder_in books = record { made = books.made; opened = books.opened }
 
--- what a seat says agrees with the account. The gate is 0 where the hall lies in the slot
-pub record Fits (account : Account) (gate : ℕ) (seat : ℕ) (note : Note) : Type 0 where
+-- What a seat says agrees with the account. The gate of the hall is 0 where the hall lies in its slot, and the door, which is the gate
+-- of the desk, where the desk does.
+pub record Fits (account : Account) (gate door seat : ℕ) (note : Note) : Type 0 where
   pub old : note.fresh ≡ false
-  pub hall : (hall : HallNote) → note.hall ≡ Some hall → (seat ≡ account.owner) × (hall ≡ account.books.hall) × (gate ≢ 0)
+  pub hall : (hall : HallPart) → note.hall ≡ Some hall → (seat ≡ account.owner) × (hall ≡ hall_part account.books.hall) × (gate ≢ 0)
+  pub desk : (desk : DeskPart) → note.desk ≡ Some desk → (seat ≡ account.clerk) × (desk ≡ desk_part account.books.hall) × (door ≢ 0)
   pub founder : (founder : FounderNote) → note.founder ≡ Some founder → (seat ≡ account.head) × (founder ≡ founder_in account.books)
   pub passes : Claims account.books.passes account.holder seat note.passes
 
+-- a seat has this part out
+abbrev pub HasOut : {P : Type 0} → (Note → Option P) → List Note → ℕ → P → Type 0
+HasOut part notes seat held = (note : Note) × (get_elem? notes seat ≡ some note) × (part note ≡ Some held)
+
 -- the first seat, before the site is opened
 abbrev pub unopened : Note
-unopened = record { fresh = true; hall = None; founder = None; passes = [] }
+unopened = record { fresh = true; hall = None; desk = None; founder = None; passes = [] }
 
--- ---- the rule, by what is noted of the value in the slot
+-- ---- the rule, by what is noted of the values in the slots
 
-module _ {S : Type 0} (noted : S → Option HallNote) where
-  -- the site is open: the first word is the length of the log, and the second is the gate
-  pub record IsOpen (state : State S Note) (account : Account) (gate : ℕ) : Type 0 where
-    pub words : state.words ≡ length account.books.hall.log ∷ gate ∷ []
-    pub home : gate ≡ 0 → (value : S) × (state.homes ≡ some value ∷ []) × (noted value ≡ Some account.books.hall)
+module _ {S : Type 0} (noted : S → Option HallPart) (noted_desk : S → Option DeskNote) where
+  -- the hall lies in the first slot
+  abbrev pub HasHall : List (maybe.Option S) → HallNote → Type 0
+  HasHall homes whole = (value : S) × (get_elem? homes 0 ≡ some (some value)) × (noted value ≡ Some (hall_part whole))
+
+  -- the desk lies in the second slot, and its keeper stands for the log
+  abbrev pub HasDesk : List (maybe.Option S) → HallNote → Type 0
+  HasDesk homes whole =
+      (value : S) × (desk : DeskNote) × (get_elem? homes 1 ≡ some (some value)) × (noted_desk value ≡ Some desk) × StandsFor desk (desk_part whole)
+
+  -- the site is open: the first word is the length of the log, the second is the gate, and the third the door
+  pub record IsOpen (state : State S Note) (account : Account) (gate door : ℕ) : Type 0 where
+    pub words : state.words ≡ length account.books.hall.log ∷ gate ∷ door ∷ []
+    pub home : gate ≡ 0 → HasHall state.homes account.books.hall
+    pub away : gate ≢ 0 → HasOut (λ note. note.hall) state.views account.owner (hall_part account.books.hall)
+    pub desk : door ≡ 0 → HasDesk state.homes account.books.hall
+    pub desk_away : door ≢ 0 → HasOut (λ note. note.desk) state.views account.clerk (desk_part account.books.hall)
     pub sound : AreSound account.books
-    pub fits : (seat : ℕ) (note : Note) → get_elem? state.views seat ≡ some note → Fits account gate seat note
+    pub fits : (seat : ℕ) (note : Note) → get_elem? state.views seat ≡ some note → Fits account gate door seat note
     pub placed : (number : ℕ) (pass : PassNote) → get_elem? account.books.passes number ≡ some pass → Stands state.views (account.holder number) pass
 
   -- the site is not opened yet
   pub record IsFresh (state : State S Note) : Type 0 where
-    pub words : state.words ≡ 0 ∷ 1 ∷ []
-    pub home : (value : S) × (state.homes ≡ some value ∷ []) × (noted value ≡ None)
+    pub words : state.words ≡ 0 ∷ 1 ∷ 1 ∷ []
+    pub home : (value : S) × (other : S) × (state.homes ≡ some value ∷ some other ∷ []) × (noted value ≡ None) × (noted_desk other ≡ None)
     pub views : state.views ≡ unopened ∷ []
 
+  -- the site is open, by some account
+  pub record Opened (state : State S Note) : Type 0 where
+    pub account : Account
+    pub gate : ℕ
+    pub door : ℕ
+    pub is_open : IsOpen state account gate door
+
   abbrev pub KeepsRule : State S Note → Type 0
-  KeepsRule state = IsFresh state ⊎ ((account : Account) × (gate : ℕ) × IsOpen state account gate)
+  KeepsRule state = IsFresh state ⊎ Opened state

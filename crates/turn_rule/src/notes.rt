@@ -19,8 +19,8 @@ impl Model for Told {
     ghost view = { λ t. record { made_of = t.made_of; batches = t.batches } };
 }
 
-/// What never changes in a hall: the state that was loaded, what the keeper told when the hall was made, where it tells,
-/// and whether it tells that it never fails.
+/// What never changes in a hall and its desk: the state that was loaded, what the keeper told then, where it tells, and
+/// whether it tells that it never fails.
 pub struct Loaded {
     pub base: State,
     pub told: Option<Told>,
@@ -34,8 +34,8 @@ pub struct TallyNote {
     pub kept: u64,
 }
 
-/// What is known of a hall: what was loaded, the edits that were published since, the one that is pending, how often its
-/// keeper has failed, and what its caches counted.
+/// What is known of a hall and its desk together: what was loaded, the edits that were published since, the one that is
+/// pending, how often the keeper has failed, and what the caches counted.
 pub struct HallNote {
     pub loaded: Loaded,
     pub log: LinkedList<Commit>,
@@ -44,8 +44,35 @@ pub struct HallNote {
     pub tally: TallyNote,
 }
 
+/// What is known of a hall alone: the state that was loaded, the edits that were published since, the one that is pending,
+/// and what its caches counted.
+pub struct HallPart {
+    pub base: State,
+    pub log: LinkedList<Commit>,
+    pub pending: Option<Commit>,
+    pub tally: TallyNote,
+}
+
+/// What a seat knows that has the desk out: what was loaded, the edits that the hall has published since, the one that is
+/// pending, and how often the keeper has failed.
+pub struct DeskPart {
+    pub loaded: Loaded,
+    pub log: LinkedList<Commit>,
+    pub pending: Option<Commit>,
+    pub faults: u64,
+}
+
+/// What is known of a desk by itself: the batch of the edit that is pending, what the keeper tells, how often that has
+/// failed, and whether it tells that it never fails.
+pub struct DeskNote {
+    pub pending: Option<Batch>,
+    pub kept: Option<Told>,
+    pub faults: u64,
+    pub steadfast: bool,
+}
+
 /// What a pass knows: its number, the hall that the site was opened with, the edits that it has seen, those that it handed
-/// in, how often the keeper had failed when it last had the hall, and what its own turns counted.
+/// in, how often the keeper had failed when it last had the desk, and what its own turns counted.
 pub struct PassNote {
     pub number: u32,
     pub opened: HallNote,
@@ -61,11 +88,12 @@ pub struct FounderNote {
     pub opened: HallNote,
 }
 
-/// What a seat of the table knows: whether the site is yet to be opened, the hall where the seat has it out, what the
-/// founder knows where the seat is the founder's, and what each pass knows that stands on it.
+/// What a seat of the table knows: whether the site is yet to be opened, the hall and the desk where the seat has them out,
+/// what the founder knows where the seat is the founder's, and what each pass knows that stands on it.
 pub struct Note {
     pub fresh: bool,
-    pub hall: Option<HallNote>,
+    pub hall: Option<HallPart>,
+    pub desk: Option<DeskPart>,
     pub founder: Option<FounderNote>,
     pub passes: LinkedList<PassNote>,
 }

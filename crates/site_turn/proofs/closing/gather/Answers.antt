@@ -1,7 +1,8 @@
 use Rattle.std.proofs.Common.{◌≡◌, ◌∙◌, ◌++◌, ◌∷◌, [], List, arith, ap, subst, append_assoc}
 use Rattle.turn_rule.specs.Steps.{bearing, joined}
-use Rattle.turn_rule.proofs.Moves.{passes_joined}
-use Rattle.site_turn.specs.Views.{PassView, noted_in, pass_of}
+use Rattle.turn_laws.proofs.Seating.{passes_joined}
+use Rattle.site_table.specs.Views.{noted_in, desk_in, pass_of}
+use Rattle.site_turn.specs.Views.{PassView}
 use Rattle.site_turn.specs.Closing.{AreOf}
 use Rattle.site_turn.proofs.Seats.{seat_is}
 use Rattle.site_turn.proofs.Ending.{all_last}
@@ -20,7 +21,7 @@ join_seat-requires g c =
       e.0 ∙ ap (λ v. v.table) c.pass.view_is ∙ here.1 ∙ room.0,
       e.3,
       omega arith,
-      passes_joined noted_in _ _ _ _ pass (ap (λ m. m.0.fresh) loop.2.2 ∙ c.requires.note.0) (ap (λ m. m.0) you),
+      passes_joined noted_in desk_in _ _ _ _ pass (ap (λ m. m.0.fresh) loop.2.2 ∙ c.requires.note.0) (ap (λ m. m.0) you),
     )
 
 pub passes-preserved : goal.passes-preserved

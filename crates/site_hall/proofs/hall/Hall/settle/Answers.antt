@@ -1,21 +1,37 @@
-use Rattle.std.proofs.Common.{◌∙◌, ap, sym, subst}
-use Rattle.std.specs.Prelude.{not}
-use Rattle.std.proofs.lemmas.Result.{err_from_is_err_and}
-use Rattle.site_hall.specs.Hall.{HallView}
-use Rattle.site_hall.specs.Ready.{LeavesPending}
-use Rattle.site_hall.specs.Within.{view_of}
-use Rattle.site_hall.proofs.Halls.{settled_already, head_leaves, none_by}
+use Rattle.std.proofs.Common.{◌∙◌, Option, sym, subst}
+use Rattle.site_hall.specs.Log.{Made}
+use Rattle.site_hall.specs.Sides.{IsHallSide}
+use Rattle.site_hall.specs.Within.{IsWholeSide}
+use Rattle.site_hall.proofs.Wholes.{published_side, forgotten_side}
 use Rattle.site_hall.proofs.hall.Hall.settle.Goals as goal
+use Rattle.site_hall.proofs.hall.Hall.settle.Goals.{then-kept, else-kept}
 
-pub returns-then-is_none-clause-settles : goal.returns-then-is_none-clause-settles
-returns-then-is_none-clause-settles g c =
-    let none = none_by (c.is_none.ensures ∙ ap not c.if-is_none.true) in
-    settled_already c.args.self.now
-    (ap (λ (hall : HallView). hall.pending) (sym c.self.view_is) ∙ ap (λ o. (view_of c.self.inside.log o (g.K.Keeper.kept c.self.inside.keeper) 0 (g.K.Keeper.steadfast c.self.inside.keeper) c.self.inside.stock).pending) none)
+pub publish-requires-clause-room : goal.publish-requires-clause-room
+publish-requires-clause-room g c = (c.self.invariant.has_place c.in-Some.made (sym c.take.ensures.value ∙ c.in-Some.is)).room
 
-pub returns-in_err-head-clause-leaves : goal.returns-in_err-head-clause-leaves
-returns-in_err-head-clause-leaves g c =
-    let p = err_from_is_err_and c.from_residual.result c.from_residual.ensures.1 in
-    let new = view_of c.self.inside.log c.self.inside.pending (g.K.Keeper.kept c.head.new.self) (g.K.Keeper.faults c.head.new.self) (g.K.Keeper.steadfast c.head.new.self) c.self.inside.stock in
-    let leaves = head_leaves c.in_err-head.field-0.0 c.self.inside.log c.self.inside.pending (g.K.Keeper.kept c.self.inside.keeper) (g.K.Keeper.kept c.head.new.self) (g.K.Keeper.faults c.self.inside.keeper) (g.K.Keeper.faults c.head.new.self) (g.K.Keeper.steadfast c.self.inside.keeper) (g.K.Keeper.steadfast c.head.new.self) c.self.inside.stock (c.is_none.ensures ∙ ap not c.if-is_none.false) c.in_err-head.ensures.stays c.in_err-head.ensures.cause c.head.ensures.steadfast.tells in
-    rw (p.1, p.2) (subst (λ (old : HallView). LeavesPending c.in_err-head.field-0.0 old new) c.self.view_is leaves)
+pub publish-requires-clause-short : goal.publish-requires-clause-short
+publish-requires-clause-short g c = (c.self.invariant.has_place c.in-Some.made (sym c.take.ensures.value ∙ c.in-Some.is)).short
+
+pub invariant_of-self : goal.invariant_of-self
+invariant_of-self g c =
+    let whole = subst (λ (p : Option Made). IsWholeSide c.self.inside.log p c.self.inside.stock) (sym c.take.ensures.value ∙ c.in-Some.is) c.self.invariant in
+    subst (λ (p : Option Made). IsWholeSide c.publish.new.self p c.self.inside.stock) (sym c.take.ensures.after)
+    (published_side c.self.inside.log c.publish.new.self c.self.inside.stock c.in-Some.made whole c.publish.ensures.base c.publish.ensures.edits)
+
+pub invariant_of-self-else-kept : goal.invariant_of-self-else-kept
+invariant_of-self-else-kept g c =
+    let whole = subst (λ (p : Option Made). IsWholeSide c.self.inside.log p c.self.inside.stock) (sym c.take.ensures.value ∙ c.in-Some.is) c.self.invariant in
+    subst (λ (p : Option Made). IsWholeSide c.self.inside.log p c.self.inside.stock) (sym c.take.ensures.after)
+    (forgotten_side c.self.inside.log c.self.inside.stock c.in-Some.made whole)
+
+pub returns-clause-is_hall : goal.returns-clause-is_hall
+returns-clause-is_hall g c =
+    let whole = subst (λ (p : Option Made). IsWholeSide c.self.inside.log p c.self.inside.stock) (sym c.take.ensures.value ∙ c.in-Some.is) c.self.invariant in
+    elim c.if-kept.branch [
+      | then-kept w ↦ subst IsHallSide (sym w.self-is)
+          (subst (λ (p : Option Made). IsWholeSide w.publish.new.self p c.self.inside.stock) (sym c.take.ensures.after)
+          (published_side c.self.inside.log w.publish.new.self c.self.inside.stock c.in-Some.made whole w.publish.ensures.base w.publish.ensures.edits)).is_hall
+      | else-kept w ↦ subst IsHallSide (sym w.self-is)
+          (subst (λ (p : Option Made). IsWholeSide c.self.inside.log p c.self.inside.stock) (sym c.take.ensures.after)
+          (forgotten_side c.self.inside.log c.self.inside.stock c.in-Some.made whole)).is_hall
+    ]

@@ -1,7 +1,7 @@
 use Rattle.std.proofs.Common.{◌∙◌, arith, ap, sym, [], ◌∷◌}
 use Rattle.turn_rule.specs.Steps.{bearing, joined, left_of, right_of, longer, seeing}
-use Rattle.turn_rule.proofs.Moves.{passes_joined, passes_met, passes_seated}
-use Rattle.site_turn.specs.Views.{noted_in, pass_of}
+use Rattle.turn_laws.proofs.Seating.{passes_joined, passes_met, passes_seated}
+use Rattle.site_table.specs.Views.{noted_in, desk_in, pass_of}
 use Rattle.site_turn.proofs.Seats.{seat_is, two_met, two_own, has_seen}
 use Rattle.site_turn.proofs.site.Site.meet.Goals as goal
 
@@ -20,7 +20,7 @@ join_seat-requires g c =
       a.0 ∙ ap (λ b. b.table_id) first ∙ ap (λ v. v.table) c.one.view_is ∙ c.requires.one ∙ sym (ap (λ v. v.table) c.self.view_is),
       a.3,
       omega arith,
-      passes_joined noted_in _ _ _ _ p (ap (λ m. m.0.fresh) two) (ap (λ m. m.0) one),
+      passes_joined noted_in desk_in _ _ _ _ p (ap (λ m. m.0.fresh) two) (ap (λ m. m.0) one),
     )
 
 pub load-requires : goal.load-requires
@@ -37,7 +37,7 @@ load-requires g c =
     let words = c.self.invariant.room.0 in (
       both.0 ∙ b.0 ∙ ap (λ b. b.table_id) second ∙ ap (λ v. v.table) c.other.view_is ∙ c.requires.other ∙ sym (ap (λ v. v.table) c.self.view_is),
       omega arith,
-      passes_met noted_in _ _ _ p q c.self.invariant.room.1 (both.2 ∙ λ i. (joined ((two i).0) ((one i).0), (two i).1)),
+      passes_met noted_in desk_in _ _ _ p q c.self.invariant.room.1 (both.2 ∙ λ i. (joined ((two i).0) ((one i).0), (two i).1)),
     )
 
 pub split_seat-new-requires : goal.split_seat-new-requires
@@ -55,7 +55,7 @@ split_seat-new-requires g c =
     let words = c.self.invariant.room.0 in (
       c.load.ensures.0 ∙ both.0 ∙ b.0 ∙ ap (λ b. b.table_id) second ∙ ap (λ v. v.table) c.other.view_is ∙ c.requires.other ∙ sym (ap (λ v. v.table) c.self.view_is),
       omega arith,
-      passes_seated noted_in _ _ (seeing (longer p.seen q.seen) p) _ (ap (λ m. m.0.fresh) have_met) (ap (λ m. m.0.passes) have_met),
+      passes_seated noted_in desk_in _ _ (seeing (longer p.seen q.seen) p) _ (ap (λ m. m.0.fresh) have_met) (ap (λ m. m.0.passes) have_met),
     )
 
 pub invariant_of-one : goal.invariant_of-one

@@ -1,7 +1,8 @@
 use Rattle.std.proofs.Common.{◌∙◌, arith, ap}
 use Rattle.turn_rule.specs.Steps.{founding, new_pass}
-use Rattle.turn_rule.proofs.Moves.{passes_drawn, passes_seated}
-use Rattle.site_turn.specs.Views.{noted_in, founder_of}
+use Rattle.turn_laws.proofs.Seating.{passes_drawn, passes_seated}
+use Rattle.site_table.specs.Views.{noted_in, desk_in}
+use Rattle.site_turn.specs.Views.{founder_of}
 use Rattle.site_turn.proofs.Seats.{seat_is}
 use Rattle.site_turn.proofs.site.Site.new_pass.Goals as goal
 
@@ -15,7 +16,7 @@ load-requires g c =
     let words = site.room.0 in (
       seat.0 ∙ ap (λ b. b.table_id) value ∙ site.one_table,
       omega arith,
-      passes_drawn noted_in _ _ _ founder site.room.1 me,
+      passes_drawn noted_in desk_in _ _ _ founder site.room.1 me,
     )
 
 pub split_seat-new-requires : goal.split_seat-new-requires
@@ -27,5 +28,5 @@ split_seat-new-requires g c =
     let words = site.room.0 in (
       drawn.0 ∙ seat.0 ∙ ap (λ b. b.table_id) value ∙ site.one_table,
       omega arith,
-      passes_seated noted_in _ _ (new_pass drawn.2.0) _ (ap (λ m. m.0.fresh) drawn.2.2) (ap (λ m. m.0.passes) drawn.2.2),
+      passes_seated noted_in desk_in _ _ (new_pass drawn.2.0) _ (ap (λ m. m.0.fresh) drawn.2.2) (ap (λ m. m.0.passes) drawn.2.2),
     )
