@@ -18,6 +18,8 @@ from kit.client import Client
 from kit.pause import GUARD
 
 BACKUPS = 5
+SHORTEST_LOG = 32 + 24 + 512
+"""The bytes of the shortest log of SQLite with a page: the log's header, that of a frame, and the smallest page."""
 LIMITS = support.COMPANION / "docs" / "limits.md"
 
 
@@ -52,6 +54,14 @@ class Store(support.Case):
     def titles(self, copy: str) -> dict[str, str]:
         lines = (self.room / copy / "site.rows").read_text(encoding="utf-8").splitlines()
         return {row["cell"]: row.get("title", "") for row in map(json.loads, lines)}
+
+    def test_one_file_after_a_job(self) -> None:
+        """A job that ends by itself leaves no page in the log beside the store: the file alone is the site."""
+        log = Path(self.store + "-wal")
+        self.assertLess(log.stat().st_size if log.exists() else 0, SHORTEST_LOG)
+        alone = self.path("alone.db")
+        Path(alone).write_bytes(Path(self.store).read_bytes())
+        self.assertEqual(self.run_site("export", "--store", alone), self.run_site("export", "--store", self.store))
 
     def test_backups_under_load(self) -> None:
         """Each copy is a site, and has every edit that was answered before it was begun."""

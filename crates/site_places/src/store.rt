@@ -34,6 +34,15 @@ impl StoreFile {
     {
         StoreFile { keeper }
     }
+
+    /// Ends the store. What stands in its log is put into the database file first, as SQLite does where the last connection
+    /// is closed, so that the store lies in one file. Where the disk refuses that, the log stays and is read at the next
+    /// opening: nothing that was kept is lost, and it is no fault.
+    /// <https://www.sqlite.org/wal.html#ckpt>
+    pub fn close(self) {
+        let StoreFile { keeper } = self;
+        let _log_is_copied = keeper.into_connection().close();
+    }
 }
 
 impl Keeper for StoreFile {

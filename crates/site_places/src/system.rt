@@ -202,7 +202,7 @@ impl Place for SystemPlace {
         if keeper.faults() > 0 {
             self.keeper_faults = self.keeper_faults.saturating_add(1);
         }
-        drop(keeper);
+        keeper.close();
     }
 
     fn door(&mut self, address: &str) -> Result<LobbyDoor<HostRuntime, HttpFraming>, NoDevice> {
