@@ -20,7 +20,7 @@ use Rattle.cacheability.proofs.Decimals.{slice_cmp-append}
 -- the tag of a kind with this number and this name in it
 tag_made : ℕ → ℕ → List ℕ → Tag
 tag_made rank n name =
-    get_or (tag.NotFound ∷ tag.Block name ∷ tag.BlockList ∷ tag.NodeType name ∷ tag.Menu name ∷ tag.Site ∷ tag.Role name ∷ tag.Listing name ∷ tag.Node n ∷ tag.NodeList ∷ tag.NodeListOf name ∷ tag.Rendered ∷ tag.Term n ∷ tag.TermList ∷ tag.User n ∷ []) rank tag.NotFound
+    get_or (tag.NotFound ∷ tag.Comment n ∷ tag.CommentList n ∷ tag.Block name ∷ tag.BlockList ∷ tag.NodeType name ∷ tag.Menu name ∷ tag.Site ∷ tag.Role name ∷ tag.Listing name ∷ tag.Node n ∷ tag.NodeList ∷ tag.NodeListOf name ∷ tag.Rendered ∷ tag.Term n ∷ tag.TermList ∷ tag.User n ∷ []) rank tag.NotFound
 
 tag_made_again : (t : Tag) → tag_made (tag_rank t) (tag_number t) (tag_name t) ≡ t
 unfolding tag_made
@@ -33,6 +33,8 @@ tag_made_again tag.TermList = refl
 tag_made_again (tag.Node n) = refl
 tag_made_again tag.NodeList = refl
 tag_made_again (tag.NodeListOf t) = refl
+tag_made_again (tag.Comment c) = refl
+tag_made_again (tag.CommentList n) = refl
 tag_made_again (tag.Menu m) = refl
 tag_made_again (tag.Listing l) = refl
 tag_made_again (tag.Block b) = refl
@@ -118,7 +120,7 @@ is_before_all text fronts = list_all (λ front. is_lt (slice_cmp nat_cmp text fr
 -- what the texts of each kind of tag begin with, in order
 abbrev tag_fronts : List (List ℕ)
 tag_fronts =
-    codes "4xx-response" ∷ codes "config:block.block." ∷ codes "config:block_list" ∷ codes "config:node.type." ∷ codes "config:system.menu." ∷ codes "config:system.site" ∷ codes "config:user.role." ∷ codes "config:views.view." ∷ codes "node:" ∷ codes "node_list" ∷ codes "node_list:" ∷ codes "rendered" ∷ codes "taxonomy_term:" ∷ codes "taxonomy_term_list" ∷ codes "user:" ∷ []
+    codes "4xx-response" ∷ codes "comment:" ∷ codes "comment_list:" ∷ codes "config:block.block." ∷ codes "config:block_list" ∷ codes "config:node.type." ∷ codes "config:system.menu." ∷ codes "config:system.site" ∷ codes "config:user.role." ∷ codes "config:views.view." ∷ codes "node:" ∷ codes "node_list" ∷ codes "node_list:" ∷ codes "rendered" ∷ codes "taxonomy_term:" ∷ codes "taxonomy_term_list" ∷ codes "user:" ∷ []
 
 tag_before : (t : Tag) → is_before_all (tag_text t) (drop (suc (tag_rank t)) tag_fronts) ≡ true
 tag_before tag.Site = refl
@@ -130,6 +132,8 @@ tag_before tag.TermList = refl
 tag_before (tag.Node n) = refl
 tag_before tag.NodeList = refl
 tag_before (tag.NodeListOf t) = refl
+tag_before (tag.Comment c) = refl
+tag_before (tag.CommentList n) = refl
 tag_before (tag.Menu m) = refl
 tag_before (tag.Listing l) = refl
 tag_before (tag.Block b) = refl
@@ -151,6 +155,8 @@ tag_begins tag.TermList = (omega arith, refl)
 tag_begins (tag.Node n) = (omega arith, refl)
 tag_begins tag.NodeList = (omega arith, refl)
 tag_begins (tag.NodeListOf t) = (omega arith, refl)
+tag_begins (tag.Comment c) = (omega arith, refl)
+tag_begins (tag.CommentList n) = (omega arith, refl)
 tag_begins (tag.Menu m) = (omega arith, refl)
 tag_begins (tag.Listing l) = (omega arith, refl)
 tag_begins (tag.Block b) = (omega arith, refl)
@@ -255,6 +261,8 @@ numbered_by_rank tag.TermList = refl
 numbered_by_rank (tag.Node n) = refl
 numbered_by_rank tag.NodeList = refl
 numbered_by_rank (tag.NodeListOf t) = refl
+numbered_by_rank (tag.Comment c) = refl
+numbered_by_rank (tag.CommentList n) = refl
 numbered_by_rank (tag.Menu m) = refl
 numbered_by_rank (tag.Listing l) = refl
 numbered_by_rank (tag.Block b) = refl

@@ -38,12 +38,14 @@ tag_of text =
     (where_begun (behind (codes "node:") text) (λ n. tag.Node (number_of n))
     (where_begun (behind (codes "node_list:") text) (λ t. tag.NodeListOf t)
     (where_begun (behind (codes "node_list") text) (λ _. tag.NodeList)
+    (where_begun (behind (codes "comment:") text) (λ c. tag.Comment (number_of c))
+    (where_begun (behind (codes "comment_list:") text) (λ n. tag.CommentList (number_of n))
     (where_begun (behind (codes "config:system.menu.") text) (λ m. tag.Menu m)
     (where_begun (behind (codes "config:views.view.") text) (λ l. tag.Listing l)
     (where_begun (behind (codes "config:block.block.") text) (λ b. tag.Block b)
     (where_begun (behind (codes "config:block_list") text) (λ _. tag.BlockList)
     (where_begun (behind (codes "rendered") text) (λ _. tag.Rendered)
-    tag.NotFound)))))))))))))
+    tag.NotFound)))))))))))))))
 
 tag_of-tag_text : (t : Tag) → tag_of (tag_text t) ≡ t
 tag_of-tag_text tag.Site = refl
@@ -55,6 +57,8 @@ tag_of-tag_text tag.TermList = refl
 tag_of-tag_text (tag.Node n) = ap tag.Node (number_of-decimal n)
 tag_of-tag_text tag.NodeList = refl
 tag_of-tag_text (tag.NodeListOf t) = refl
+tag_of-tag_text (tag.Comment c) = ap tag.Comment (number_of-decimal c)
+tag_of-tag_text (tag.CommentList n) = ap tag.CommentList (number_of-decimal n)
 tag_of-tag_text (tag.Menu m) = refl
 tag_of-tag_text (tag.Listing l) = refl
 tag_of-tag_text (tag.Block b) = refl

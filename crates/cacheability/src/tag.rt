@@ -35,6 +35,10 @@ pub enum Tag {
     NodeList,
     /// `node_list:<type>`: which nodes of a content type there are.
     NodeListOf(Name),
+    /// `comment:<cid>`: a comment.
+    Comment(u32),
+    /// `comment_list:<nid>`: which comments a node has.
+    CommentList(u32),
     /// `config:system.menu.<menu>`: a menu.
     Menu(Name),
     /// `config:views.view.<listing>`: a listing.
@@ -74,6 +78,8 @@ impl Tag {
             Tag::Node(number) => 480 + digit_sum(*number),
             Tag::NodeList => 961,
             Tag::NodeListOf(name) => 1_019 + name.byte_sum(),
+            Tag::Comment(number) => 813 + digit_sum(*number),
+            Tag::CommentList(number) => 1_352 + digit_sum(*number),
             Tag::Menu(name) => 1_894 + name.byte_sum(),
             Tag::Listing(name) => 1_781 + name.byte_sum(),
             Tag::Block(name) => 1_826 + name.byte_sum(),
@@ -108,20 +114,22 @@ impl Tag {
     {
         match self {
             Tag::NotFound => 0,
-            Tag::Block(_) => 1,
-            Tag::BlockList => 2,
-            Tag::NodeType(_) => 3,
-            Tag::Menu(_) => 4,
-            Tag::Site => 5,
-            Tag::Role(_) => 6,
-            Tag::Listing(_) => 7,
-            Tag::Node(_) => 8,
-            Tag::NodeList => 9,
-            Tag::NodeListOf(_) => 10,
-            Tag::Rendered => 11,
-            Tag::Term(_) => 12,
-            Tag::TermList => 13,
-            Tag::User(_) => 14,
+            Tag::Comment(_) => 1,
+            Tag::CommentList(_) => 2,
+            Tag::Block(_) => 3,
+            Tag::BlockList => 4,
+            Tag::NodeType(_) => 5,
+            Tag::Menu(_) => 6,
+            Tag::Site => 7,
+            Tag::Role(_) => 8,
+            Tag::Listing(_) => 9,
+            Tag::Node(_) => 10,
+            Tag::NodeList => 11,
+            Tag::NodeListOf(_) => 12,
+            Tag::Rendered => 13,
+            Tag::Term(_) => 14,
+            Tag::TermList => 15,
+            Tag::User(_) => 16,
         }
     }
 
@@ -145,7 +153,11 @@ impl Tag {
         ensures { result ≡ tag_number self.now }
     {
         match self {
-            Tag::User(number) | Tag::Term(number) | Tag::Node(number) => *number,
+            Tag::User(number)
+            | Tag::Term(number)
+            | Tag::Node(number)
+            | Tag::Comment(number)
+            | Tag::CommentList(number) => *number,
             _ => 0,
         }
     }
@@ -154,7 +166,10 @@ impl Tag {
     fn is_numbered(&self) -> bool
         ensures { result ≡ is_numbered self.now }
     {
-        matches!(self, Tag::User(_) | Tag::Term(_) | Tag::Node(_))
+        matches!(
+            self,
+            Tag::User(_) | Tag::Term(_) | Tag::Node(_) | Tag::Comment(_) | Tag::CommentList(_)
+        )
     }
 
     /// The order of two tags of one kind, by what their texts differ in.
@@ -184,6 +199,8 @@ impl Tag {
             Tag::Node(nid) => Written::with_number(b"node:", *nid),
             Tag::NodeList => Written::of(b"node_list"),
             Tag::NodeListOf(name) => Written::with_name(b"node_list:", name),
+            Tag::Comment(cid) => Written::with_number(b"comment:", *cid),
+            Tag::CommentList(nid) => Written::with_number(b"comment_list:", *nid),
             Tag::Menu(name) => Written::with_name(b"config:system.menu.", name),
             Tag::Listing(name) => Written::with_name(b"config:views.view.", name),
             Tag::Block(name) => Written::with_name(b"config:block.block.", name),

@@ -10,6 +10,7 @@ abbrev pub cell_place : Cell → ℕ
 cell_place (cell.User id) = id % 1024
 cell_place (cell.Term id) = id % 1024
 cell_place (cell.Node id) = id % 1024
+cell_place (cell.Comment id) = id % 1024
 cell_place c = sum (cell_text c) % 1024
 
 within : (n : ℕ) → n % 1024 < 1024
@@ -20,6 +21,7 @@ pub cells_within : (c : Cell) → cell_place c < 1024
 cells_within (cell.User id) = within id
 cells_within (cell.Term id) = within id
 cells_within (cell.Node id) = within id
+cells_within (cell.Comment id) = within id
 cells_within cell.Site = within (sum (cell_text cell.Site))
 cells_within cell.Seq = within (sum (cell_text cell.Seq))
 cells_within (cell.NodeType name) = within (sum (cell_text (cell.NodeType name)))
@@ -28,4 +30,5 @@ cells_within (cell.Menu name) = within (sum (cell_text (cell.Menu name)))
 cells_within (cell.Listing name) = within (sum (cell_text (cell.Listing name)))
 cells_within (cell.Block name) = within (sum (cell_text (cell.Block name)))
 cells_within (cell.Session name) = within (sum (cell_text (cell.Session name)))
+cells_within cell.Talk = within (sum (cell_text cell.Talk))
 cells_within cell.Head = within (sum (cell_text cell.Head))

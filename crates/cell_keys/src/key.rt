@@ -97,7 +97,9 @@ fn place_of(cell: &Cell) -> usize
     ensures { result ≡ cell_place cell.now }
 {
     match cell {
-        Cell::User(id) | Cell::Term(id) | Cell::Node(id) => *id as usize % 1_024,
+        Cell::User(id) | Cell::Term(id) | Cell::Node(id) | Cell::Comment(id) => {
+            *id as usize % 1_024
+        }
         Cell::Site => sum_of(b"site") % 1_024,
         Cell::Seq => sum_of(b"seq") % 1_024,
         Cell::NodeType(name) => sum_with(b"type:", name) % 1_024,
@@ -106,6 +108,7 @@ fn place_of(cell: &Cell) -> usize
         Cell::Listing(name) => sum_with(b"listing:", name) % 1_024,
         Cell::Block(name) => sum_with(b"block:", name) % 1_024,
         Cell::Session(name) => sum_with(b"session:", name) % 1_024,
+        Cell::Talk => sum_of(b"talk") % 1_024,
         Cell::Head => sum_of(b"head") % 1_024,
     }
 }

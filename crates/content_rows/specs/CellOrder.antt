@@ -25,7 +25,9 @@ kind_place (cell.Menu name) = 7
 kind_place (cell.Listing name) = 8
 kind_place (cell.Block name) = 9
 kind_place (cell.Session name) = 10
-kind_place cell.Head = 11
+kind_place (cell.Comment id) = 11
+kind_place cell.Talk = 12
+kind_place cell.Head = 13
 
 -- two cells of one kind: by number, or by the bytes of the name
 abbrev pub within_kind : Cell → Cell → Ordering
@@ -38,6 +40,7 @@ within_kind (cell.Menu m) (cell.Menu n) = slice_cmp nat_cmp m n
 within_kind (cell.Listing m) (cell.Listing n) = slice_cmp nat_cmp m n
 within_kind (cell.Block m) (cell.Block n) = slice_cmp nat_cmp m n
 within_kind (cell.Session m) (cell.Session n) = slice_cmp nat_cmp m n
+within_kind (cell.Comment m) (cell.Comment n) = nat_cmp m n
 within_kind _ _ = Equal
 
 -- by their kinds, and then within the kind

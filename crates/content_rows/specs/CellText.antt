@@ -16,4 +16,6 @@ cell_text (cell.Menu name) = codes "menu:" ++ name
 cell_text (cell.Listing name) = codes "listing:" ++ name
 cell_text (cell.Block name) = codes "block:" ++ name
 cell_text (cell.Session name) = codes "session:" ++ name
+cell_text (cell.Comment id) = codes "comment:" ++ decimal id
+cell_text cell.Talk = codes "talk"
 cell_text cell.Head = codes "head"

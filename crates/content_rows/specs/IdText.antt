@@ -1,4 +1,4 @@
--- The numbers of nodes, terms and users as texts.
+-- The numbers of nodes, terms, users and comments as texts.
 use Rattle.std.specs.Prelude.{ℕ, List, Option, Some, None, ◌&&◌, nat_le, if◌then◌else◌}
 use Rattle.std.specs.Fmt.{decimal}
 use Rattle.std.specs.Str.{bytes_eq}

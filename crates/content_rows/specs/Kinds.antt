@@ -10,7 +10,7 @@ use Rattle.std.specs.Str.{is_utf8, bytes_eq}
 abbrev pub IsMoment : ℕ → Type 0
 IsMoment n = n ≤ 4102444800
 
--- the number of a node, a term or a user
+-- the number of a node, a term, a user or a comment
 abbrev pub IsId : ℕ → Type 0
 IsId n = (1 ≤ n) × (n ≤ 4294967294)
 
@@ -55,6 +55,10 @@ is_line most t = nat_le 1 (length t) && nat_le (length t) most && list_all is_li
 -- UTF-8 of at most 65,536 bytes, without control bytes but those of lines
 abbrev pub is_text : List ℕ → Bool
 is_text t = nat_le (length t) 65536 && list_all is_text_byte t && is_utf8 t
+
+-- what a comment says: a text of at least one byte
+abbrev pub is_comment_body : List ℕ → Bool
+is_comment_body t = nat_le 1 (length t) && is_text t
 
 -- a universal id
 abbrev pub is_uuid : List ℕ → Bool

@@ -7,7 +7,7 @@ use Rattle.std.specs.Option.{ForSome}
 use Rattle.std.specs.Ordering.{nat_cmp}
 use Rattle.std.specs.Cmp.Lexicographic.{slice_cmp}
 use Rattle.std.specs.Str.{bytes_eq}
-use Rattle.content_rows.specs.Kinds.{IsMoment, IsId, IsAge, IsSpan, IsWeight, is_line, is_text, is_uuid, is_permission, is_hex, is_target, is_path, is_listing_path, is_block_path, none_or}
+use Rattle.content_rows.specs.Kinds.{IsMoment, IsId, IsAge, IsSpan, IsWeight, is_line, is_text, is_comment_body, is_uuid, is_permission, is_hex, is_target, is_path, is_listing_path, is_block_path, none_or}
 use Rattle.content_rows.specs.MenuTree.{has_its_parent, reaches_top}
 use Rattle.content_rows.specs.declared.cell.Cell.{Cell}
 use Rattle.content_rows.specs.declared.cell.Cell.TheVariants as cell
@@ -28,6 +28,8 @@ use Rattle.content_rows.specs.declared.row.BlockKind.{BlockKind}
 use Rattle.content_rows.specs.declared.row.BlockKind.TheVariants as kind
 use Rattle.content_rows.specs.declared.row.Block.{Block}
 use Rattle.content_rows.specs.declared.row.Session.{Session}
+use Rattle.content_rows.specs.declared.row.Comment.{Comment}
+use Rattle.content_rows.specs.declared.row.Talk.{Talk}
 
 pub record IsValidSite (r : Site) : Type 0 where
   pub front : IsTrue (is_target r.front)
@@ -146,6 +148,18 @@ pub record IsValidSession (r : Session) : Type 0 where
   pub expires : IsMoment r.expires
   pub uid : IsId r.uid
 
+-- that the node, the user and the parent are there, and that the parent is on the same node, other rows say
+pub record IsValidComment (r : Comment) : Type 0 where
+  pub body : IsTrue (is_comment_body r.body)
+  pub created : IsMoment r.created
+  pub node : IsId r.node
+  pub parent : ForSome r.parent IsId
+  pub uid : r.uid ≤ 4294967294
+  pub uuid : IsTrue (is_uuid r.uuid)
+
+pub record IsValidTalk (r : Talk) : Type 0 where
+  pub comment : 1 ≤ r.comment
+
 -- the row is of the cell's kind, and meets all the rules of that kind
 abbrev pub IsValidRow : Cell → Row → Type 0
 IsValidRow cell.Site (row.Site r) = IsValidSite r
@@ -159,4 +173,6 @@ IsValidRow (cell.Menu name) (row.Menu r) = IsValidMenu r
 IsValidRow (cell.Listing name) (row.Listing r) = IsValidListing r
 IsValidRow (cell.Block name) (row.Block r) = IsValidBlock r
 IsValidRow (cell.Session name) (row.Session r) = IsValidSession r
+IsValidRow (cell.Comment id) (row.Comment r) = IsId id × IsValidComment r
+IsValidRow cell.Talk (row.Talk r) = IsValidTalk r
 IsValidRow _ _ = ⊥

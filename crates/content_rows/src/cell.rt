@@ -33,6 +33,10 @@ pub enum Cell {
     Block(Name),
     /// A session, by its token.
     Session(Name),
+    /// A comment, by its id.
+    Comment(u32),
+    /// The next id to give to a comment; it is absent until the first one.
+    Talk,
     /// The head number, which is no row; it is last.
     Head,
 }
@@ -59,6 +63,8 @@ impl Cell {
             Cell::Listing(name) => named(alloc, b"listing:", name),
             Cell::Block(name) => named(alloc, b"block:", name),
             Cell::Session(name) => named(alloc, b"session:", name),
+            Cell::Comment(id) => numbered(alloc, b"comment:", *id),
+            Cell::Talk => Text::copied(alloc, b"talk"),
             Cell::Head => Text::copied(alloc, b"head"),
         }
     }

@@ -2,8 +2,8 @@
 ghost use Rattle.std.specs.Prelude.{◌≡◌, IfOk};
 
 use crate::row::{
-    Block, FieldRow, FieldValue, Grant, GrantRow, Link, Listing, Menu, Node, NodeType, Role, Row,
-    Seq, Session, Site, Term, User,
+    Block, Comment, FieldRow, FieldValue, Grant, GrantRow, Link, Listing, Menu, Node, NodeType,
+    Role, Row, Seq, Session, Site, Talk, Term, User,
 };
 use crate::text::{Items, Text};
 use cacheability::Name;
@@ -255,6 +255,29 @@ impl Duplicate for Session {
     }
 }
 
+impl Duplicate for Comment {
+    fn duplicate(&self, alloc: Global) -> Result<Self, AllocError> {
+        let (body, uuid) = copies(alloc, &self.body, &self.uuid)?;
+        Ok(Comment {
+            body,
+            created: self.created,
+            node: self.node,
+            parent: self.parent,
+            status: self.status,
+            uid: self.uid,
+            uuid,
+        })
+    }
+}
+
+impl Duplicate for Talk {
+    fn duplicate(&self, _alloc: Global) -> Result<Self, AllocError> {
+        Ok(Talk {
+            comment: self.comment,
+        })
+    }
+}
+
 impl Duplicate for Row {
     fn duplicate(&self, alloc: Global) -> Result<Self, AllocError> {
         Ok(match self {
@@ -269,6 +292,8 @@ impl Duplicate for Row {
             Row::Listing(listing) => Row::Listing(listing.duplicate(alloc)?),
             Row::Block(block) => Row::Block(block.duplicate(alloc)?),
             Row::Session(session) => Row::Session(session.duplicate(alloc)?),
+            Row::Comment(comment) => Row::Comment(comment.duplicate(alloc)?),
+            Row::Talk(talk) => Row::Talk(talk.duplicate(alloc)?),
         })
     }
 }

@@ -1,4 +1,4 @@
-//! The numbers of nodes, terms and users as texts.
+//! The numbers of nodes, terms, users and comments as texts.
 ghost use Rattle.std.specs.Prelude.{◌≡◌};
 ghost use Rattle.content_rows.specs.IdText.{id_of};
 

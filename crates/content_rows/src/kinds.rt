@@ -16,6 +16,7 @@ ghost use Rattle.content_rows.specs.Kinds.{
   is_target_byte,
   is_line,
   is_text,
+  is_comment_body,
   is_uuid,
   is_permission,
   is_hex,
@@ -36,7 +37,7 @@ pub(crate) fn is_moment(seconds: u64) -> bool
     seconds <= 4_102_444_800
 }
 
-/// Whether it can be the number of a node, a term or a user.
+/// Whether it can be the number of a node, a term, a user or a comment.
 pub(crate) fn is_id(number: u32) -> bool
     ensures { IsTrue result ↔ IsId number }
 {
@@ -50,7 +51,7 @@ pub(crate) fn are_ids(numbers: &[u32]) -> bool
     numbers.iter().all(|&number| is_id(number))
 }
 
-/// Whether it can be the number of a node, a term or a user, if it is there.
+/// Whether it can be the number of a node, a term, a user or a comment, if it is there.
 pub(crate) fn is_id_if_any(number: Option<u32>) -> bool
     ensures { IsTrue result ↔ ForSome number IsId }
 {
@@ -113,6 +114,13 @@ pub(crate) fn is_text(text: &[u8]) -> bool
     ensures { result ≡ is_text text.now }
 {
     text.len() <= 65_536 && has_text_bytes(text) && is_utf8(text)
+}
+
+/// Whether a text may be the body of a comment: a text that is not empty.
+pub(crate) fn is_comment_body(text: &[u8]) -> bool
+    ensures { result ≡ is_comment_body text.now }
+{
+    !text.is_empty() && is_text(text)
 }
 
 /// Whether no byte is a control byte but those of lines.

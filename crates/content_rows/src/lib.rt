@@ -22,8 +22,8 @@ pub use kinds::{
 pub use permission::{Permissions, ViewGrants};
 pub use right::{all_reach_top, have_distinct_ids, have_distinct_names, have_their_parents};
 pub use row::{
-    Block, BlockKind, FieldRow, FieldValue, Grant, GrantRow, Link, Listing, Menu, Node, NodeType,
-    Region, Role, Row, Seq, Session, Site, Term, User,
+    Block, BlockKind, Comment, FieldRow, FieldValue, Grant, GrantRow, Link, Listing, Menu, Node,
+    NodeType, Region, Role, Row, Seq, Session, Site, Talk, Term, User,
 };
 pub use starting::starter;
 pub use text::{Items, Text};

@@ -34,6 +34,8 @@ ghost use Rattle.content_rows.specs.ValidRow.{
   IsValidListing,
   IsValidBlock,
   IsValidSession,
+  IsValidComment,
+  IsValidTalk,
   is_clock,
   is_placed_text,
   has_name,
@@ -41,12 +43,13 @@ ghost use Rattle.content_rows.specs.ValidRow.{
 
 use crate::cell::Cell;
 use crate::kinds::{
-    are_ids, is_age_if_any, is_block_path, is_hex, is_id, is_id_if_any, is_line, is_listing_path,
-    is_moment, is_path, is_permission, is_span_if_any, is_target, is_text, is_uuid, is_weight,
+    are_ids, is_age_if_any, is_block_path, is_comment_body, is_hex, is_id, is_id_if_any, is_line,
+    is_listing_path, is_moment, is_path, is_permission, is_span_if_any, is_target, is_text,
+    is_uuid, is_weight,
 };
 use crate::row::{
-    Block, BlockKind, FieldRow, FieldValue, Link, Listing, Menu, Node, NodeType, Role, Row, Seq,
-    Session, Site, Term, User,
+    Block, BlockKind, Comment, FieldRow, FieldValue, Link, Listing, Menu, Node, NodeType, Role,
+    Row, Seq, Session, Site, Talk, Term, User,
 };
 use crate::text::Text;
 use cacheability::Name;
@@ -73,6 +76,8 @@ impl Row {
             (Cell::Listing(_), Row::Listing(listing)) => is_right_listing(listing),
             (Cell::Block(_), Row::Block(block)) => is_right_block(block),
             (Cell::Session(_), Row::Session(session)) => is_right_session(session),
+            (Cell::Comment(id), Row::Comment(comment)) => is_id(*id) && is_right_comment(comment),
+            (Cell::Talk, Row::Talk(talk)) => is_right_talk(talk),
             _ => false,
         }
     }
@@ -379,6 +384,25 @@ fn is_right_session(session: &Session) -> bool
     ensures { IsTrue result ↔ IsValidSession session.now }
 {
     is_moment(session.expires) && is_id(session.uid)
+}
+
+/// Whether a comment is right.
+fn is_right_comment(comment: &Comment) -> bool
+    ensures { IsTrue result ↔ IsValidComment comment.now }
+{
+    is_comment_body(comment.body.as_slice())
+        && is_moment(comment.created)
+        && is_id(comment.node)
+        && is_id_if_any(comment.parent)
+        && comment.uid <= 4_294_967_294
+        && is_uuid(comment.uuid.as_slice())
+}
+
+/// Whether the next id of a comment is one, or the number past the last.
+fn is_right_talk(talk: &Talk) -> bool
+    ensures { IsTrue result ↔ IsValidTalk talk.now }
+{
+    1 <= talk.comment
 }
 
 /// Whether a text is the name of a permission, if it is there.

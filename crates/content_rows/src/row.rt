@@ -438,6 +438,46 @@ pub struct Session {
     pub uid: u32,
 }
 
+/// A comment on a node.
+/// <https://www.drupal.org/docs/user_guide/en/comments-chapter.html>
+pub struct Comment {
+    /// What it says: a text that is not empty.
+    pub body: Text,
+    /// When it was made, in seconds since 1970.
+    pub created: u64,
+    /// The id of the node that it is on.
+    pub node: u32,
+    /// The id of the comment that it replies to; none where it is on the node itself.
+    pub parent: Option<u32>,
+    /// Whether it is published.
+    pub status: bool,
+    /// The id of the user that wrote it; 0 is nobody.
+    pub uid: u32,
+    /// Its universal id.
+    pub uuid: Text,
+}
+
+impl Drop for Comment {
+    fn drop(self) {
+        let Comment {
+            body: _,
+            created: _,
+            node: _,
+            parent: _,
+            status: _,
+            uid: _,
+            uuid: _,
+        } = self;
+    }
+}
+
+/// The next id to give to a comment, from 1 to 4,294,967,295; at the last there is none left.
+#[derive(Drop)]
+pub struct Talk {
+    /// The id of the next comment.
+    pub comment: u32,
+}
+
 /// A row of any kind.
 pub enum Row {
     /// The settings of the site.
@@ -462,6 +502,10 @@ pub enum Row {
     Block(Block),
     /// A session.
     Session(Session),
+    /// A comment.
+    Comment(Comment),
+    /// The next id to give to a comment.
+    Talk(Talk),
 }
 
 impl Drop for Row {
@@ -478,6 +522,8 @@ impl Drop for Row {
             Row::Listing(_) => {}
             Row::Block(_) => {}
             Row::Session(_) => {}
+            Row::Comment(_) => {}
+            Row::Talk(_) => {}
         }
     }
 }

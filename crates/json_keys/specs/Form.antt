@@ -37,6 +37,7 @@ is_long form.Name t = has_up_to 64 t
 is_long (form.Line most) t = has_up_to most t
 is_long (form.Heading most) t = nat_le (length t) most
 is_long form.Body t = nat_le (length t) 65536
+is_long form.Comment t = has_up_to 65536 t
 is_long form.Uuid t = has_up_to 64 t
 is_long (form.Hex count) t = length t == count
 is_long (form.HexOrEmpty count) t = length t == count || bytes_eq t []
@@ -54,6 +55,7 @@ is_written form.Name t = list_all is_name_byte t
 is_written (form.Line most) t = list_all is_line_byte t && is_utf8 t
 is_written (form.Heading most) t = list_all is_line_byte t && is_utf8 t
 is_written form.Body t = list_all is_text_byte t && is_utf8 t
+is_written form.Comment t = list_all is_text_byte t && is_utf8 t
 is_written form.Uuid t = list_all is_uuid_byte t
 is_written (form.Hex count) t = list_all is_hex_digit t
 is_written (form.HexOrEmpty count) t = list_all is_hex_digit t

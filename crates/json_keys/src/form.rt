@@ -57,6 +57,7 @@ pub(crate) fn is_long(form: Form, text: &[u8]) -> bool
         Form::Line(most) => has_up_to(most, text),
         Form::Heading(most) => text.len() <= most,
         Form::Body => text.len() <= 65_536,
+        Form::Comment => has_up_to(65_536, text),
         Form::Hex(count) => text.len() == count,
         Form::HexOrEmpty(count) => text.len() == count || text.is_empty(),
         Form::Target | Form::Path | Form::ListingPath => has_path_length(text),
@@ -72,7 +73,7 @@ pub(crate) fn is_written(form: Form, text: &[u8]) -> bool
     match form {
         Form::Name => has_name_bytes(text),
         Form::Line(_) | Form::Heading(_) => has_line_bytes(text) && is_utf8(text),
-        Form::Body => has_text_bytes(text) && is_utf8(text),
+        Form::Body | Form::Comment => has_text_bytes(text) && is_utf8(text),
         Form::Uuid => has_uuid_bytes(text),
         Form::Hex(_) | Form::HexOrEmpty(_) => has_hex_digits(text),
         Form::Target | Form::Path | Form::ListingPath => is_target(text),

@@ -11,6 +11,8 @@ pub enum Form {
     Heading(usize),
     /// A text of 65,536 bytes at most, without control bytes but those of lines.
     Body,
+    /// The body of a comment: such a text of at least 1 byte.
+    Comment,
     /// A universal id: 1 to 64 lower-case letters, digits and `-`.
     Uuid,
     /// So many lower-case hex digits.

@@ -17,7 +17,7 @@ use Rattle.content_rows.specs.LiteralName.{is_name}
 use Rattle.content_rows.proofs.Ids.{id_some, id_told}
 use Rattle.json_keys.specs.Fault.{or_else}
 use Rattle.row_json.specs.Cells.{name_if, name_after}
-use Rattle.keeper_sqlite.specs.Tags.{number_of, number_after, word_tag, named_tag, placed_tag, numbered_tag, tag_of, IsTypedTag}
+use Rattle.keeper_sqlite.specs.Tags.{number_of, number_after, word_tag, named_tag, placed_tag, numbered_tag, comment_tag, tag_of, IsTypedTag}
 
 -- ---- numbers
 
@@ -61,9 +61,11 @@ tag_back (tag.NodeListOf name) s = rw s refl
 tag_back (tag.Menu name) s = rw s refl
 tag_back (tag.Listing name) s = rw s refl
 tag_back (tag.Block name) s = rw s refl
-tag_back (tag.User n) s = ap (λ o. or_else (option_map tag.User o) None) (number_back_of n s)
-tag_back (tag.Term n) s = ap (λ o. or_else (option_map tag.Term o) None) (number_back_of n s)
-tag_back (tag.Node n) s = ap (option_map tag.Node) (number_back_of n s)
+tag_back (tag.User n) s = ap (λ o. or_else (or_else (option_map tag.User o) None) None) (number_back_of n s)
+tag_back (tag.Term n) s = ap (λ o. or_else (or_else (option_map tag.Term o) None) None) (number_back_of n s)
+tag_back (tag.Node n) s = ap (λ o. or_else (option_map tag.Node o) None) (number_back_of n s)
+tag_back (tag.Comment n) s = ap (λ o. or_else (option_map tag.Comment o) None) (number_back_of n s)
+tag_back (tag.CommentList n) s = ap (option_map tag.CommentList) (number_back_of n s)
 
 -- ---- of no other text
 
@@ -156,3 +158,8 @@ is_numbered t k h =
     first_of (option_map tag.User (number_after (codes "user:") t)) _ k (IsOf t k) (numbered_told tag.User (codes "user:") t k (λ n. refl))
     (first_of (option_map tag.Term (number_after (codes "taxonomy_term:") t)) _ k (IsOf t k) (numbered_told tag.Term (codes "taxonomy_term:") t k (λ n. refl))
     (numbered_told tag.Node (codes "node:") t k (λ n. refl))) h
+
+pub is_of_comment : (t : List ℕ) (k : Tag) → comment_tag t ≡ Some k → IsOf t k
+is_of_comment t k h =
+    first_of (option_map tag.Comment (number_after (codes "comment:") t)) _ k (IsOf t k) (numbered_told tag.Comment (codes "comment:") t k (λ n. refl))
+    (numbered_told tag.CommentList (codes "comment_list:") t k (λ n. refl)) h

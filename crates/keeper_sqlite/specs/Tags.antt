@@ -42,9 +42,13 @@ abbrev pub numbered_tag : List ℕ → Option Tag
 numbered_tag t = or_else (option_map tag.User (number_after (codes "user:") t))
     (or_else (option_map tag.Term (number_after (codes "taxonomy_term:") t)) (option_map tag.Node (number_after (codes "node:") t)))
 
+abbrev pub comment_tag : List ℕ → Option Tag
+comment_tag t =
+    or_else (option_map tag.Comment (number_after (codes "comment:") t)) (option_map tag.CommentList (number_after (codes "comment_list:") t))
+
 -- the tag that a text names
 abbrev pub tag_of : List ℕ → Option Tag
-tag_of t = or_else (word_tag t) (or_else (named_tag t) (or_else (placed_tag t) (numbered_tag t)))
+tag_of t = or_else (word_tag t) (or_else (named_tag t) (or_else (placed_tag t) (or_else (numbered_tag t) (comment_tag t))))
 
 -- what the type of a tag says: its name is one, or its number is below 2 ^ 32
 abbrev pub IsTypedTag : Tag → Type 0
@@ -57,6 +61,8 @@ IsTypedTag (tag.Block name) = IsTrue (is_name name)
 IsTypedTag (tag.User n) = n < 2 ^ 32
 IsTypedTag (tag.Term n) = n < 2 ^ 32
 IsTypedTag (tag.Node n) = n < 2 ^ 32
+IsTypedTag (tag.Comment n) = n < 2 ^ 32
+IsTypedTag (tag.CommentList n) = n < 2 ^ 32
 IsTypedTag _ = Unit {0}
 
 -- each tag is read of its text

@@ -2,7 +2,7 @@
 ghost use Rattle.std.specs.Prelude.{◌≡◌, IfSome};
 ghost use Rattle.cacheability.specs.Tag.{tag_text};
 ghost use Rattle.row_json.specs.Cells.{name_after};
-ghost use Rattle.keeper_sqlite.specs.Tags.{number_of, number_after, word_tag, named_tag, placed_tag, numbered_tag, tag_of};
+ghost use Rattle.keeper_sqlite.specs.Tags.{number_of, number_after, word_tag, named_tag, placed_tag, numbered_tag, comment_tag, tag_of};
 
 use cacheability::{Name, Tag};
 use content_rows::id_of;
@@ -124,6 +124,19 @@ fn numbered_tag(text: &[u8]) -> Option<Tag>
     }
 }
 
+/// The tag of a comment, or of the comments of a node.
+fn comment_tag(text: &[u8]) -> Option<Tag>
+    ensures { result ≡ comment_tag text.now }
+{
+    if let Some(number) = number_after(b"comment:", text) {
+        return Some(Tag::Comment(number));
+    }
+    match number_after(b"comment_list:", text) {
+        Some(number) => Some(Tag::CommentList(number)),
+        None => None,
+    }
+}
+
 /// The tag that a text names, which is the text of that tag; none exactly where no tag has that text.
 pub fn tag_of(text: &[u8]) -> Option<Tag>
     ensures same { result ≡ tag_of text.now }
@@ -138,7 +151,10 @@ pub fn tag_of(text: &[u8]) -> Option<Tag>
     if let Some(tag) = placed_tag(text) {
         return Some(tag);
     }
-    match numbered_tag(text) {
+    if let Some(tag) = numbered_tag(text) {
+        return Some(tag);
+    }
+    match comment_tag(text) {
         Some(tag) => Some(tag),
         None => None,
     }

@@ -14,10 +14,11 @@ use Rattle.json_keys.specs.declared.checked.Checked.TheVariants as checked
 use Rattle.json_keys.specs.declared.rule.Rule.{Rule}
 use Rattle.json_keys.specs.declared.shape.Ask.{Ask}
 use Rattle.row_kinds.specs.Look.{text_data, with_cell}
-use Rattle.row_kinds.specs.Rows.{site_in, site_data, seq_in, seq_data, type_in, type_data, role_in, role_data, user_in, user_data, term_in, term_data, old_term_data, node_in, node_data, menu_in, menu_data, listing_in, listing_data, block_in, block_data, session_in, session_data}
-use Rattle.row_kinds.specs.Tables.{site_row, seq_row, type_row, role_row, user_row, term_row, node_row, menu_row, listing_row, block_row, session_row}
+use Rattle.row_kinds.specs.Rows.{site_in, site_data, seq_in, seq_data, type_in, type_data, role_in, role_data, user_in, user_data, term_in, term_data, old_term_data, node_in, node_data, menu_in, menu_data, listing_in, listing_data, block_in, block_data, session_in, session_data, comment_in, comment_data, talk_in, talk_data}
+use Rattle.row_kinds.specs.Tables.{site_row, seq_row, type_row, role_row, user_row, term_row, node_row, menu_row, listing_row, block_row, session_row, comment_row, talk_row}
 use Rattle.row_kinds.proofs.Codec.{ComesBack}
 use Rattle.row_kinds.proofs.Utf8.{text_written}
+use Rattle.row_kinds.proofs.CommentLaws.{comment_back, talk_back}
 use Rattle.row_kinds.proofs.ContentLaws.{type_back, term_back, old_term_back, node_back}
 use Rattle.row_kinds.proofs.PeopleLaws.{role_back, user_back, session_back}
 use Rattle.row_kinds.proofs.StructureLaws.{site_back, seq_back, menu_back, listing_back, block_back}
@@ -44,6 +45,8 @@ sound (cell.Menu name) (row.Menu r) v t = t
 sound (cell.Listing name) (row.Listing r) v t = t
 sound (cell.Block name) (row.Block r) v t = t
 sound (cell.Session name) (row.Session r) v t = t
+sound (cell.Comment id) (row.Comment r) v t = v.0
+sound cell.Talk (row.Talk r) v t = tt
 sound _ _ v t = absurd v
 
 -- the row that is read of what is written, with what is told of its cell and of its keys together
@@ -62,6 +65,8 @@ row_back (cell.Menu name) (row.Menu r) cell v t = (refl, kind_back row.Menu menu
 row_back (cell.Listing name) (row.Listing r) cell v t = (refl, kind_back row.Listing listing_in listing_row (with_cell cell listing_data) r (listing_back cell r v t), listing_fine r v)
 row_back (cell.Block name) (row.Block r) cell v t = (refl, kind_back row.Block block_in block_row (with_cell cell block_data) r (block_back cell r v t), block_fine r v)
 row_back (cell.Session name) (row.Session r) cell v t = (refl, kind_back row.Session session_in session_row (with_cell cell session_data) r (session_back cell r v), refl)
+row_back (cell.Comment id) (row.Comment r) cell v t = (refl, kind_back row.Comment comment_in comment_row (with_cell cell comment_data) r (comment_back cell r v.1), refl)
+row_back cell.Talk (row.Talk r) cell v t = (refl, kind_back row.Talk talk_in talk_row (with_cell cell talk_data) r (talk_back cell r v t), refl)
 row_back _ _ cell v t = absurd v
 
 -- what an object says whose cell and row are known

@@ -19,13 +19,15 @@ use Rattle.content_rows.proofs.Ids.{id_some, id_told}
 use Rattle.json_keys.specs.Fault.{or_else}
 use Rattle.row_kinds.proofs.Names.{name_is_ascii}
 use Rattle.row_kinds.proofs.Utf8.{ascii_bytes}
-use Rattle.row_json.specs.Cells.{name_if, name_after, id_after, named_cell, placed_cell, numbered_cell, cell_of}
+use Rattle.row_json.specs.Cells.{name_if, name_after, id_after, named_cell, placed_cell, numbered_cell, talked_cell, cell_of}
 
 -- the cell of a row: its name is one, or its number is an id
 abbrev pub IsSound : Cell → Type 0
 IsSound (cell.User id) = IsId id
 IsSound (cell.Term id) = IsId id
 IsSound (cell.Node id) = IsId id
+IsSound (cell.Comment id) = IsId id
+IsSound cell.Talk = Unit {0}
 IsSound cell.Head = ⊥
 IsSound cell.Site = Unit {0}
 IsSound cell.Seq = Unit {0}
@@ -50,9 +52,11 @@ cell_back (cell.Menu name) s = rw s refl
 cell_back (cell.Listing name) s = rw s refl
 cell_back (cell.Block name) s = rw s refl
 cell_back (cell.Session name) s = rw s refl
-cell_back (cell.User id) s = ap (λ o. or_else (option_map cell.User o) None) (id_back id s)
-cell_back (cell.Term id) s = ap (λ o. or_else (option_map cell.Term o) None) (id_back id s)
-cell_back (cell.Node id) s = ap (option_map cell.Node) (id_back id s)
+cell_back (cell.User id) s = ap (λ o. or_else (or_else (option_map cell.User o) None) None) (id_back id s)
+cell_back (cell.Term id) s = ap (λ o. or_else (or_else (option_map cell.Term o) None) None) (id_back id s)
+cell_back (cell.Node id) s = ap (λ o. or_else (option_map cell.Node o) None) (id_back id s)
+cell_back (cell.Comment id) s = ap (option_map cell.Comment) (id_back id s)
+cell_back cell.Talk s = refl
 cell_back cell.Head s = absurd s
 
 -- ---- of no other text
@@ -113,14 +117,16 @@ pub cell_told : (t : List ℕ) (c : Cell) → cell_of t ≡ Some c → IsTold t 
 cell_told t c h =
     word_told t (codes "site") c cell.Site (bytes_eq t (codes "site")) _ refl refl tt
     (word_told t (codes "seq") c cell.Seq (bytes_eq t (codes "seq")) _ refl refl tt
-    (one_of t c (named_cell t) (or_else (placed_cell t) (numbered_cell t))
+    (one_of t c (named_cell t) (or_else (placed_cell t) (or_else (numbered_cell t) (talked_cell t)))
     (one_of t c (option_map cell.NodeType (name_after (codes "type:") t)) _ (named_told cell.NodeType (codes "type:") t c (λ n. refl) (λ n s. s))
     (one_of t c (option_map cell.Role (name_after (codes "role:") t)) _ (named_told cell.Role (codes "role:") t c (λ n. refl) (λ n s. s)) (named_told cell.Session (codes "session:") t c (λ n. refl) (λ n s. s))))
-    (one_of t c (placed_cell t) (numbered_cell t)
+    (one_of t c (placed_cell t) (or_else (numbered_cell t) (talked_cell t))
     (one_of t c (option_map cell.Menu (name_after (codes "menu:") t)) _ (named_told cell.Menu (codes "menu:") t c (λ n. refl) (λ n s. s))
     (one_of t c (option_map cell.Listing (name_after (codes "listing:") t)) _ (named_told cell.Listing (codes "listing:") t c (λ n. refl) (λ n s. s)) (named_told cell.Block (codes "block:") t c (λ n. refl) (λ n s. s))))
+    (one_of t c (numbered_cell t) (talked_cell t)
     (one_of t c (option_map cell.User (id_after (codes "user:") t)) _ (numbered_told cell.User (codes "user:") t c (λ n. refl) (λ n s. s))
-    (one_of t c (option_map cell.Term (id_after (codes "term:") t)) _ (numbered_told cell.Term (codes "term:") t c (λ n. refl) (λ n s. s)) (numbered_told cell.Node (codes "node:") t c (λ n. refl) (λ n s. s))))))) h
+    (one_of t c (option_map cell.Term (id_after (codes "term:") t)) _ (numbered_told cell.Term (codes "term:") t c (λ n. refl) (λ n s. s)) (numbered_told cell.Node (codes "node:") t c (λ n. refl) (λ n s. s))))
+    (word_told t (codes "talk") c cell.Talk (bytes_eq t (codes "talk")) _ refl refl tt (numbered_told cell.Comment (codes "comment:") t c (λ n. refl) (λ n s. s))))))) h
 
 -- ---- the text of a cell is UTF-8
 
@@ -151,4 +157,6 @@ cell_utf8 (cell.Session name) s = named_utf8 (codes "session:") name refl s
 cell_utf8 (cell.User id) s = numbered_utf8 (codes "user:") id refl s
 cell_utf8 (cell.Term id) s = numbered_utf8 (codes "term:") id refl s
 cell_utf8 (cell.Node id) s = numbered_utf8 (codes "node:") id refl s
+cell_utf8 (cell.Comment id) s = numbered_utf8 (codes "comment:") id refl s
+cell_utf8 cell.Talk s = word_utf8 (codes "talk") refl
 cell_utf8 cell.Head s = absurd s

@@ -18,10 +18,11 @@ use Rattle.json_keys.specs.declared.shape.Ask.{Ask}
 use Rattle.json_keys.specs.declared.shape.Ask.TheVariants as ask
 use Rattle.json_keys.specs.declared.shape.Shape.TheVariants as shape
 use Rattle.row_kinds.specs.Look.{value_at, text_data, with_cell}
-use Rattle.row_kinds.specs.Rows.{site_in, seq_in, type_in, role_in, user_in, term_in, node_in, menu_in, listing_in, block_in, session_in}
-use Rattle.row_kinds.specs.Tables.{site_row, seq_row, type_row, role_row, user_row, term_row, node_row, menu_row, listing_row, block_row, session_row}
+use Rattle.row_kinds.specs.Rows.{site_in, seq_in, type_in, role_in, user_in, term_in, node_in, menu_in, listing_in, block_in, session_in, comment_in, talk_in}
+use Rattle.row_kinds.specs.Tables.{site_row, seq_row, type_row, role_row, user_row, term_row, node_row, menu_row, listing_row, block_row, session_row, comment_row, talk_row}
 use Rattle.row_kinds.proofs.Objects.{IsPassed, IsHeld, held_later}
 use Rattle.row_kinds.proofs.Utf8.{text_written}
+use Rattle.row_kinds.proofs.CommentLaws.{comment_right, comment_kept, talk_right, talk_kept}
 use Rattle.row_kinds.proofs.ContentLaws.{type_right, type_kept, term_right, term_kept, node_right, node_kept}
 use Rattle.row_kinds.proofs.PeopleLaws.{role_right, role_kept, user_right, user_kept, session_right, session_kept}
 use Rattle.row_kinds.proofs.StructureLaws.{site_right, site_kept, seq_right, seq_kept, menu_right, menu_kept, listing_right, listing_kept, block_right, block_kept}
@@ -118,6 +119,14 @@ kind_kept (cell.Session name) d r o h w s =
     let k = kind_known row.Session session_in session_row d r h in
     let p : IsPassed ask_fault is_wanted session_row d = record { order = o; passed = k.0 } in
     subst (IsKept (cell.Session name) d) k.1 (session_right d (keys_held p refl), λ all. session_kept d p)
+kind_kept (cell.Comment id) d r o h w s =
+    let k = kind_known row.Comment comment_in comment_row d r h in
+    let p : IsPassed ask_fault is_wanted comment_row d = record { order = o; passed = k.0 } in
+    subst (IsKept (cell.Comment id) d) k.1 ((s, comment_right d (keys_held p refl)), λ all. comment_kept d p)
+kind_kept cell.Talk d r o h w s =
+    let k = kind_known row.Talk talk_in talk_row d r h in
+    let p : IsPassed ask_fault is_wanted talk_row d = record { order = o; passed = k.0 } in
+    subst (IsKept cell.Talk d) k.1 ((talk_right d (keys_held p refl)).0, λ all. talk_kept d p)
 kind_kept cell.Head d r o h w s = absurd s
 
 -- ---- the whole

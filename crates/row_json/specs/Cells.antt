@@ -31,12 +31,15 @@ abbrev pub numbered_cell : List ℕ → Option Cell
 numbered_cell t = or_else (option_map cell.User (id_after (codes "user:") t))
     (or_else (option_map cell.Term (id_after (codes "term:") t)) (option_map cell.Node (id_after (codes "node:") t)))
 
+abbrev pub talked_cell : List ℕ → Option Cell
+talked_cell t = if bytes_eq t (codes "talk") then Some cell.Talk else option_map cell.Comment (id_after (codes "comment:") t)
+
 -- the cell of a row that a text names
 abbrev pub cell_of : List ℕ → Option Cell
 cell_of t =
     if bytes_eq t (codes "site") then Some cell.Site
     else if bytes_eq t (codes "seq") then Some cell.Seq
-    else or_else (named_cell t) (or_else (placed_cell t) (numbered_cell t))
+    else or_else (named_cell t) (or_else (placed_cell t) (or_else (numbered_cell t) (talked_cell t)))
 
 -- what the type of a cell says: its name is one
 abbrev pub IsTypedCell : Cell → Type 0

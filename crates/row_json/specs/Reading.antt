@@ -15,8 +15,8 @@ use Rattle.json_keys.specs.declared.checked.Checked.TheVariants as checked
 use Rattle.json_keys.specs.declared.rule.Rule.TheVariants as rule
 use Rattle.json_keys.specs.declared.shape.Ask.{Ask}
 use Rattle.row_kinds.specs.Look.{text_data, with_cell}
-use Rattle.row_kinds.specs.Rows.{site_in, site_data, seq_in, seq_data, type_in, type_data, role_in, role_data, user_in, user_data, term_in, term_data, old_term_data, node_in, node_data, menu_in, menu_data, listing_in, listing_data, block_in, block_data, session_in, session_data, IsTypedSeq, IsTypedType, IsTypedRole, IsTypedUser, IsTypedNode, IsTypedMenu, IsTypedListing, IsTypedBlock}
-use Rattle.row_kinds.specs.Tables.{site_row, seq_row, type_row, role_row, user_row, term_row, node_row, menu_row, listing_row, block_row, session_row}
+use Rattle.row_kinds.specs.Rows.{site_in, site_data, seq_in, seq_data, type_in, type_data, role_in, role_data, user_in, user_data, term_in, term_data, old_term_data, node_in, node_data, menu_in, menu_data, listing_in, listing_data, block_in, block_data, session_in, session_data, comment_in, comment_data, talk_in, talk_data, IsTypedSeq, IsTypedType, IsTypedRole, IsTypedUser, IsTypedNode, IsTypedMenu, IsTypedListing, IsTypedBlock, IsTypedTalk}
+use Rattle.row_kinds.specs.Tables.{site_row, seq_row, type_row, role_row, user_row, term_row, node_row, menu_row, listing_row, block_row, session_row, comment_row, talk_row}
 use Rattle.row_json.specs.Cells.{cell_of, IsTypedCell}
 use Rattle.row_json.specs.Whole.{whole_fault}
 use Rattle.row_json.specs.declared.fault.RowFault.{RowFault}
@@ -51,6 +51,8 @@ row_in d (cell.Menu name) = of_kind row.Menu menu_in menu_row d
 row_in d (cell.Listing name) = of_kind row.Listing listing_in listing_row d
 row_in d (cell.Block name) = of_kind row.Block block_in block_row d
 row_in d (cell.Session name) = of_kind row.Session session_in session_row d
+row_in d (cell.Comment id) = of_kind row.Comment comment_in comment_row d
+row_in d cell.Talk = of_kind row.Talk talk_in talk_row d
 row_in d cell.Head = checked.Broken (codes "cell") rule.Bytes
 
 -- the cell, then the keys by the table of the cell's kind, then what the keys break together
@@ -71,6 +73,8 @@ row_data (row.Menu r) = menu_data r
 row_data (row.Listing r) = listing_data r
 row_data (row.Block r) = block_data r
 row_data (row.Session r) = session_data r
+row_data (row.Comment r) = comment_data r
+row_data (row.Talk r) = talk_data r
 
 -- one object: the cell's text at `cell`, and the keys of the row
 abbrev pub written : Cell → Row → Data
@@ -110,6 +114,8 @@ IsTypedRow (row.Menu r) = IsTypedMenu r
 IsTypedRow (row.Listing r) = IsTypedListing r
 IsTypedRow (row.Block r) = IsTypedBlock r
 IsTypedRow (row.Session r) = Unit {0}
+IsTypedRow (row.Comment r) = Unit {0}
+IsTypedRow (row.Talk r) = IsTypedTalk r
 
 -- no right row is or was written so
 abbrev pub IsNoRow : Data → Type 0

@@ -1,7 +1,7 @@
 //! The cells that texts name.
 ghost use Rattle.std.specs.Prelude.{◌≡◌, IsTrue};
 ghost use Rattle.content_rows.specs.LiteralName.{is_name};
-ghost use Rattle.row_json.specs.Cells.{name_if, name_after, id_after, named_cell, placed_cell, numbered_cell, cell_of, IsTypedCell};
+ghost use Rattle.row_json.specs.Cells.{name_if, name_after, id_after, named_cell, placed_cell, numbered_cell, talked_cell, cell_of, IsTypedCell};
 
 use cacheability::Name;
 use content_rows::{Cell, id_of};
@@ -89,6 +89,19 @@ fn numbered_cell(text: &[u8]) -> Option<Cell>
     }
 }
 
+/// The comment, or the next id of one, that a text names.
+fn talked_cell(text: &[u8]) -> Option<Cell>
+    ensures { result ≡ talked_cell text.now }
+{
+    if text == b"talk".as_slice() {
+        return Some(Cell::Talk);
+    }
+    match id_after(b"comment:", text) {
+        Some(id) => Some(Cell::Comment(id)),
+        None => None,
+    }
+}
+
 /// The cell that a text names, as `site` or `node:1`; none where no row can stand there. The head
 /// number is no row.
 pub fn cell_of(text: &[u8]) -> Option<Cell>
@@ -106,7 +119,10 @@ pub fn cell_of(text: &[u8]) -> Option<Cell>
     if let Some(cell) = placed_cell(text) {
         return Some(cell);
     }
-    numbered_cell(text)
+    if let Some(cell) = numbered_cell(text) {
+        return Some(cell);
+    }
+    talked_cell(text)
 }
 
 /// The name of a cell is one, as its type says.

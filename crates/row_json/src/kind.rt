@@ -2,7 +2,7 @@
 ghost use Rattle.content_rows.specs.declared.row.Row.TheVariants as row;
 
 use content_rows::{
-    Block, Listing, Menu, Node, NodeType, Role, Row, Seq, Session, Site, Term, User,
+    Block, Comment, Listing, Menu, Node, NodeType, Role, Row, Seq, Session, Site, Talk, Term, User,
 };
 use row_kinds::Read;
 
@@ -104,5 +104,21 @@ impl Kind for Session {
 
     fn into_row(self) -> Row {
         Row::Session(self)
+    }
+}
+
+impl Kind for Comment {
+    ghost made = { row.Comment };
+
+    fn into_row(self) -> Row {
+        Row::Comment(self)
+    }
+}
+
+impl Kind for Talk {
+    ghost made = { row.Talk };
+
+    fn into_row(self) -> Row {
+        Row::Talk(self)
     }
 }

@@ -15,12 +15,13 @@ use crate::fault::RowFault;
 use crate::kind::Kind;
 use crate::whole::whole_fault;
 use content_rows::{
-    Block, Cell, Listing, Menu, Node, NodeType, Role, Row, Seq, Session, Site, Term, Text, User,
+    Block, Cell, Comment, Listing, Menu, Node, NodeType, Role, Row, Seq, Session, Site, Talk, Term,
+    Text, User,
 };
 use json_keys::{Checked, Key, Rule, walk};
 use row_kinds::{
-    BLOCK, LISTING, MENU, NODE, ROLE, SEQ, SESSION, SITE, TERM, TYPE, USER, Write, put_at,
-    read_checked,
+    BLOCK, COMMENT, LISTING, MENU, NODE, ROLE, SEQ, SESSION, SITE, TALK, TERM, TYPE, USER, Write,
+    put_at, read_checked,
 };
 use serde_json::{Map, Value};
 use std::alloc::{AllocError, Global};
@@ -72,6 +73,8 @@ fn row_in(alloc: Global, value: &Value, cell: &Cell) -> Result<Checked<Row>, All
         Cell::Listing(_) => of_kind::<Listing>(alloc, &LISTING, value),
         Cell::Block(_) => of_kind::<Block>(alloc, &BLOCK, value),
         Cell::Session(_) => of_kind::<Session>(alloc, &SESSION, value),
+        Cell::Comment(_) => of_kind::<Comment>(alloc, &COMMENT, value),
+        Cell::Talk => of_kind::<Talk>(alloc, &TALK, value),
         Cell::Head => Ok(Checked::Broken(Text::copied(alloc, b"cell")?, Rule::Bytes)),
     }
 }
@@ -163,6 +166,8 @@ fn row_value(alloc: Global, row: &Row) -> Result<Value, AllocError>
         Row::Listing(row) => row.write(alloc),
         Row::Block(row) => row.write(alloc),
         Row::Session(row) => row.write(alloc),
+        Row::Comment(row) => row.write(alloc),
+        Row::Talk(row) => row.write(alloc),
     }
 }
 

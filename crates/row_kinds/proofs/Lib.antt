@@ -1,4 +1,5 @@
 pub mod Codec
+pub mod CommentLaws
 pub mod ContentLaws
 pub mod Fields
 pub mod Keys

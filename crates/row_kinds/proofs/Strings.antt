@@ -7,7 +7,7 @@ use Rattle.std.proofs.lemmas.Bool.{and_parts, le-leb, leb-true}
 use Rattle.std.proofs.lemmas.Slice.Eq.{bytes_eq-Decides}
 use Rattle.serde_json.specs.Data.{Data, null, boolean, number, string, array, object}
 use Rattle.cacheability.specs.Name.{is_name_byte}
-use Rattle.content_rows.specs.Kinds.{is_line_byte, is_text_byte, is_uuid_byte, is_hex_digit, is_target_byte, is_slash, is_something, is_line, is_text, is_uuid, is_hex, is_target, is_reserved, is_path, is_listing_path, is_block_path}
+use Rattle.content_rows.specs.Kinds.{is_line_byte, is_text_byte, is_uuid_byte, is_hex_digit, is_target_byte, is_slash, is_something, is_line, is_text, is_comment_body, is_uuid, is_hex, is_target, is_reserved, is_path, is_listing_path, is_block_path}
 use Rattle.content_rows.specs.LiteralName.{is_name}
 use Rattle.json_keys.specs.Fault.{plain_fault}
 use Rattle.json_keys.specs.Form.{is_bare, has_path_length, is_long, is_written, is_kept, text_fault}
@@ -118,6 +118,25 @@ body_form = record {
 
 pub body : Codec (List ℕ) (plain_fault (plain.Text form.Body)) text_in text_data (Passes is_text)
 body = text form.Body is_text body_form
+
+-- a body that has a byte
+comment_form : IsFormOf form.Comment is_comment_body
+comment_form = record {
+  passes = λ t h.
+      let s = stages form.Comment t h in
+      let long = and_parts (nat_le 1 (length t)) (nat_le (length t) 65536) s.0 in
+      let w = and_parts (list_all is_text_byte t) (is_utf8 t) s.1 in
+      both_true _ _ long.0 (both_true _ _ (both_true _ _ long.1 w.0) w.1);
+  fine = λ t g.
+      let some = and_parts (nat_le 1 (length t)) (is_text t) g in
+      let three = and_parts (nat_le (length t) 65536 && list_all is_text_byte t) (is_utf8 t) some.1 in
+      let two = and_parts (nat_le (length t) 65536) (list_all is_text_byte t) three.0 in
+      let_in (is_long form.Comment t) (is_written form.Comment t) false (both_true _ _ some.0 two.0) (both_true _ _ two.1 three.1) refl;
+  utf8 = λ t g. body_form.utf8 t (and_parts (nat_le 1 (length t)) (is_text t) g).1;
+}
+
+pub comment_body : Codec (List ℕ) (plain_fault (plain.Text form.Comment)) text_in text_data (Passes is_comment_body)
+comment_body = text form.Comment is_comment_body comment_form
 
 -- a line that may be empty
 abbrev pub is_heading : ℕ → List ℕ → Bool

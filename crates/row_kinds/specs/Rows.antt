@@ -19,6 +19,8 @@ use Rattle.content_rows.specs.declared.row.Menu.{Menu}
 use Rattle.content_rows.specs.declared.row.Listing.{Listing}
 use Rattle.content_rows.specs.declared.row.Block.{Block}
 use Rattle.content_rows.specs.declared.row.Session.{Session}
+use Rattle.content_rows.specs.declared.row.Comment.{Comment}
+use Rattle.content_rows.specs.declared.row.Talk.{Talk}
 use Rattle.json_keys.specs.Fault.{members_in}
 use Rattle.row_kinds.specs.Look.{value_at, flag_in, number_in, small_in, text_in, name_in, weight_in, kind_in, region_in, option_in, items_in, list_in, texts_in, whole_data, text_data, weight_data, kind_data, region_data, option_data, items_data, texts_data, OrNone, IsNameText, IsTypedText}
 
@@ -328,3 +330,36 @@ abbrev pub session_data : Session → Data
 session_data x = object
     (member (codes "expires") (whole_data x.expires)
     (member (codes "uid") (whole_data x.uid) no_members))
+
+abbrev pub comment_in : Data → Comment
+comment_in d = record {
+  body = text_in (value_at (codes "body") d);
+  created = number_in (value_at (codes "created") d);
+  node = small_in (value_at (codes "node") d);
+  parent = option_in small_in (value_at (codes "parent") d);
+  status = flag_in (value_at (codes "status") d);
+  uid = small_in (value_at (codes "uid") d);
+  uuid = text_in (value_at (codes "uuid") d);
+}
+
+abbrev pub comment_data : Comment → Data
+comment_data x = object
+    (member (codes "body") (text_data x.body)
+    (member (codes "created") (whole_data x.created)
+    (member (codes "node") (whole_data x.node)
+    (member (codes "parent") (option_data whole_data x.parent)
+    (member (codes "status") (boolean x.status)
+    (member (codes "uid") (whole_data x.uid)
+    (member (codes "uuid") (text_data x.uuid) no_members)))))))
+
+abbrev pub talk_in : Data → Talk
+talk_in d = record {
+  comment = small_in (value_at (codes "comment") d);
+}
+
+abbrev pub talk_data : Talk → Data
+talk_data x = object
+    (member (codes "comment") (whole_data x.comment) no_members)
+
+abbrev pub IsTypedTalk : Talk → Type 0
+IsTypedTalk x = x.comment < 4294967296

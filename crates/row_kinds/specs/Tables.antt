@@ -1,7 +1,7 @@
 -- The tables of keys, with their names as texts.
 use Rattle.std.specs.Prelude.{ℕ, List, map, drop}
 use Rattle.json_keys.specs.declared.shape.Ask.{Ask}
-use Rattle.row_kinds.specs.declared.tables.TheConstants.{SITE, SEQ, TYPE, ROLE, USER, TERM, NODE, MENU, LISTING, BLOCK, SESSION}
+use Rattle.row_kinds.specs.declared.tables.TheConstants.{SITE, SEQ, TYPE, ROLE, USER, TERM, NODE, MENU, LISTING, BLOCK, SESSION, COMMENT, TALK}
 
 abbrev pub site_row : List (List ℕ × Ask)
 site_row = map (λ k. (k.0.now, k.1)) SITE
@@ -36,6 +36,12 @@ block_row = map (λ k. (k.0.now, k.1)) BLOCK
 abbrev pub session_row : List (List ℕ × Ask)
 session_row = map (λ k. (k.0.now, k.1)) SESSION
 
+abbrev pub comment_row : List (List ℕ × Ask)
+comment_row = map (λ k. (k.0.now, k.1)) COMMENT
+
+abbrev pub talk_row : List (List ℕ × Ask)
+talk_row = map (λ k. (k.0.now, k.1)) TALK
+
 -- ---- the same without the cell
 
 abbrev pub site_keys : List (List ℕ × Ask)
@@ -67,3 +73,9 @@ block_keys = drop 1 block_row
 
 abbrev pub session_keys : List (List ℕ × Ask)
 session_keys = drop 1 session_row
+
+abbrev pub comment_keys : List (List ℕ × Ask)
+comment_keys = drop 1 comment_row
+
+abbrev pub talk_keys : List (List ℕ × Ask)
+talk_keys = drop 1 talk_row

@@ -6,6 +6,7 @@
 //! errors but want of memory, and a key costs a line.
 #![tactic(auto)]
 
+mod comments;
 mod content;
 mod field;
 mod people;
@@ -15,5 +16,7 @@ mod texts;
 mod words;
 
 pub use field::{Read, Write, both, name_bytes, name_in, name_of, put_at, read_at, read_checked};
-pub use tables::{BLOCK, LISTING, MENU, NODE, ROLE, SEQ, SESSION, SITE, TERM, TYPE, USER};
+pub use tables::{
+    BLOCK, COMMENT, LISTING, MENU, NODE, ROLE, SEQ, SESSION, SITE, TALK, TERM, TYPE, USER,
+};
 pub use texts::texts_at;

@@ -252,3 +252,42 @@ pub const SESSION: [Key; 3] = [
         Ask::Must(Shape::Of(Entry::One(Plain::Whole(1, 4_294_967_294)))),
     ),
 ];
+
+/// The keys of a comment.
+pub const COMMENT: [Key; 8] = [
+    ("cell", Ask::Must(Shape::Any)),
+    (
+        "body",
+        Ask::Must(Shape::Of(Entry::One(Plain::Text(Form::Comment)))),
+    ),
+    (
+        "created",
+        Ask::Must(Shape::Of(Entry::One(Plain::Whole(0, 4_102_444_800)))),
+    ),
+    (
+        "node",
+        Ask::Must(Shape::Of(Entry::One(Plain::Whole(1, 4_294_967_294)))),
+    ),
+    (
+        "parent",
+        Ask::Must(Shape::Of(Entry::NullOr(Plain::Whole(1, 4_294_967_294)))),
+    ),
+    ("status", Ask::Must(Shape::Of(Entry::One(Plain::Flag)))),
+    (
+        "uid",
+        Ask::Must(Shape::Of(Entry::One(Plain::Whole(0, 4_294_967_294)))),
+    ),
+    (
+        "uuid",
+        Ask::Must(Shape::Of(Entry::One(Plain::Text(Form::Uuid)))),
+    ),
+];
+
+/// The keys of the next id of a comment.
+pub const TALK: [Key; 2] = [
+    ("cell", Ask::Must(Shape::Any)),
+    (
+        "comment",
+        Ask::Must(Shape::Of(Entry::One(Plain::Whole(1, 4_294_967_295)))),
+    ),
+];

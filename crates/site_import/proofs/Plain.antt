@@ -142,6 +142,9 @@ row_plain (row.Listing r) =
 row_plain (row.Block r) =
     and (maybe whole_data whole r.age) (and flag (and words (and (text r.label) (and (maybe text_data text r.name) (and (list text_data text r.paths) (and words (and (list text_data text r.roles) (and (maybe text_data text r.text) (and (weight r.weight) none)))))))))
 row_plain (row.Session r) = and (whole r.expires) (and (whole r.uid) none)
+row_plain (row.Comment r) =
+    and (text r.body) (and (whole r.created) (and (whole r.node) (and (maybe whole_data whole r.parent) (and flag (and (whole r.uid) (and (text r.uuid) none))))))
+row_plain (row.Talk r) = and (whole r.comment) none
 
 written_plain : (c : Cell) (r : Row) → IsPlain 4 (written c r)
 written_plain c r = object_plain (put_plain (codes "cell") (text_data (cell_text c)) (members_in (row_data r)) (text (cell_text c)) (row_plain r))

@@ -24,6 +24,7 @@ site_rule_word rule.Absent = codes "absent"
 site_rule_word rule.Taken = codes "taken"
 site_rule_word rule.Cycle = codes "cycle"
 site_rule_word rule.Deep = codes "deep"
+site_rule_word rule.Many = codes "many"
 
 -- the word of what breaks it
 abbrev pub site_field_word : SiteField → List ℕ
@@ -38,6 +39,7 @@ site_field_word field.Name = codes "name"
 site_field_word field.Path = codes "path"
 site_field_word field.Number = codes "number"
 site_field_word field.Parent = codes "parent"
+site_field_word field.Comment = codes "comment"
 
 -- what is wrong, as `bad-json` or `kind title`
 abbrev pub line_says : LineFault → List ℕ

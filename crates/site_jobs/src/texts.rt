@@ -18,6 +18,7 @@ fn site_rule_word(rule: SiteRule) -> &'static str
         SiteRule::Taken => "taken",
         SiteRule::Cycle => "cycle",
         SiteRule::Deep => "deep",
+        SiteRule::Many => "many",
     }
 }
 
@@ -37,6 +38,7 @@ fn site_field_word(field: SiteField) -> &'static str
         SiteField::Path => "path",
         SiteField::Number => "number",
         SiteField::Parent => "parent",
+        SiteField::Comment => "comment",
     }
 }
 
