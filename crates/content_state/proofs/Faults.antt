@@ -22,8 +22,8 @@ use Rattle.content_state.specs.declared.site_rules.SiteRule.TheVariants as rule
 use Rattle.content_state.specs.declared.site_rules.SiteField.{SiteField}
 use Rattle.content_state.specs.declared.site_rules.SiteField.TheVariants as field
 use Rattle.content_state.specs.declared.site_rules.NotASite.{NotASite}
-use Rattle.indexed_rows.specs.Rows.{row_at, as_user, as_term, as_node, as_listing, as_session, role_of}
-use Rattle.content_state.specs.SiteRules.{cell_fault, user_fault, term_fault, node_fault, listing_fault, session_fault, first_broken, MeetsSiteRules, IsFirstFault}
+use Rattle.indexed_rows.specs.Rows.{row_at, as_user, as_term, as_node, as_listing, as_session, as_comment, role_of}
+use Rattle.content_state.specs.SiteRules.{cell_fault, user_fault, term_fault, node_fault, listing_fault, session_fault, comment_fault, first_broken, MeetsSiteRules, IsFirstFault}
 use Rattle.content_state.specs.FirstFault.{fault_at, first_among, required}
 
 -- a cell is one of some cells
@@ -135,25 +135,33 @@ role_required rows name =
     ] refl
 
 -- a cell without a row that is not to be there breaks no rule
-absent_is_right : (rows : List (Cell × Row)) (c : Cell) → row_at rows c ≡ None → Among c required ⊎ (cell_fault rows c ≡ None)
+abbrev IsRight : List (Cell × Row) → Cell → Type 0
+IsRight rows c = (c ≡ cell.Talk) ⊎ (cell_fault rows c ≡ None)
+
+absent_is_right : (rows : List (Cell × Row)) (c : Cell) → row_at rows c ≡ None → Among c required ⊎ IsRight rows c
 absent_is_right rows cell.Site h = inl (inl refl)
 absent_is_right rows cell.Seq h = inl (inr (inl refl))
-absent_is_right rows (cell.NodeType name) h = inr refl
-absent_is_right rows (cell.Role name) h = role_required rows name
-absent_is_right rows (cell.User id) h = inr (ap (λ (r : Option Row). user_fault rows (cell.User id) (option_and_then as_user r)) h)
-absent_is_right rows (cell.Term id) h = inr (ap (λ (r : Option Row). term_fault rows (cell.Term id) id (option_and_then as_term r)) h)
-absent_is_right rows (cell.Node id) h = inr (ap (λ (r : Option Row). node_fault rows (cell.Node id) (option_and_then as_node r)) h)
-absent_is_right rows (cell.Menu name) h = inr refl
-absent_is_right rows (cell.Listing name) h = inr (ap (λ (r : Option Row). listing_fault rows (cell.Listing name) (option_and_then as_listing r)) h)
-absent_is_right rows (cell.Block name) h = inr refl
-absent_is_right rows (cell.Session name) h = inr (ap (λ (r : Option Row). session_fault rows (option_and_then as_session r)) h)
-absent_is_right rows cell.Head h = inr refl
+absent_is_right rows (cell.NodeType name) h = inr (inr refl)
+absent_is_right rows (cell.Role name) h = elim (role_required rows name) as (λ _. Among (cell.Role name) required ⊎ IsRight rows (cell.Role name)) [ inl h ↦ inl h | inr h ↦ inr (inr h) ]
+absent_is_right rows (cell.User id) h = inr (inr (ap (λ (r : Option Row). user_fault rows (cell.User id) (option_and_then as_user r)) h))
+absent_is_right rows (cell.Term id) h = inr (inr (ap (λ (r : Option Row). term_fault rows (cell.Term id) id (option_and_then as_term r)) h))
+absent_is_right rows (cell.Node id) h = inr (inr (ap (λ (r : Option Row). node_fault rows (cell.Node id) (option_and_then as_node r)) h))
+absent_is_right rows (cell.Menu name) h = inr (inr refl)
+absent_is_right rows (cell.Listing name) h = inr (inr (ap (λ (r : Option Row). listing_fault rows (cell.Listing name) (option_and_then as_listing r)) h))
+absent_is_right rows (cell.Block name) h = inr (inr refl)
+absent_is_right rows (cell.Session name) h = inr (inr (ap (λ (r : Option Row). session_fault rows (option_and_then as_session r)) h))
+absent_is_right rows (cell.Comment id) h = inr (inr (ap (λ (r : Option Row). comment_fault rows (cell.Comment id) id (option_and_then as_comment r)) h))
+absent_is_right rows cell.Talk h = inr (inl refl)
+absent_is_right rows cell.Head h = inr (inr refl)
 
--- each cell is to be there, or has a row, or breaks no rule
-looked_at : (rows : List (Cell × Row)) (c : Cell) → Among c required ⊎ Among c (keys_of rows) ⊎ (cell_fault rows c ≡ None)
+-- each cell is to be there, or has a row, or is that of the next id of a comment, or breaks no rule
+abbrev IsLookedAt : List (Cell × Row) → Cell → Type 0
+IsLookedAt rows c = Among c required ⊎ Among c (keys_of rows) ⊎ IsRight rows c
+
+looked_at : (rows : List (Cell × Row)) (c : Cell) → IsLookedAt rows c
 looked_at rows c =
-    elim (row_at rows c) as (λ r. row_at rows c ≡ r → Among c required ⊎ Among c (keys_of rows) ⊎ (cell_fault rows c ≡ None)) [
-      | None ↦ λ e. elim (absent_is_right rows c e) as (λ _. Among c required ⊎ Among c (keys_of rows) ⊎ (cell_fault rows c ≡ None)) [
+    elim (row_at rows c) as (λ r. row_at rows c ≡ r → IsLookedAt rows c) [
+      | None ↦ λ e. elim (absent_is_right rows c e) as (λ _. IsLookedAt rows c) [
         | inl h ↦ inl h
         | inr h ↦ inr (inr h)
       ]
@@ -184,7 +192,26 @@ late rows (cell.Menu name) = inr (inl refl)
 late rows (cell.Listing name) = inr (inr (each_required (λ c. cell_cmp c (cell.Listing name) ≡ Less) refl refl refl refl))
 late rows (cell.Block name) = inr (inl refl)
 late rows (cell.Session name) = inr (inr (each_required (λ c. cell_cmp c (cell.Session name) ≡ Less) refl refl refl refl))
+late rows (cell.Comment id) = inr (inr (each_required (λ c. cell_cmp c (cell.Comment id) ≡ Less) refl refl refl refl))
+late rows cell.Talk = inr (inr (each_required (λ c. cell_cmp c cell.Talk ≡ Less) refl refl refl refl))
 late rows cell.Head = inr (inl refl)
+
+-- behind the next id of a comment no cell breaks a rule
+after_talk : (rows : List (Cell × Row)) (c : Cell) → cell_cmp cell.Talk c ≡ Less → cell_fault rows c ≡ None
+after_talk rows cell.Site less = cc
+after_talk rows cell.Seq less = cc
+after_talk rows (cell.NodeType name) less = cc
+after_talk rows (cell.Role name) less = cc
+after_talk rows (cell.User id) less = cc
+after_talk rows (cell.Term id) less = cc
+after_talk rows (cell.Node id) less = cc
+after_talk rows (cell.Menu name) less = cc
+after_talk rows (cell.Listing name) less = cc
+after_talk rows (cell.Block name) less = cc
+after_talk rows (cell.Session name) less = cc
+after_talk rows (cell.Comment id) less = cc
+after_talk rows cell.Talk less = cc
+after_talk rows cell.Head less = refl
 
 -- a fault that is found among the cells that are to be there is the first
 pub first_required : (rows : List (Cell × Row)) (found : NotASite) → first_among rows required ≡ Some found → IsFirstFault rows found
@@ -209,24 +236,49 @@ first_present rows found sorted none h =
       first = λ d less. elim (looked_at rows d) as (λ _. cell_fault rows d ≡ None) [
         | inl among ↦ none_among rows required d none among
         | inr (inl among) ↦ is.first d among less
-        | inr (inr right) ↦ right
+        | inr (inr (inl talk)) ↦
+            let behind : cell_cmp cell.Talk found.cell ≡ Less = subst (λ (y : Cell). cell_cmp y found.cell ≡ Less) talk less in
+            let clash : None ≡ Some (found.rule, found.field) = sym (after_talk rows found.cell behind) ∙ is.broken in
+            cc
+        | inr (inr (inr right)) ↦ right
       ];
     }
 
+-- where none is found among them either, the next id of a comment is the first that may break a rule
+first_talk : (rows : List (Cell × Row)) (fault : SiteRule × SiteField)
+    → first_among rows required ≡ None → first_among rows (keys_of rows) ≡ None → cell_fault rows cell.Talk ≡ Some fault
+    → IsFirstFault rows (record { cell = cell.Talk; rule = fault.0; field = fault.1 })
+first_talk rows fault none more broken = record {
+  broken = broken;
+  first = λ d less. elim (looked_at rows d) as (λ _. cell_fault rows d ≡ None) [
+    | inl among ↦ none_among rows required d none among
+    | inr (inl among) ↦ none_among rows (keys_of rows) d more among
+    | inr (inr (inl talk)) ↦ absurd (not_below_itself cell.Talk (subst (λ (y : Cell). cell_cmp y cell.Talk ≡ Less) talk less))
+    | inr (inr (inr right)) ↦ right
+  ];
+}
+
 -- where none is found at all, no cell breaks a rule
-none_at_all : (rows : List (Cell × Row)) → first_among rows required ≡ None → first_among rows (keys_of rows) ≡ None → MeetsSiteRules rows
-none_at_all rows none more c = elim (looked_at rows c) as (λ _. cell_fault rows c ≡ None) [
+none_at_all : (rows : List (Cell × Row)) → first_among rows required ≡ None → first_among rows (keys_of rows) ≡ None → cell_fault rows cell.Talk ≡ None → MeetsSiteRules rows
+none_at_all rows none more last c = elim (looked_at rows c) as (λ _. cell_fault rows c ≡ None) [
   | inl among ↦ none_among rows required c none among
   | inr (inl among) ↦ none_among rows (keys_of rows) c more among
-  | inr (inr right) ↦ right
+  | inr (inr (inl talk)) ↦ subst (λ (y : Cell). cell_fault rows y ≡ None) (sym talk) last
+  | inr (inr (inr right)) ↦ right
 ]
 
--- what the search among the rows' cells then answers
-pub found_present : (rows : List (Cell × Row)) (found : Option NotASite) → IsStrictlySortedBy cell_cmp (keys_of rows)
-    → first_among rows required ≡ None → found ≡ first_among rows (keys_of rows)
+-- what the search among the rows' cells and at the next id of a comment then answers
+pub found_later : (rows : List (Cell × Row)) (found : Option NotASite) → IsStrictlySortedBy cell_cmp (keys_of rows)
+    → first_among rows required ≡ None → found ≡ option_or (first_among rows (keys_of rows)) (fault_at cell.Talk (cell_fault rows cell.Talk))
     → MatchOption found (MeetsSiteRules rows) (IsFirstFault rows)
-found_present rows None sorted none is = none_at_all rows none (sym is)
-found_present rows (Some found) sorted none is = first_present rows found sorted none (sym is)
+found_later rows found sorted none is =
+    subst (λ f. MatchOption f (MeetsSiteRules rows) (IsFirstFault rows)) (sym is) (on (first_among rows (keys_of rows)) refl (cell_fault rows cell.Talk) refl)
+  where
+    on : (p : Option NotASite) → first_among rows (keys_of rows) ≡ p → (q : Option (SiteRule × SiteField)) → cell_fault rows cell.Talk ≡ q
+        → MatchOption (option_or p (fault_at cell.Talk q)) (MeetsSiteRules rows) (IsFirstFault rows)
+    on (Some first) e q last = first_present rows first sorted none e
+    on None e None last = none_at_all rows none e last
+    on None e (Some fault) last = first_talk rows fault none e last
 
 -- a first fault is one
 pub refutes : (rows : List (Cell × Row)) (fault : NotASite) → IsFirstFault rows fault → IsTrue false ↔ MeetsSiteRules rows

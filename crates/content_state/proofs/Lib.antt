@@ -1,4 +1,5 @@
 pub mod Chains
+pub mod CommentsPlaced
 pub mod Crossing
 pub mod Faults
 pub mod Filled

@@ -6,8 +6,6 @@ use Rattle.std.specs.Str.{bytes_eq}
 use Rattle.std.specs.Ordering.{eq_by_cmp, is_eq, nat_cmp, ordering_then}
 use Rattle.std.specs.Cmp.{eq_by_cmp_equiv, Equal-is, nat_cmp_total, tied_itself, unsigned_tied}
 use Rattle.std.specs.Cmp.Lexicographic.{slice_cmp, nat_list_cmp_total}
-use Rattle.std.specs.declared.cmp.Ordering.{Ordering}
-use Rattle.std.specs.declared.cmp.Ordering.TheVariants.{Less, Equal, Greater}
 use Rattle.std.proofs.lemmas.List.Elements.{filter-append}
 use Rattle.std.proofs.lemmas.List.Folds.{list_any-append}
 use Rattle.std.proofs.lemmas.Map.Text.{is_eq-slice_cmp}
@@ -19,7 +17,6 @@ use Rattle.content_rows.specs.declared.row.Row.TheVariants as row
 use Rattle.content_rows.specs.declared.row.Node.{Node}
 use Rattle.content_rows.specs.declared.row.Block.{Block}
 use Rattle.content_rows.specs.declared.row.Region.{Region}
-use Rattle.shared_set.specs.Keys.{is_in}
 use Rattle.index_law.specs.Index.{in_order, index_of}
 use Rattle.index_law.proofs.Orders.{filter_in_order, in_order_map, same_order}
 use Rattle.row_keys.specs.declared.rank.NodeRank.{NodeRank}
@@ -38,7 +35,7 @@ use Rattle.row_keys.specs.Ranks.{rank_of, rank_cmp, block_rank, block_cmp}
 use Rattle.row_keys.specs.Exact.{type_exact, term_exact, block_exact}
 use Rattle.indexed_rows.specs.TextLaws.{nat_exact}
 use Rattle.indexed_rows.specs.Rows.{node_entry, block_entry, nodes_of, blocks_of}
-use Rattle.content_state.specs.Ranked.{ranks_in_order, published, published_of, published_with, blocks_within}
+use Rattle.content_state.specs.Ranked.{published, published_of, published_with, blocks_within}
 
 pub all_kept : {A : Type 0} (xs : List A) → filter (λ x. true) xs ≡ xs
 all_kept [] = refl

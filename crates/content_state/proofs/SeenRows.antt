@@ -39,6 +39,7 @@ level_by unique.TermUuid unique.TermUuid t u = sym (texts_ties t u)
 level_by unique.UserUuid unique.UserUuid t u = sym (texts_ties t u)
 level_by unique.UserName unique.UserName t u = sym (texts_ties t u)
 level_by unique.Path unique.Path t u = sym (texts_ties t u)
+level_by unique.CommentUuid unique.CommentUuid t u = sym (texts_ties t u)
 level_by _ _ t u = refl
 
 level : (a held : Held) → is_at (held_cmp a) held ≡ (is_kind a.what held.what && bytes_eq a.text.now held.text.now)

@@ -1,15 +1,12 @@
 -- The rows that have a text are those that the index of texts leads to.
-use Rattle.std.proofs.Common.{ℕ, List, [], ◌∷◌, ◌++◌, ◌≡◌, ◌∙◌, refl, sym, ap, subst, Bool, true, false, cond, Option, Some, None, map, flat_map}
+use Rattle.std.proofs.Common.{ℕ, List, [], ◌∷◌, ◌++◌, ◌≡◌, ◌∙◌, refl, sym, ap, Bool, true, false, cond, Option, Some, None, map, flat_map}
 use Rattle.std.specs.Prelude.{option_and_then, option_map}
-use Rattle.std.specs.List.{AllByRecursion, cons_option, filter, filter_map, list_any}
+use Rattle.std.specs.List.{AllByRecursion, cons_option, filter}
 use Rattle.std.specs.List.Sorted.{IsStrictlySortedBy}
-use Rattle.std.specs.Map.{keys_of, lookup}
-use Rattle.std.specs.BTreeMap.{is_at}
+use Rattle.std.specs.Map.{keys_of}
 use Rattle.std.specs.Ordering.{is_eq, nat_cmp, ordering_then, ordering_reverse}
 use Rattle.std.specs.Cmp.{tied_itself, nat_cmp_total, Equal-is}
-use Rattle.std.specs.Str.{bytes_eq}
-use Rattle.std.specs.declared.cmp.Ordering.{Ordering}
-use Rattle.std.specs.declared.cmp.Ordering.TheVariants.{Less, Equal, Greater}
+use Rattle.std.specs.declared.cmp.Ordering.TheVariants.{Less, Greater}
 use Rattle.std.proofs.lemmas.List.{append-nil}
 use Rattle.std.proofs.lemmas.List.Elements.{filter-append}
 use Rattle.std.proofs.lemmas.Map.Keys.{sorted_head, sorted_tail}
@@ -30,27 +27,30 @@ use Rattle.indexed_rows.specs.contracts.text_mark.TextKeyOrd.TheImpl.Laws as law
 use Rattle.indexed_rows.specs.Rows.{row_at, InOrder}
 use Rattle.indexed_rows.specs.Texts.{is_text, text_of}
 use Rattle.content_state.specs.Having.{having}
-use Rattle.content_state.specs.FoundTexts.{found_with, found_at}
-use Rattle.indexed_rows.specs.TextKeys.{digest, mark_of, mark_cmp, key_of, text_key, text_keys}
+use Rattle.content_state.specs.FoundTexts.{found_with}
+use Rattle.indexed_rows.specs.TextKeys.{digest, mark_cmp, key_of, text_key, text_keys}
 use Rattle.indexed_rows.specs.TextLaws.{nat_exact, text_exact, mark_total}
 
 is_level : (a b : ℕ) → is_eq (nat_cmp a b) ≡ true → a ≡ b
 is_level a b h = nat_exact a b ((Equal-is (nat_cmp a b)).0 h)
 
-ends0 : (x : List TextKey) → x ++ [] ++ [] ++ [] ++ [] ≡ x
-ends0 x = append-nil (x ++ [] ++ [] ++ []) ∙ append-nil (x ++ [] ++ []) ∙ append-nil (x ++ []) ∙ append-nil x
+ends0 : (x : List TextKey) → x ++ [] ++ [] ++ [] ++ [] ++ [] ≡ x
+ends0 x = append-nil (x ++ [] ++ [] ++ [] ++ []) ∙ append-nil (x ++ [] ++ [] ++ []) ∙ append-nil (x ++ [] ++ []) ∙ append-nil (x ++ []) ∙ append-nil x
 
-ends1 : (x : List TextKey) → [] ++ x ++ [] ++ [] ++ [] ≡ x
-ends1 x = append-nil (x ++ [] ++ []) ∙ append-nil (x ++ []) ∙ append-nil x
+ends1 : (x : List TextKey) → [] ++ x ++ [] ++ [] ++ [] ++ [] ≡ x
+ends1 x = append-nil (x ++ [] ++ [] ++ []) ∙ append-nil (x ++ [] ++ []) ∙ append-nil (x ++ []) ∙ append-nil x
 
-ends2 : (x : List TextKey) → [] ++ [] ++ x ++ [] ++ [] ≡ x
-ends2 x = append-nil (x ++ []) ∙ append-nil x
+ends2 : (x : List TextKey) → [] ++ [] ++ x ++ [] ++ [] ++ [] ≡ x
+ends2 x = append-nil (x ++ [] ++ []) ∙ append-nil (x ++ []) ∙ append-nil x
 
-ends3 : (x : List TextKey) → [] ++ [] ++ [] ++ x ++ [] ≡ x
-ends3 x = append-nil x
+ends3 : (x : List TextKey) → [] ++ [] ++ [] ++ x ++ [] ++ [] ≡ x
+ends3 x = append-nil (x ++ []) ∙ append-nil x
 
-ends4 : (x : List TextKey) → [] ++ [] ++ [] ++ [] ++ x ≡ x
-ends4 x = refl
+ends4 : (x : List TextKey) → [] ++ [] ++ [] ++ [] ++ x ++ [] ≡ x
+ends4 x = append-nil x
+
+ends5 : (x : List TextKey) → [] ++ [] ++ [] ++ [] ++ [] ++ x ≡ x
+ends5 x = refl
 
 -- ---- of a row, the keys of one mark
 
@@ -82,10 +82,11 @@ module _ (what : Unique) (d : ℕ) where
   own_key text c true e = ap (λ (n : ℕ). key_at n c) (sym (is_level d (digest text) e))
   own_key text c false e = refl
 
-five : (p : TextKey → Bool) (a b c d f : List TextKey) → filter p (a ++ b ++ c ++ d ++ f) ≡ filter p a ++ filter p b ++ filter p c ++ filter p d ++ filter p f
-five p a b c d f =
-    filter-append p (a ++ b ++ c ++ d) f
-    ∙ ap (λ l. l ++ filter p f) (filter-append p (a ++ b ++ c) d ∙ ap (λ l. l ++ filter p d) (filter-append p (a ++ b) c ∙ ap (λ l. l ++ filter p c) (filter-append p a b)))
+six : (p : TextKey → Bool) (a b c d f g : List TextKey) → filter p (a ++ b ++ c ++ d ++ f ++ g) ≡ filter p a ++ filter p b ++ filter p c ++ filter p d ++ filter p f ++ filter p g
+six p a b c d f g =
+    filter-append p (a ++ b ++ c ++ d ++ f) g
+    ∙ ap (λ l. l ++ filter p g) (filter-append p (a ++ b ++ c ++ d) f
+    ∙ ap (λ l. l ++ filter p f) (filter-append p (a ++ b ++ c) d ∙ ap (λ l. l ++ filter p d) (filter-append p (a ++ b) c ∙ ap (λ l. l ++ filter p c) (filter-append p a b))))
 
 -- a text that there may be
 by_text : (f g : Option (List ℕ) → List TextKey) → f None ≡ g None → ((t : List ℕ) → f (Some t) ≡ g (Some t)) → (t : Option (List ℕ)) → f t ≡ g t
@@ -99,8 +100,8 @@ of_kind what d k = is_in (λ (m : TextMark) (k : TextKey). mark_cmp m k.mark) (m
 row_part : (what : Unique) (d : ℕ) (e : Cell × Row) → of_mark what d (text_keys e) ≡ one what d e.0 (text_of what e.1)
 row_part unique.NodeUuid d e =
     let p = of_kind unique.NodeUuid d in
-    five p (text_key unique.NodeUuid e) (text_key unique.TermUuid e) (text_key unique.UserUuid e) (text_key unique.UserName e) (text_key unique.Path e)
-    ∙ (λ i. own i ++ TermUuid_none i ++ UserUuid_none i ++ UserName_none i ++ Path_none i)
+    six p (text_key unique.NodeUuid e) (text_key unique.TermUuid e) (text_key unique.UserUuid e) (text_key unique.UserName e) (text_key unique.Path e) (text_key unique.CommentUuid e)
+    ∙ (λ i. own i ++ TermUuid_none i ++ UserUuid_none i ++ UserName_none i ++ Path_none i ++ CommentUuid_none i)
     ∙ ends0 (one unique.NodeUuid d e.0 (text_of unique.NodeUuid e.1))
   where
     own : filter (of_kind unique.NodeUuid d) (text_key unique.NodeUuid e) ≡ one unique.NodeUuid d e.0 (text_of unique.NodeUuid e.1)
@@ -117,10 +118,13 @@ row_part unique.NodeUuid d e =
 
     Path_none : filter (of_kind unique.NodeUuid d) (text_key unique.Path e) ≡ []
     Path_none = by_text (λ t. filter (of_kind unique.NodeUuid d) (key_of unique.Path e.0 t)) (λ t. []) refl (λ t. refl) (text_of unique.Path e.1)
+
+    CommentUuid_none : filter (of_kind unique.NodeUuid d) (text_key unique.CommentUuid e) ≡ []
+    CommentUuid_none = by_text (λ t. filter (of_kind unique.NodeUuid d) (key_of unique.CommentUuid e.0 t)) (λ t. []) refl (λ t. refl) (text_of unique.CommentUuid e.1)
 row_part unique.TermUuid d e =
     let p = of_kind unique.TermUuid d in
-    five p (text_key unique.NodeUuid e) (text_key unique.TermUuid e) (text_key unique.UserUuid e) (text_key unique.UserName e) (text_key unique.Path e)
-    ∙ (λ i. NodeUuid_none i ++ own i ++ UserUuid_none i ++ UserName_none i ++ Path_none i)
+    six p (text_key unique.NodeUuid e) (text_key unique.TermUuid e) (text_key unique.UserUuid e) (text_key unique.UserName e) (text_key unique.Path e) (text_key unique.CommentUuid e)
+    ∙ (λ i. NodeUuid_none i ++ own i ++ UserUuid_none i ++ UserName_none i ++ Path_none i ++ CommentUuid_none i)
     ∙ ends1 (one unique.TermUuid d e.0 (text_of unique.TermUuid e.1))
   where
     own : filter (of_kind unique.TermUuid d) (text_key unique.TermUuid e) ≡ one unique.TermUuid d e.0 (text_of unique.TermUuid e.1)
@@ -137,10 +141,13 @@ row_part unique.TermUuid d e =
 
     Path_none : filter (of_kind unique.TermUuid d) (text_key unique.Path e) ≡ []
     Path_none = by_text (λ t. filter (of_kind unique.TermUuid d) (key_of unique.Path e.0 t)) (λ t. []) refl (λ t. refl) (text_of unique.Path e.1)
+
+    CommentUuid_none : filter (of_kind unique.TermUuid d) (text_key unique.CommentUuid e) ≡ []
+    CommentUuid_none = by_text (λ t. filter (of_kind unique.TermUuid d) (key_of unique.CommentUuid e.0 t)) (λ t. []) refl (λ t. refl) (text_of unique.CommentUuid e.1)
 row_part unique.UserUuid d e =
     let p = of_kind unique.UserUuid d in
-    five p (text_key unique.NodeUuid e) (text_key unique.TermUuid e) (text_key unique.UserUuid e) (text_key unique.UserName e) (text_key unique.Path e)
-    ∙ (λ i. NodeUuid_none i ++ TermUuid_none i ++ own i ++ UserName_none i ++ Path_none i)
+    six p (text_key unique.NodeUuid e) (text_key unique.TermUuid e) (text_key unique.UserUuid e) (text_key unique.UserName e) (text_key unique.Path e) (text_key unique.CommentUuid e)
+    ∙ (λ i. NodeUuid_none i ++ TermUuid_none i ++ own i ++ UserName_none i ++ Path_none i ++ CommentUuid_none i)
     ∙ ends2 (one unique.UserUuid d e.0 (text_of unique.UserUuid e.1))
   where
     own : filter (of_kind unique.UserUuid d) (text_key unique.UserUuid e) ≡ one unique.UserUuid d e.0 (text_of unique.UserUuid e.1)
@@ -157,10 +164,13 @@ row_part unique.UserUuid d e =
 
     Path_none : filter (of_kind unique.UserUuid d) (text_key unique.Path e) ≡ []
     Path_none = by_text (λ t. filter (of_kind unique.UserUuid d) (key_of unique.Path e.0 t)) (λ t. []) refl (λ t. refl) (text_of unique.Path e.1)
+
+    CommentUuid_none : filter (of_kind unique.UserUuid d) (text_key unique.CommentUuid e) ≡ []
+    CommentUuid_none = by_text (λ t. filter (of_kind unique.UserUuid d) (key_of unique.CommentUuid e.0 t)) (λ t. []) refl (λ t. refl) (text_of unique.CommentUuid e.1)
 row_part unique.UserName d e =
     let p = of_kind unique.UserName d in
-    five p (text_key unique.NodeUuid e) (text_key unique.TermUuid e) (text_key unique.UserUuid e) (text_key unique.UserName e) (text_key unique.Path e)
-    ∙ (λ i. NodeUuid_none i ++ TermUuid_none i ++ UserUuid_none i ++ own i ++ Path_none i)
+    six p (text_key unique.NodeUuid e) (text_key unique.TermUuid e) (text_key unique.UserUuid e) (text_key unique.UserName e) (text_key unique.Path e) (text_key unique.CommentUuid e)
+    ∙ (λ i. NodeUuid_none i ++ TermUuid_none i ++ UserUuid_none i ++ own i ++ Path_none i ++ CommentUuid_none i)
     ∙ ends3 (one unique.UserName d e.0 (text_of unique.UserName e.1))
   where
     own : filter (of_kind unique.UserName d) (text_key unique.UserName e) ≡ one unique.UserName d e.0 (text_of unique.UserName e.1)
@@ -177,10 +187,13 @@ row_part unique.UserName d e =
 
     Path_none : filter (of_kind unique.UserName d) (text_key unique.Path e) ≡ []
     Path_none = by_text (λ t. filter (of_kind unique.UserName d) (key_of unique.Path e.0 t)) (λ t. []) refl (λ t. refl) (text_of unique.Path e.1)
+
+    CommentUuid_none : filter (of_kind unique.UserName d) (text_key unique.CommentUuid e) ≡ []
+    CommentUuid_none = by_text (λ t. filter (of_kind unique.UserName d) (key_of unique.CommentUuid e.0 t)) (λ t. []) refl (λ t. refl) (text_of unique.CommentUuid e.1)
 row_part unique.Path d e =
     let p = of_kind unique.Path d in
-    five p (text_key unique.NodeUuid e) (text_key unique.TermUuid e) (text_key unique.UserUuid e) (text_key unique.UserName e) (text_key unique.Path e)
-    ∙ (λ i. NodeUuid_none i ++ TermUuid_none i ++ UserUuid_none i ++ UserName_none i ++ own i)
+    six p (text_key unique.NodeUuid e) (text_key unique.TermUuid e) (text_key unique.UserUuid e) (text_key unique.UserName e) (text_key unique.Path e) (text_key unique.CommentUuid e)
+    ∙ (λ i. NodeUuid_none i ++ TermUuid_none i ++ UserUuid_none i ++ UserName_none i ++ own i ++ CommentUuid_none i)
     ∙ ends4 (one unique.Path d e.0 (text_of unique.Path e.1))
   where
     own : filter (of_kind unique.Path d) (text_key unique.Path e) ≡ one unique.Path d e.0 (text_of unique.Path e.1)
@@ -197,6 +210,32 @@ row_part unique.Path d e =
 
     UserName_none : filter (of_kind unique.Path d) (text_key unique.UserName e) ≡ []
     UserName_none = by_text (λ t. filter (of_kind unique.Path d) (key_of unique.UserName e.0 t)) (λ t. []) refl (λ t. refl) (text_of unique.UserName e.1)
+
+    CommentUuid_none : filter (of_kind unique.Path d) (text_key unique.CommentUuid e) ≡ []
+    CommentUuid_none = by_text (λ t. filter (of_kind unique.Path d) (key_of unique.CommentUuid e.0 t)) (λ t. []) refl (λ t. refl) (text_of unique.CommentUuid e.1)
+row_part unique.CommentUuid d e =
+    let p = of_kind unique.CommentUuid d in
+    six p (text_key unique.NodeUuid e) (text_key unique.TermUuid e) (text_key unique.UserUuid e) (text_key unique.UserName e) (text_key unique.Path e) (text_key unique.CommentUuid e)
+    ∙ (λ i. NodeUuid_none i ++ TermUuid_none i ++ UserUuid_none i ++ UserName_none i ++ Path_none i ++ own i)
+    ∙ ends5 (one unique.CommentUuid d e.0 (text_of unique.CommentUuid e.1))
+  where
+    own : filter (of_kind unique.CommentUuid d) (text_key unique.CommentUuid e) ≡ one unique.CommentUuid d e.0 (text_of unique.CommentUuid e.1)
+    own = by_text (λ t. filter (of_kind unique.CommentUuid d) (key_of unique.CommentUuid e.0 t)) (λ t. one unique.CommentUuid d e.0 t) refl (λ t. own_key unique.CommentUuid d t e.0 (is_eq (nat_cmp d (digest t))) refl) (text_of unique.CommentUuid e.1)
+
+    NodeUuid_none : filter (of_kind unique.CommentUuid d) (text_key unique.NodeUuid e) ≡ []
+    NodeUuid_none = by_text (λ t. filter (of_kind unique.CommentUuid d) (key_of unique.NodeUuid e.0 t)) (λ t. []) refl (λ t. refl) (text_of unique.NodeUuid e.1)
+
+    TermUuid_none : filter (of_kind unique.CommentUuid d) (text_key unique.TermUuid e) ≡ []
+    TermUuid_none = by_text (λ t. filter (of_kind unique.CommentUuid d) (key_of unique.TermUuid e.0 t)) (λ t. []) refl (λ t. refl) (text_of unique.TermUuid e.1)
+
+    UserUuid_none : filter (of_kind unique.CommentUuid d) (text_key unique.UserUuid e) ≡ []
+    UserUuid_none = by_text (λ t. filter (of_kind unique.CommentUuid d) (key_of unique.UserUuid e.0 t)) (λ t. []) refl (λ t. refl) (text_of unique.UserUuid e.1)
+
+    UserName_none : filter (of_kind unique.CommentUuid d) (text_key unique.UserName e) ≡ []
+    UserName_none = by_text (λ t. filter (of_kind unique.CommentUuid d) (key_of unique.UserName e.0 t)) (λ t. []) refl (λ t. refl) (text_of unique.UserName e.1)
+
+    Path_none : filter (of_kind unique.CommentUuid d) (text_key unique.Path e) ≡ []
+    Path_none = by_text (λ t. filter (of_kind unique.CommentUuid d) (key_of unique.Path e.0 t)) (λ t. []) refl (λ t. refl) (text_of unique.Path e.1)
 
 -- ---- of all rows
 
@@ -245,7 +284,7 @@ module _ (what : Unique) (d : ℕ) where
 
 -- ---- what is found at the cells of the keys
 
-abbrev Found : List (Cell × Row) → Cell × Row → Type 0
+abbrev pub Found : List (Cell × Row) → Cell × Row → Type 0
 Found rows e = row_at rows e.0 ≡ Some e.1
 
 later : (e : Cell × Row) (rows es : List (Cell × Row)) → AllByRecursion (λ c. cell_cmp e.0 c ≡ Less) (keys_of es) → AllByRecursion (Found rows) es → AllByRecursion (Found (e ∷ rows)) es
@@ -254,7 +293,7 @@ later e rows (x ∷ xs) less found =
     let over : cell_cmp x.0 e.0 ≡ Greater = cell_cmp_total.antisymm x.0 e.0 ∙ ap ordering_reverse less.0 in
     (ap (λ r. cond (is_eq r) (Some e.1) (row_at rows x.0)) over ∙ found.0, later e rows xs less.1 found.1)
 
-found_all : (rows : List (Cell × Row)) → InOrder rows → AllByRecursion (Found rows) rows
+pub found_all : (rows : List (Cell × Row)) → InOrder rows → AllByRecursion (Found rows) rows
 found_all [] h = tt
 found_all (e ∷ es) h = (
   ap (λ r. cond (is_eq r) (Some e.1) (row_at es e.0)) (tied_itself cell_cmp_total e.0),

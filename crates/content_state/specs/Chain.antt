@@ -3,7 +3,7 @@ use Rattle.std.specs.Prelude.{ℕ, zero, suc, List, [], ◌∷◌, ◌≡◌, Bo
 use Rattle.std.specs.List.{list_any}
 use Rattle.content_rows.specs.declared.cell.Cell.{Cell}
 use Rattle.content_rows.specs.declared.row.Row.{Row}
-use Rattle.indexed_rows.specs.Rows.{term_of}
+use Rattle.indexed_rows.specs.Rows.{term_of, comment_of}
 
 -- the number of the row above a row, if there is one
 abbrev pub Up : Type 0
@@ -38,6 +38,10 @@ with_parent up id parent k = if k == id then parent else up k
 -- the number of the term above a term, if there is one; above a term that is not there stands none
 abbrev pub parent_in : List (Cell × Row) → Up
 parent_in rows k = option_and_then (λ t. t.parent) (term_of rows k)
+
+-- the number of the comment that a comment replies to, if there is one; above a comment that is not there stands none
+abbrev pub reply_in : List (Cell × Row) → Up
+reply_in rows k = option_and_then (λ c. c.parent) (comment_of rows k)
 
 -- Where the rows that stay are as they were, and what they name stays, the chain of each is as it was.
 abbrev pub ChainsStay : Type 0

@@ -19,6 +19,6 @@ abbrev pub first_among : List (Cell × Row) → List Cell → Option NotASite
 first_among rows [] = None
 first_among rows (c ∷ cs) = option_or (fault_at c (cell_fault rows c)) (first_among rows cs)
 
--- the cells that are to be there, which come before all other cells that can break a rule
+-- the cells that are to be there in every site, which come before all other cells that can break a rule
 abbrev pub required : List Cell
 required = cell.Site ∷ cell.Seq ∷ cell.Role anonymous ∷ cell.Role authenticated ∷ []

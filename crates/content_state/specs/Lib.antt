@@ -18,3 +18,4 @@ pub mod Seen
 pub mod Having
 pub mod FoundTexts
 pub mod Ranked
+pub mod Comments

@@ -7,11 +7,9 @@ use Rattle.content_rows.specs.declared.cell.Cell.{Cell}
 use Rattle.content_rows.specs.declared.row.Row.{Row}
 use Rattle.content_rows.specs.declared.row.Node.{Node}
 use Rattle.content_rows.specs.declared.row.Term.{Term}
-use Rattle.content_rows.specs.declared.row.Block.{Block}
 use Rattle.content_rows.specs.declared.row.Region.{Region}
 use Rattle.index_law.specs.Index.{in_order}
 use Rattle.row_keys.specs.declared.rank.NodeRank.{NodeRank}
-use Rattle.row_keys.specs.declared.rank.BlockRank.{BlockRank}
 use Rattle.row_keys.specs.declared.rank.TypeKey.{TypeKey}
 use Rattle.row_keys.specs.declared.rank.TermKey.{TermKey}
 use Rattle.row_keys.specs.declared.rank.ParentKey.{ParentKey}

@@ -14,12 +14,13 @@ use Rattle.content_rows.specs.declared.row.Node.{Node}
 use Rattle.content_rows.specs.declared.row.Menu.{Menu}
 use Rattle.content_rows.specs.declared.row.Listing.{Listing}
 use Rattle.content_rows.specs.declared.row.Block.{Block}
+use Rattle.content_rows.specs.declared.row.Comment.{Comment}
 use Rattle.content_state.specs.declared.route.Route.{Route}
-use Rattle.indexed_rows.specs.Rows.{site_of, type_of, role_of, user_of, term_of, node_of, menu_of, listing_of, block_of, nodes_of, nodes_of_type, terms_of, blocks_of}
+use Rattle.indexed_rows.specs.Rows.{site_of, type_of, role_of, user_of, term_of, node_of, menu_of, listing_of, block_of, comment_of, nodes_of, nodes_of_type, terms_of, blocks_of, comments_on}
 use Rattle.content_state.specs.Route.{route_of, path_tags}
 
--- one row of a kind; all nodes, or those of a type; all terms; all blocks; what a path leads to. The ids that are next and
--- the sessions are read by no page but through contexts.
+-- one row of a kind; all nodes, or those of a type; all terms; all blocks; all comments of a node; what a path leads to. The
+-- ids that are next and the sessions are read by no page but through contexts.
 pub data Read : Type 0 where
   SiteRow : Read
   TypeRow : List ℕ → Read
@@ -30,10 +31,12 @@ pub data Read : Type 0 where
   MenuRow : List ℕ → Read
   ListingRow : List ℕ → Read
   BlockRow : List ℕ → Read
+  CommentRow : ℕ → Read
   AllNodes : Read
   NodesOfType : List ℕ → Read
   AllTerms : Read
   AllBlocks : Read
+  CommentsOf : ℕ → Read
   PathRoute : List ℕ → Read
 
 -- what a read answers
@@ -47,10 +50,12 @@ Answer (NodeRow n) = Option Node
 Answer (MenuRow m) = Option Menu
 Answer (ListingRow l) = Option Listing
 Answer (BlockRow b) = Option Block
+Answer (CommentRow c) = Option Comment
 Answer AllNodes = List (ℕ × Node)
 Answer (NodesOfType t) = List (ℕ × Node)
 Answer AllTerms = List (ℕ × Term)
 Answer AllBlocks = List (List ℕ × Block)
+Answer (CommentsOf n) = List (ℕ × Comment)
 Answer (PathRoute p) = Route
 
 abbrev pub answer : List (Cell × Row) → (r : Read) → Answer r
@@ -63,10 +68,12 @@ answer rows (NodeRow n) = node_of rows n
 answer rows (MenuRow m) = menu_of rows m
 answer rows (ListingRow l) = listing_of rows l
 answer rows (BlockRow b) = block_of rows b
+answer rows (CommentRow c) = comment_of rows c
 answer rows AllNodes = nodes_of rows
 answer rows (NodesOfType t) = nodes_of_type rows t
 answer rows AllTerms = terms_of rows
 answer rows AllBlocks = blocks_of rows
+answer rows (CommentsOf n) = comments_on rows n
 answer rows (PathRoute p) = route_of rows p
 
 -- the tags that cover a read: an edit that changes its answer invalidates one of them
@@ -80,8 +87,10 @@ cover rows (NodeRow n) = tag.Node n ∷ []
 cover rows (MenuRow m) = tag.Menu m ∷ []
 cover rows (ListingRow l) = tag.Listing l ∷ []
 cover rows (BlockRow b) = tag.Block b ∷ []
+cover rows (CommentRow c) = tag.Comment c ∷ []
 cover rows AllNodes = tag.NodeList ∷ []
 cover rows (NodesOfType t) = tag.NodeListOf t ∷ []
 cover rows AllTerms = tag.TermList ∷ []
 cover rows AllBlocks = tag.BlockList ∷ []
+cover rows (CommentsOf n) = tag.CommentList n ∷ []
 cover rows (PathRoute p) = path_tags rows p

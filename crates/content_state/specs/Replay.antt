@@ -28,6 +28,11 @@ abbrev pub list_of_type : Option Row → List Tag
 list_of_type (Some (row.Node node)) = tag.NodeListOf node.node_type ∷ []
 list_of_type _ = []
 
+-- the list of comments of the node of a comment's row
+abbrev pub list_of_node : Option Row → List Tag
+list_of_node (Some (row.Comment comment)) = tag.CommentList comment.node ∷ []
+list_of_node _ = []
+
 -- The tags that a write to a cell invalidates, by the row that was there and the one that is there now. No page reads
 -- the ids that are next or the sessions but through contexts, so they have none.
 abbrev pub bumps : Cell → Option Row → Option Row → List Tag
@@ -42,6 +47,8 @@ bumps (cell.Menu m) old new = tag.Menu m ∷ []
 bumps (cell.Listing l) old new = tag.Listing l ∷ tag.NotFound ∷ []
 bumps (cell.Block b) old new = tag.Block b ∷ tag.BlockList ∷ []
 bumps (cell.Session s) old new = []
+bumps (cell.Comment c) old new = tag.Comment c ∷ (list_of_node old ++ list_of_node new)
+bumps cell.Talk old new = []
 bumps cell.Head old new = []
 
 -- the tags that a write invalidates where these rows stood before it

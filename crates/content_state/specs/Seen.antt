@@ -24,6 +24,7 @@ is_kind unique.TermUuid unique.TermUuid = true
 is_kind unique.UserUuid unique.UserUuid = true
 is_kind unique.UserName unique.UserName = true
 is_kind unique.Path unique.Path = true
+is_kind unique.CommentUuid unique.CommentUuid = true
 is_kind _ _ = false
 
 -- the set has exactly what the rows before a cell have

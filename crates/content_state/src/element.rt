@@ -61,6 +61,7 @@ pub enum Placing {
 #[derive(Clone, Copy, Debug, PartialEq, Eq)]
 pub enum Library {
     Clock,
+    Comment,
     Login,
     Menu,
     Node,

@@ -4,6 +4,8 @@
 
 mod ask;
 mod chain;
+mod comment_rules;
+mod comments;
 mod commit;
 mod element;
 mod forms;

@@ -1,16 +1,19 @@
 //! The rules that the rows of a site keep together.
 ghost use Rattle.std.specs.Prelude.{◌≡◌, ◌↔◌, ◌||◌, if◌then◌else◌, suc, length, IsTrue, IfOk, OnOk};
 ghost use Rattle.std.specs.Map.{keys_of};
-ghost use Rattle.std.specs.Option.{option_copied, MatchOption};
+ghost use Rattle.std.specs.Option.{option_copied, option_or, MatchOption};
 ghost use Rattle.content_rows.specs.Permission.{anonymous as anonymous_name, authenticated as authenticated_name};
 ghost use Rattle.std.specs.Str.{bytes_eq};
 ghost use Rattle.indexed_rows.specs.Rows.{InOrder, user_of, term_of, node_of, listing_of, session_of};
 ghost use Rattle.indexed_rows.specs.Texts.{text_of};
 ghost use Rattle.content_state.specs.SiteRules.{MeetsSiteRules, IsFirstFault, cell_fault, user_fault, term_fault, node_fault, listing_fault, session_fault, has_id_from, is_id_from, is_absent, taken};
-ghost use Rattle.content_state.specs.Chain.{is_longer, parent_in};
+ghost use Rattle.content_state.specs.Chain.{is_longer};
+ghost use Rattle.content_state.specs.Moves.{above_in};
 ghost use Rattle.content_state.specs.FirstFault.{fault_at, first_among, required};
 ghost use Rattle.content_state.specs.Seen.{IsSeenBefore, AddsRow, AddsText};
 
+use crate::chain::Tree;
+use crate::comment_rules::{comment_fault, talk_fault};
 use crate::seen::Held;
 use crate::state::State;
 use cacheability::Name;
@@ -33,8 +36,10 @@ pub enum SiteRule {
     Taken,
     /// `cycle`: a chain of parents comes back to itself.
     Cycle,
-    /// `deep`: a chain of parents has more than nine terms.
+    /// `deep`: a chain of parents has more than nine rows.
     Deep,
+    /// `many`: a node has 1,000 comments before.
+    Many,
 }
 
 /// What of a row breaks a rule.
@@ -42,7 +47,7 @@ pub enum SiteRule {
 pub enum SiteField {
     /// `cell`: the row as a whole.
     Cell,
-    /// `node`: the id of the next node.
+    /// `node`: the id of the next node, or the node of a comment.
     Node,
     /// `term`: the id of the next term.
     Term,
@@ -60,8 +65,10 @@ pub enum SiteField {
     Path,
     /// `number`: the head number.
     Number,
-    /// `parent`: the parent of a term.
+    /// `parent`: the parent of a term or of a comment.
     Parent,
+    /// `comment`: the id of the next comment.
+    Comment,
 }
 
 /// Why rows are no site: the first cell, in cell order, that breaks a rule of sites, the rule, and
@@ -96,6 +103,7 @@ pub enum Numbered {
     Node,
     Term,
     User,
+    Comment,
 }
 
 /// Whether no cell breaks a rule of sites. `Err` only where memory is wanting.
@@ -117,8 +125,17 @@ pub fn first_fault(alloc: Global, state: &State) -> Result<Option<NotASite>, All
 {
     match required_fault(state) {
         Some(fault) => Ok(Some(fault)),
-        None => present_fault(alloc, state),
+        None => later_fault(alloc, state),
     }
+}
+
+/// The first of the cells that are there, and of the next id of a comment, which breaks a rule.
+fn later_fault(alloc: Global, state: &State) -> Result<Option<NotASite>, AllocError>
+    ensures in_order { InOrder state.now.rows }
+    ensures first { IfOk result (λ fault. fault ≡ option_or (first_among state.now.rows (keys_of state.now.rows)) (fault_at Cell.Talk (cell_fault state.now.rows Cell.Talk))) }
+{
+    let fault = present_fault(alloc, state)?;
+    Ok(fault.or(found(Cell::Talk, talk_fault(state))))
 }
 
 /// The first of the cells that are to be there which breaks a rule.
@@ -184,6 +201,8 @@ fn cell_fault<'a>(
         Cell::Node(nid) => node_fault(state, seen, cell, *nid),
         Cell::Listing(name) => listing_fault(state, seen, cell, name),
         Cell::Session(token) => session_fault(state, token),
+        Cell::Comment(cid) => comment_fault(state, seen, cell, *cid),
+        Cell::Talk => talk_fault(state),
         Cell::NodeType(_) | Cell::Menu(_) | Cell::Block(_) | Cell::Head => None,
     }
 }
@@ -302,8 +321,8 @@ fn term_fault<'a>(
         Some(term) => {
             if is_absent_term(state, term.parent) {
                 Some((SiteRule::Absent, SiteField::Parent))
-            } else if state.is_deep(tid) {
-                Some((long_rule(state, tid), SiteField::Parent))
+            } else if state.is_deep(Tree::Terms, tid) {
+                Some((long_rule(state, Tree::Terms, tid), SiteField::Parent))
             } else if is_seen(state, seen, cell, Unique::TermUuid, &term.uuid) {
                 Some((SiteRule::Taken, SiteField::Uuid))
             } else {
@@ -324,11 +343,11 @@ fn is_absent_term(state: &State, term: Option<u32>) -> bool
     }
 }
 
-/// The rule that a chain of parents with more than nine terms breaks. A chain of more than all rows comes back to itself.
-fn long_rule(state: &State, tid: u32) -> SiteRule
-    ensures { result ≡ (if is_longer (parent_in state.now.rows) (suc (length state.now.rows)) tid then SiteRule.Cycle else SiteRule.Deep) }
+/// The rule that a chain of parents with more than nine rows breaks. A chain of more than all rows comes back to itself.
+pub(crate) fn long_rule(state: &State, tree: Tree, id: u32) -> SiteRule
+    ensures { result ≡ (if is_longer (above_in state.now.rows tree) (suc (length state.now.rows)) id then SiteRule.Cycle else SiteRule.Deep) }
 {
-    if state.goes_on(tid) {
+    if state.goes_on(tree, id) {
         SiteRule::Cycle
     } else {
         SiteRule::Deep
@@ -408,7 +427,7 @@ fn session_fault(state: &State, token: &Name) -> Option<(SiteRule, SiteField)>
 }
 
 /// Whether an id of that kind is not below the one that is to be given next.
-fn has_id_from(state: &State, kind: Numbered, next: u32) -> bool
+pub(crate) fn has_id_from(state: &State, kind: Numbered, next: u32) -> bool
     ensures { result ≡ has_id_from state.now.rows kind next }
 {
     'rows: for (cell, _) in state.rows().each() {
@@ -427,12 +446,13 @@ fn is_id_from(kind: Numbered, next: u32, cell: &Cell) -> bool
         (Numbered::Node, Cell::Node(id)) => next <= *id,
         (Numbered::Term, Cell::Term(id)) => next <= *id,
         (Numbered::User, Cell::User(id)) => next <= *id,
+        (Numbered::Comment, Cell::Comment(id)) => next <= *id,
         _ => false,
     }
 }
 
 /// Whether a row that stands before a cell has the text already.
-fn is_seen<'a>(
+pub(crate) fn is_seen<'a>(
     state: &'a State,
     seen: &BTreeSet<Held<'a>>,
     cell: &Cell,
@@ -453,7 +473,8 @@ fn note<'a>(seen: &mut BTreeSet<Held<'a>>, row: &'a Row) -> Result<(), AllocErro
     note_text(seen, Unique::TermUuid, text_of(Unique::TermUuid, row))?;
     note_text(seen, Unique::UserUuid, text_of(Unique::UserUuid, row))?;
     note_text(seen, Unique::UserName, text_of(Unique::UserName, row))?;
-    note_text(seen, Unique::Path, text_of(Unique::Path, row))
+    note_text(seen, Unique::Path, text_of(Unique::Path, row))?;
+    note_text(seen, Unique::CommentUuid, text_of(Unique::CommentUuid, row))
 }
 
 /// Notes a text, if there is one.

@@ -17,7 +17,8 @@ use crate::site_rules::{
 use bucket_map::Steps;
 use cacheability::{Name, Tag};
 use content_rows::{
-    Block, Cell, Listing, Menu, Node, NodeType, Role, Row, Seq, Session, Site, Term, User,
+    Block, Cell, Comment, Listing, Menu, Node, NodeType, Role, Row, Seq, Session, Site, Talk, Term,
+    User,
 };
 use indexed_rows::{IndexedRows, Indexes, Rows, Write};
 use std::alloc::{AllocError, Global};
@@ -60,7 +61,7 @@ impl Model for State {
 }
 
 impl State {
-    ghost use Rattle.indexed_rows.specs.Rows.{site_of, seq_of, type_of, role_of, user_of, term_of, node_of, menu_of, listing_of, block_of, session_of, InOrder, AreValidRows};
+    ghost use Rattle.indexed_rows.specs.Rows.{site_of, seq_of, type_of, role_of, user_of, term_of, node_of, menu_of, listing_of, block_of, session_of, comment_of, talk_of, InOrder, AreValidRows};
     ghost use Rattle.content_state.specs.SiteRules.{MeetsSiteRules, IsNoSite, IsRefusal, IsValidState};
     ghost use Rattle.tag_counts.specs.Counts.{IsInOrder};
     ghost use Rattle.content_state.specs.Forms.{named_by};
@@ -374,6 +375,28 @@ impl State {
     {
         match self.rows().get(Cell::Session(token)) {
             Some(Row::Session(session)) => Some(session),
+            _ => None,
+        }
+    }
+
+    /// A comment, and the tag that covers reading it.
+    pub fn comment(&self, cid: u32) -> (Option<&Comment>, Tag)
+        ensures row { option_copied result.0 ≡ comment_of self.now.rows cid }
+        ensures tag { result.1 ≡ tag.Comment cid }
+    {
+        let comment = match self.rows().get(Cell::Comment(cid)) {
+            Some(Row::Comment(comment)) => Some(comment),
+            _ => None,
+        };
+        (comment, Tag::Comment(cid))
+    }
+
+    /// The next id of a comment to give, if there has been a comment. No page reads it.
+    pub fn talk(&self) -> Option<&Talk>
+        ensures { option_copied result ≡ talk_of self.now.rows }
+    {
+        match self.rows().get(Cell::Talk) {
+            Some(Row::Talk(talk)) => Some(talk),
             _ => None,
         }
     }

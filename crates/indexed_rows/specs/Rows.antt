@@ -1,5 +1,5 @@
 -- The rows of a state: a finite map from cells to rows, in cell order.
-use Rattle.std.specs.Prelude.{ℕ, List, Option, Some, None, All, option_and_then}
+use Rattle.std.specs.Prelude.{ℕ, List, Option, Some, None, All, ◌==◌, option_and_then}
 use Rattle.std.specs.List.{filter_map, filter}
 use Rattle.std.specs.List.Sorted.{IsStrictlySortedBy}
 use Rattle.std.specs.Map.{keys_of, lookup, remove_entry}
@@ -21,6 +21,8 @@ use Rattle.content_rows.specs.declared.row.Menu.{Menu}
 use Rattle.content_rows.specs.declared.row.Listing.{Listing}
 use Rattle.content_rows.specs.declared.row.Block.{Block}
 use Rattle.content_rows.specs.declared.row.Session.{Session}
+use Rattle.content_rows.specs.declared.row.Comment.{Comment}
+use Rattle.content_rows.specs.declared.row.Talk.{Talk}
 use Rattle.content_rows.specs.CellOrder.{cell_cmp}
 use Rattle.content_rows.specs.ValidRow.{IsValidRow}
 
@@ -99,6 +101,14 @@ abbrev pub as_session : Row → Option Session
 as_session (row.Session r) = Some r
 as_session _ = None
 
+abbrev pub as_comment : Row → Option Comment
+as_comment (row.Comment r) = Some r
+as_comment _ = None
+
+abbrev pub as_talk : Row → Option Talk
+as_talk (row.Talk r) = Some r
+as_talk _ = None
+
 -- the row of a name or a number
 abbrev pub site_of : List (Cell × Row) → Option Site
 site_of rows = option_and_then as_site (row_at rows cell.Site)
@@ -133,7 +143,14 @@ block_of rows name = option_and_then as_block (row_at rows (cell.Block name))
 abbrev pub session_of : List (Cell × Row) → List ℕ → Option Session
 session_of rows name = option_and_then as_session (row_at rows (cell.Session name))
 
--- all nodes with their numbers, in their order; those of a type; all terms with their numbers; all blocks with their names
+abbrev pub comment_of : List (Cell × Row) → ℕ → Option Comment
+comment_of rows n = option_and_then as_comment (row_at rows (cell.Comment n))
+
+abbrev pub talk_of : List (Cell × Row) → Option Talk
+talk_of rows = option_and_then as_talk (row_at rows cell.Talk)
+
+-- all nodes with their numbers, in their order; those of a type; all terms with their numbers; all blocks with their names;
+-- all comments with their numbers; those of a node
 abbrev pub node_entry : (Cell × Row) → Option (ℕ × Node)
 node_entry (cell.Node n, row.Node r) = Some (n, r)
 node_entry _ = None
@@ -146,6 +163,10 @@ abbrev pub block_entry : (Cell × Row) → Option (List ℕ × Block)
 block_entry (cell.Block name, row.Block r) = Some (name, r)
 block_entry _ = None
 
+abbrev pub comment_entry : (Cell × Row) → Option (ℕ × Comment)
+comment_entry (cell.Comment n, row.Comment r) = Some (n, r)
+comment_entry _ = None
+
 abbrev pub nodes_of : List (Cell × Row) → List (ℕ × Node)
 nodes_of rows = filter_map node_entry rows
 
@@ -157,3 +178,9 @@ terms_of rows = filter_map term_entry rows
 
 abbrev pub blocks_of : List (Cell × Row) → List (List ℕ × Block)
 blocks_of rows = filter_map block_entry rows
+
+abbrev pub comments_of : List (Cell × Row) → List (ℕ × Comment)
+comments_of rows = filter_map comment_entry rows
+
+abbrev pub comments_on : List (Cell × Row) → ℕ → List (ℕ × Comment)
+comments_on rows n = filter (λ e. e.1.node == n) (comments_of rows)

@@ -33,4 +33,4 @@ text_key what e = key_of what e.0 (text_of what e.1)
 
 -- the keys of all texts of a row
 abbrev pub text_keys : Cell × Row → List TextKey
-text_keys e = text_key unique.NodeUuid e ++ text_key unique.TermUuid e ++ text_key unique.UserUuid e ++ text_key unique.UserName e ++ text_key unique.Path e
+text_keys e = text_key unique.NodeUuid e ++ text_key unique.TermUuid e ++ text_key unique.UserUuid e ++ text_key unique.UserName e ++ text_key unique.Path e ++ text_key unique.CommentUuid e

@@ -34,26 +34,37 @@ unique_exact unique.NodeUuid unique.TermUuid h = cc
 unique_exact unique.NodeUuid unique.UserUuid h = cc
 unique_exact unique.NodeUuid unique.UserName h = cc
 unique_exact unique.NodeUuid unique.Path h = cc
+unique_exact unique.NodeUuid unique.CommentUuid h = cc
 unique_exact unique.TermUuid unique.NodeUuid h = cc
 unique_exact unique.TermUuid unique.TermUuid h = refl
 unique_exact unique.TermUuid unique.UserUuid h = cc
 unique_exact unique.TermUuid unique.UserName h = cc
 unique_exact unique.TermUuid unique.Path h = cc
+unique_exact unique.TermUuid unique.CommentUuid h = cc
 unique_exact unique.UserUuid unique.NodeUuid h = cc
 unique_exact unique.UserUuid unique.TermUuid h = cc
 unique_exact unique.UserUuid unique.UserUuid h = refl
 unique_exact unique.UserUuid unique.UserName h = cc
 unique_exact unique.UserUuid unique.Path h = cc
+unique_exact unique.UserUuid unique.CommentUuid h = cc
 unique_exact unique.UserName unique.NodeUuid h = cc
 unique_exact unique.UserName unique.TermUuid h = cc
 unique_exact unique.UserName unique.UserUuid h = cc
 unique_exact unique.UserName unique.UserName h = refl
 unique_exact unique.UserName unique.Path h = cc
+unique_exact unique.UserName unique.CommentUuid h = cc
 unique_exact unique.Path unique.NodeUuid h = cc
 unique_exact unique.Path unique.TermUuid h = cc
 unique_exact unique.Path unique.UserUuid h = cc
 unique_exact unique.Path unique.UserName h = cc
 unique_exact unique.Path unique.Path h = refl
+unique_exact unique.Path unique.CommentUuid h = cc
+unique_exact unique.CommentUuid unique.NodeUuid h = cc
+unique_exact unique.CommentUuid unique.TermUuid h = cc
+unique_exact unique.CommentUuid unique.UserUuid h = cc
+unique_exact unique.CommentUuid unique.UserName h = cc
+unique_exact unique.CommentUuid unique.Path h = cc
+unique_exact unique.CommentUuid unique.CommentUuid h = refl
 
 level_twice : (r s : Ordering) → ordering_then r s ≡ Equal → (r ≡ Equal) × (s ≡ Equal)
 level_twice Less s h = cc
@@ -91,11 +102,13 @@ all_name : (e : Cell × Row) → AllByRecursion (Names e.0) (text_keys e)
 all_name e =
     let p = Names e.0 in
     let one = λ (what : Unique). one_names what e.0 (text_of what e.1) in
-    both p _ (text_key unique.Path e)
+    both p _ (text_key unique.CommentUuid e)
+    (both p _ (text_key unique.Path e)
     (both p _ (text_key unique.UserName e)
     (both p _ (text_key unique.UserUuid e) (both p (text_key unique.NodeUuid e) (text_key unique.TermUuid e) (one unique.NodeUuid) (one unique.TermUuid)) (one unique.UserUuid))
     (one unique.UserName))
-    (one unique.Path)
+    (one unique.Path))
+    (one unique.CommentUuid)
 
 named : (c : Cell) (ks : List TextKey) (k : TextKey) → AllByRecursion (Names c) ks → list_any (eq_by_cmp key_order.ghosts.cmp k) ks ≡ true → k.cell ≡ c
 named c [] k all h = cc

@@ -14,6 +14,7 @@ text_of unique.UserUuid (row.User r) = Some r.uuid
 text_of unique.UserName (row.User r) = Some r.name
 text_of unique.Path (row.Node r) = r.path
 text_of unique.Path (row.Listing r) = r.path
+text_of unique.CommentUuid (row.Comment r) = Some r.uuid
 text_of _ _ = None
 
 abbrev pub is_text : List ℕ → Option (List ℕ) → Bool

@@ -9,7 +9,7 @@ use crate::rows::Rows;
 use crate::text_mark::TextKey;
 use crate::write::Write;
 use content_rows::{Cell, Row};
-use row_keys::{BlockKey, Key, NodeRank, ParentKey, TermKey, TypeKey};
+use row_keys::{BlockKey, CommentKey, Key, NodeRank, ParentKey, TermKey, TypeKey};
 use shared_set::SharedSet;
 use std::alloc::{AllocError, Global};
 
@@ -23,6 +23,8 @@ pub struct Indexes {
     pub terms: SharedSet<TermKey>,
     /// The terms, by the terms above them.
     pub parents: SharedSet<ParentKey>,
+    /// The comments, by their nodes.
+    pub comments: SharedSet<CommentKey>,
     /// The blocks, by their regions.
     pub blocks: SharedSet<BlockKey>,
     /// The texts that no two rows may have in common.
@@ -36,6 +38,7 @@ impl Drop for Indexes {
             types: _,
             terms: _,
             parents: _,
+            comments: _,
             blocks: _,
             texts: _,
         } = self;
@@ -52,6 +55,7 @@ impl Indexes {
             types: set_of(alloc, rows)?,
             terms: set_of(alloc, rows)?,
             parents: set_of(alloc, rows)?,
+            comments: set_of(alloc, rows)?,
             blocks: set_of(alloc, rows)?,
             texts: set_of(alloc, rows)?,
         })
@@ -66,6 +70,7 @@ impl Indexes {
             types: self.types.share()?,
             terms: self.terms.share()?,
             parents: self.parents.share()?,
+            comments: self.comments.share()?,
             blocks: self.blocks.share()?,
             texts: self.texts.share()?,
         })
@@ -81,6 +86,7 @@ impl Indexes {
         follow(alloc, &mut self.types, rows, write)?;
         follow(alloc, &mut self.terms, rows, write)?;
         follow(alloc, &mut self.parents, rows, write)?;
+        follow(alloc, &mut self.comments, rows, write)?;
         follow(alloc, &mut self.blocks, rows, write)?;
         follow(alloc, &mut self.texts, rows, write)
     }

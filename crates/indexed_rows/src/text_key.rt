@@ -25,7 +25,8 @@ impl Key for TextKey {
         add_text(found, Unique::TermUuid, cell, row)?;
         add_text(found, Unique::UserUuid, cell, row)?;
         add_text(found, Unique::UserName, cell, row)?;
-        add_text(found, Unique::Path, cell, row)
+        add_text(found, Unique::Path, cell, row)?;
+        add_text(found, Unique::CommentUuid, cell, row)
     }
 
     ghost exact = { text_exact };

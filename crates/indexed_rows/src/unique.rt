@@ -18,6 +18,8 @@ pub enum Unique {
     UserName,
     /// The path of a node or of a listing.
     Path,
+    /// The universal id of a comment.
+    CommentUuid,
 }
 
 /// What a row has that no other row may have, if it has that.
@@ -31,6 +33,7 @@ pub fn text_of(what: Unique, row: &Row) -> Option<&Text>
         (Unique::UserName, Row::User(user)) => Some(&user.name),
         (Unique::Path, Row::Node(node)) => node.path.as_ref(),
         (Unique::Path, Row::Listing(listing)) => listing.path.as_ref(),
+        (Unique::CommentUuid, Row::Comment(comment)) => Some(&comment.uuid),
         _ => None,
     }
 }

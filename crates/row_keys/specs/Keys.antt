@@ -10,6 +10,7 @@ use Rattle.row_keys.specs.declared.rank.NodeRank.{NodeRank}
 use Rattle.row_keys.specs.declared.rank.TypeKey.{TypeKey}
 use Rattle.row_keys.specs.declared.rank.TermKey.{TermKey}
 use Rattle.row_keys.specs.declared.rank.ParentKey.{ParentKey}
+use Rattle.row_keys.specs.declared.rank.CommentKey.{CommentKey}
 use Rattle.row_keys.specs.declared.rank.BlockKey.{BlockKey}
 use Rattle.row_keys.specs.Ranks.{rank_of, block_rank}
 
@@ -33,6 +34,11 @@ term_keys _ = []
 abbrev pub parent_keys : Cell × Row → List ParentKey
 parent_keys (cell.Term n, row.Term r) = record { parent = r.parent; id = n } ∷ []
 parent_keys _ = []
+
+-- a comment gives its id, with that of its node
+abbrev pub comment_keys : Cell × Row → List CommentKey
+comment_keys (cell.Comment n, row.Comment r) = record { node = r.node; id = n } ∷ []
+comment_keys _ = []
 
 -- a block gives its region and what places it there
 abbrev pub region_place : Region → ℕ

@@ -13,15 +13,17 @@ use Rattle.row_keys.specs.declared.rank.NodeRank.{NodeRank}
 use Rattle.row_keys.specs.declared.rank.TypeKey.{TypeKey}
 use Rattle.row_keys.specs.declared.rank.TermKey.{TermKey}
 use Rattle.row_keys.specs.declared.rank.ParentKey.{ParentKey}
+use Rattle.row_keys.specs.declared.rank.CommentKey.{CommentKey}
 use Rattle.row_keys.specs.declared.rank.BlockKey.{BlockKey}
 use Rattle.row_keys.specs.contracts.rank.NodeRankOrd.TheImpl as rank_order
 use Rattle.row_keys.specs.contracts.rank.TypeKeyOrd.TheImpl as type_order
 use Rattle.row_keys.specs.contracts.rank.TermKeyOrd.TheImpl as term_order
 use Rattle.row_keys.specs.contracts.rank.ParentKeyOrd.TheImpl as parent_order
+use Rattle.row_keys.specs.contracts.rank.CommentKeyOrd.TheImpl as comment_order
 use Rattle.row_keys.specs.contracts.rank.BlockKeyOrd.TheImpl as block_order
 use Rattle.row_keys.specs.Ranks.{rank_of, block_rank}
-use Rattle.row_keys.specs.Keys.{node_keys, type_keys, term_keys, term_keys_of, parent_keys, block_keys, region_place}
-use Rattle.row_keys.specs.Exact.{rank_exact, type_exact, term_exact, parent_exact, block_exact}
+use Rattle.row_keys.specs.Keys.{node_keys, type_keys, term_keys, term_keys_of, parent_keys, comment_keys, block_keys, region_place}
+use Rattle.row_keys.specs.Exact.{rank_exact, type_exact, term_exact, parent_exact, comment_exact, block_exact}
 use Rattle.index_law.specs.Index.{TellsApart, NameOwners}
 
 -- the only key of a list is the one that is found in it
@@ -64,6 +66,10 @@ parent_named : (e : Cell × Row) (k : ParentKey) → list_any (eq_by_cmp parent_
 parent_named (cell.Term n, row.Term r) k h = ap (λ (q : ParentKey). cell.Term q.id) (only parent_exact k (record { parent = r.parent; id = n }) h)
 parent_named _ k h = cc
 
+comment_named : (e : Cell × Row) (k : CommentKey) → list_any (eq_by_cmp comment_order.ghosts.cmp k) (comment_keys e) ≡ true → cell.Comment k.id ≡ e.0
+comment_named (cell.Comment n, row.Comment r) k h = ap (λ (q : CommentKey). cell.Comment q.id) (only comment_exact k (record { node = r.node; id = n }) h)
+comment_named _ k h = cc
+
 block_named : (e : Cell × Row) (k : BlockKey) → list_any (eq_by_cmp block_order.ghosts.cmp k) (block_keys e) ≡ true → cell.Block k.rank.name ≡ e.0
 block_named (cell.Block name, row.Block r) k h = ap (λ (q : BlockKey). cell.Block q.rank.name) (only block_exact k (record { region = region_place r.region; rank = block_rank (name, r) }) h)
 block_named _ k h = cc
@@ -79,6 +85,9 @@ terms_named c x k h = term_named (c, x) k h
 
 pub parents_named : NameOwners parent_order.ghosts.cmp parent_keys (λ k. cell.Term k.id)
 parents_named c x k h = parent_named (c, x) k h
+
+pub comments_named : NameOwners comment_order.ghosts.cmp comment_keys (λ k. cell.Comment k.id)
+comments_named c x k h = comment_named (c, x) k h
 
 pub blocks_named : NameOwners block_order.ghosts.cmp block_keys (λ k. cell.Block k.rank.name)
 blocks_named c x k h = block_named (c, x) k h

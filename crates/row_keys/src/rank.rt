@@ -49,6 +49,15 @@ pub struct ParentKey {
     pub id: u32,
 }
 
+/// A comment on its node.
+#[derive(Clone, Copy, Debug, PartialEq, Eq, PartialOrd, Ord)]
+pub struct CommentKey {
+    /// The id of its node.
+    pub node: u32,
+    /// Its own id.
+    pub id: u32,
+}
+
 /// A block in its region.
 #[derive(Clone, Copy, Debug, PartialEq, Eq, PartialOrd, Ord)]
 pub struct BlockKey {

@@ -11,7 +11,7 @@ use Rattle.content_rows.proofs.StarterLemmas.{in_cell_order, starter_valid}
 use Rattle.content_state.specs.State.{State}
 use Rattle.indexed_rows.specs.Rows.{InOrder}
 use Rattle.content_state.specs.SiteRules.{MeetsSiteRules, IsValidState}
-use Rattle.content_state.proofs.Faults.{found_present}
+use Rattle.content_state.proofs.Faults.{found_later}
 use Rattle.site_alone.specs.Sites.{rows_of, starter_site}
 
 -- the rows stand in the order of their cells, so setting them in turn gives them as they are
@@ -21,7 +21,7 @@ in_turn = refl
 
 meets : MeetsSiteRules starter_rows
 unfolding starter_rows anonymous authenticated
-meets = found_present starter_rows None in_cell_order refl refl
+meets = found_later starter_rows None in_cell_order refl refl
 
 none_in_order : {K : Type 0} (cmp : K → K → Ordering) → IsStrictlySortedBy cmp []
 unfolding IsStrictlySortedBy
