@@ -1,6 +1,6 @@
 -- What is accepted passed each cause of a refusal; so what is accepted keeps a state valid, where its writes fit.
 use Rattle.std.proofs.Common.{◌≡◌, ℕ, List, [], ◌∷◌, refl, subst}
-use Rattle.std.specs.Prelude.{Option, Some, None, map}
+use Rattle.std.specs.Prelude.{Option, Some, None, map, All}
 use Rattle.std.specs.List.{IsDistinct}
 use Rattle.std.specs.Ordering.{eq_by_cmp}
 use Rattle.content_rows.specs.CellOrder.{cell_cmp}
@@ -10,8 +10,8 @@ use Rattle.content_state.specs.SiteRules.{IsValidState}
 use Rattle.content_state.specs.declared.commit.Commit.{Commit}
 use Rattle.json_keys.specs.declared.checked.Checked.{Checked}
 use Rattle.json_keys.specs.declared.checked.Checked.TheVariants as checked
-use Rattle.valid_edits.specs.Fits.{AllFit}
-use Rattle.valid_edits.proofs.Kept.{kept_valid}
+use Rattle.valid_edits.specs.Fits.{AllFit, MayGoTogether}
+use Rattle.valid_edits.proofs.Kept.{kept_valid, removals_kept}
 use Rattle.site_commands.specs.Causes.{Decision, Accepted, Refused, decided, of_body, of_target, commit_of, count_full, accepted}
 use Rattle.site_commands.specs.Right.{OfBody, Keeps}
 use Rattle.site_commands.specs.declared.answer.Done.{Done}
@@ -68,3 +68,12 @@ module _ (state : State) (pass : ℕ) where
 
     pub writing : (writes : List Write) (done : Done) → IsDistinct (eq_by_cmp cell_cmp) (map (λ w. w.cell) writes) → AllFit state.rows writes → OnlyKeeps state pass (accepted state (commit_of pass writes) done)
     writing writes done distinct fit = accepting (commit_of pass writes) done (fitting_kept (commit_of pass writes) refl distinct fit)
+
+    -- an edit to distinct cells that removes rows keeps it, where they may go together
+    pub removing : (writes : List Write) (done : Done) → IsDistinct (eq_by_cmp cell_cmp) (map (λ w. w.cell) writes) → All (λ w. w.row ≡ None) writes → MayGoTogether state.rows (map (λ w. w.cell) writes)
+        → OnlyKeeps state pass (accepted state (commit_of pass writes) done)
+    removing writes done distinct removes may = accepting (commit_of pass writes) done (record {
+      pass_is = refl;
+      distinct = record { distinct = distinct };
+      valid = removals_kept state (commit_of pass writes) valid removes may;
+    })

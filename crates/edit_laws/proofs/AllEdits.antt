@@ -11,6 +11,7 @@ use Rattle.site_commands.specs.declared.command.Command.TheVariants as command
 use Rattle.edit_laws.proofs.Accepting.{OnlyKeeps}
 use Rattle.edit_laws.proofs.NodeEdits.{create_node_keeps, change_node_keeps, remove_node_keeps}
 use Rattle.edit_laws.proofs.TermEdits.{create_term_keeps, change_term_keeps, remove_term_keeps}
+use Rattle.edit_laws.proofs.CommentEdits.{create_comment_keeps, change_comment_keeps, remove_comment_keeps}
 use Rattle.edit_laws.proofs.UserEdits.{create_user_keeps, change_user_keeps}
 use Rattle.edit_laws.proofs.ConfigEdits.{set_config_keeps, set_site_keeps, remove_config_keeps}
 use Rattle.edit_laws.proofs.SessionEdits.{log_in_keeps, log_out_keeps, rebuild_keeps}
@@ -32,6 +33,9 @@ verdict_keeps state viewer (command.SetSite body) now pass valid is_viewer right
 verdict_keeps state viewer (command.Login asked) now pass valid is_viewer right moment = log_in_keeps state valid pass now asked
 verdict_keeps state viewer command.Logout now pass valid is_viewer right moment = log_out_keeps state valid pass viewer
 verdict_keeps state viewer command.Rebuild now pass valid is_viewer right moment = rebuild_keeps state valid pass viewer
+verdict_keeps state viewer (command.CreateComment asked) now pass valid is_viewer right moment = create_comment_keeps state valid viewer pass now moment is_viewer asked right
+verdict_keeps state viewer (command.ChangeComment asked) now pass valid is_viewer right moment = change_comment_keeps state valid viewer pass asked right
+verdict_keeps state viewer (command.RemoveComment asked) now pass valid is_viewer right moment = remove_comment_keeps state valid viewer pass asked
 
 pub verdicts_keep : VerdictsKeepValid
 verdicts_keep state viewer asked now pass commit done valid is_viewer right moment accepts =

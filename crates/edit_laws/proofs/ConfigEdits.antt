@@ -12,8 +12,9 @@ use Rattle.content_state.specs.SiteRules.{IsValidState}
 use Rattle.content_state.specs.declared.ask.Viewer.{Viewer}
 use Rattle.json_keys.specs.declared.checked.Checked.{Checked}
 use Rattle.valid_edits.specs.Holders.{path_holder, is_used}
-use Rattle.valid_edits.specs.Fits.{is_locked_role, Fits, MayGo}
+use Rattle.valid_edits.specs.Fits.{is_locked_role, Fits, MayGoTogether}
 use Rattle.valid_edits.proofs.Rows.{no_map}
+use Rattle.valid_edits.proofs.Going.{role_may_go, type_may_go, block_may_go, menu_may_go, listing_may_go}
 use Rattle.site_commands.specs.Causes.{needs, of_body, of_target, set, removed, commit_of, accepted}
 use Rattle.site_commands.specs.Config.{administer_site, permission_for, cell_for, row_refusals, set_right, set_row, set_config, set_site, remove_refusals, remove_there, remove_config}
 use Rattle.site_commands.specs.Right.{OfBody, IsConfigRow}
@@ -58,12 +59,12 @@ module _ (state : State) (valid : IsValidState state) (viewer : Viewer) (pass : 
 
   -- ---- a row that goes
 
-  may_go : (k : ConfigKind) (name : List ℕ) → AllNone (remove_refusals state.rows k name) → MayGo state.rows (cell_for k name)
-  may_go kind.Role name none = untrue (is_locked_role name) _ none.0
-  may_go kind.NodeType name none = untrue (is_used state.rows name) _ none.0
-  may_go kind.Block name none = tt
-  may_go kind.Menu name none = tt
-  may_go kind.Listing name none = tt
+  may_go : (k : ConfigKind) (name : List ℕ) → AllNone (remove_refusals state.rows k name) → MayGoTogether state.rows (cell_for k name ∷ [])
+  may_go kind.Role name none = role_may_go state valid name (untrue (is_locked_role name) _ none.0)
+  may_go kind.NodeType name none = type_may_go state valid name (untrue (is_used state.rows name) _ none.0)
+  may_go kind.Block name none = block_may_go state valid name
+  may_go kind.Menu name none = menu_may_go state valid name
+  may_go kind.Listing name none = listing_may_go state valid name
 
   pub remove_config_keeps : (k : ConfigKind) (name : Option (List ℕ)) → OnlyKeeps state pass (remove_config state viewer k name pass)
   remove_config_keeps k name =

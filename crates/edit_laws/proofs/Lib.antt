@@ -3,8 +3,10 @@ pub mod Parts
 pub mod Digests
 pub mod FieldValues
 pub mod RightRows
+pub mod Removals
 pub mod NodeEdits
 pub mod TermEdits
+pub mod CommentEdits
 pub mod UserEdits
 pub mod ConfigEdits
 pub mod SessionEdits

@@ -1,6 +1,10 @@
 -- Edits of nodes keep a state valid.
-use Rattle.std.proofs.Common.{◌≡◌, ◌+◌, ℕ, List, [], ◌∷◌, refl, ap, arith}
-use Rattle.std.specs.Prelude.{Option, Some, is_none}
+use Rattle.std.proofs.Common.{◌≡◌, ◌+◌, ℕ, List, [], ◌∷◌, refl, sym, ap, subst, arith}
+use Rattle.std.specs.Prelude.{Option, Some, None, is_none, map}
+use Rattle.std.specs.List.{IsDistinct}
+use Rattle.std.specs.Ordering.{eq_by_cmp}
+use Rattle.std.proofs.lemmas.List.Elements.{All-cons}
+use Rattle.content_rows.specs.CellOrder.{cell_cmp}
 use Rattle.content_rows.specs.Kinds.{IsMoment}
 use Rattle.content_rows.specs.declared.cell.Cell.TheVariants as cell
 use Rattle.content_rows.specs.declared.row.Row.TheVariants as row
@@ -8,20 +12,21 @@ use Rattle.content_rows.specs.declared.row.Seq.{Seq}
 use Rattle.content_rows.specs.declared.row.Node.{Node}
 use Rattle.content_rows.specs.declared.row.NodeType.{NodeType}
 use Rattle.content_state.specs.State.{State}
-use Rattle.indexed_rows.specs.Rows.{row_at, seq_of, type_of, node_of}
+use Rattle.indexed_rows.specs.Rows.{row_at, seq_of, type_of, node_of, comments_on}
 use Rattle.content_state.specs.SiteRules.{IsValidState}
 use Rattle.content_state.specs.declared.ask.Viewer.{Viewer}
 use Rattle.indexed_rows.specs.declared.unique.Unique.TheVariants as unique
 use Rattle.cacheability.specs.declared.op.Op.TheVariants as op
 use Rattle.site_access.specs.Access.{access_to_node}
 use Rattle.valid_edits.specs.Holders.{holder, path_holder}
-use Rattle.valid_edits.specs.Fits.{AllFit}
+use Rattle.valid_edits.specs.Fits.{AllFit, MayGoTogether}
 use Rattle.valid_edits.proofs.Rows.{no_map}
 use Rattle.valid_edits.proofs.Together.{is_node}
 use Rattle.valid_edits.proofs.Valid.{right_at, owner_present, changed_node_fits}
 use Rattle.valid_edits.proofs.Raised.{new_node_fits}
+use Rattle.valid_edits.proofs.Going.{node_may_go}
 use Rattle.site_commands.specs.Causes.{Decision, unless_allowed, of_body, of_target, set, removed, commit_of, accepted}
-use Rattle.site_commands.specs.Nodes.{id_in, new_node, create_denials, create_refusals, create_writes, create_right, create_of_type, create_named, create_node, patched_node, change_denials, change_refusals, change_right, change_there, change_node, remove_there, remove_node}
+use Rattle.site_commands.specs.Nodes.{id_in, new_node, create_denials, create_refusals, create_writes, create_right, create_of_type, create_named, create_node, patched_node, change_denials, change_refusals, change_right, change_there, change_node, remove_writes, remove_there, remove_node}
 use Rattle.site_commands.specs.Right.{IsRightNewNode, IsRightNodePatch, OfBody, IsViewerOf}
 use Rattle.site_commands.specs.declared.answer.Done.TheVariants as done
 use Rattle.site_commands.specs.declared.answer.Refusal.TheVariants as refusal
@@ -29,8 +34,9 @@ use Rattle.site_commands.specs.declared.body.NewNode.{NewNode}
 use Rattle.site_commands.specs.declared.body.NodePatch.{NodePatch}
 use Rattle.site_commands.specs.declared.command.NodeCreation.{NodeCreation}
 use Rattle.site_commands.specs.declared.command.NodeChange.{NodeChange}
-use Rattle.edit_laws.proofs.Accepting.{AllNone, OnlyKeeps, after_causes, after_body, after_target, writing}
+use Rattle.edit_laws.proofs.Accepting.{AllNone, OnlyKeeps, after_causes, after_body, after_target, writing, removing}
 use Rattle.edit_laws.proofs.Parts.{next_is_id, seq_right, seq_written, user_in_range, user_present, one_cell, two_cells}
+use Rattle.edit_laws.proofs.Removals.{removals, cells_of, removed_cells, all_removed, distinct_with_node}
 use Rattle.edit_laws.proofs.RightRows.{right_new_node, right_patched_node}
 
 module _ (state : State) (valid : IsValidState state) (viewer : Viewer) (pass : ℕ) where
@@ -100,12 +106,16 @@ module _ (state : State) (valid : IsValidState state) (viewer : Viewer) (pass : 
         after_causes state pass (change_denials state.rows viewer nid node asked.keys) (of_body asked.body (change_right state nid node now pass)) (λ allowed.
         after_body state pass IsRightNodePatch asked.body (change_right state nid node now pass) right (changed nid node is))))
 
-  -- ---- a node that goes
+  -- ---- a node that goes, with its comments
 
   pub remove_node_keeps : (asked : Option ℕ) → OnlyKeeps state pass (remove_node state viewer asked pass)
   remove_node_keeps asked =
       after_target state pass asked (λ nid. of_target (node_of state.rows nid) (λ node. remove_there state viewer pass nid)) (λ nid named.
       after_target state pass (node_of state.rows nid) (λ node. remove_there state viewer pass nid) (λ node is.
-      let writes = removed (cell.Node nid) ∷ [] in
-      after_causes state pass (unless_allowed (access_to_node state.rows viewer op.Delete nid) ∷ []) (accepted state (commit_of pass writes) done.Saved) (λ allowed.
-      writing state pass valid writes done.Saved (one_cell (cell.Node nid)) (tt, tt))))
+      let going = comments_on state.rows nid in
+      let cells : map (λ w. w.cell) (removed (cell.Node nid) ∷ removals going) ≡ cell.Node nid ∷ cells_of going = ap (λ l. cell.Node nid ∷ l) (removed_cells going) in
+      after_causes state pass (unless_allowed (access_to_node state.rows viewer op.Delete nid) ∷ []) (accepted state (commit_of pass (remove_writes state.rows nid)) done.Saved) (λ allowed.
+      removing state pass valid (remove_writes state.rows nid) done.Saved
+      (subst (λ cs. IsDistinct (eq_by_cmp cell_cmp) cs) (sym cells) (distinct_with_node state.rows valid.in_order nid))
+      (All-cons (λ w. w.row ≡ None) (removed (cell.Node nid)) (removals going) refl (all_removed going))
+      (subst (MayGoTogether state.rows) (sym cells) (node_may_go state valid nid)))))

@@ -1,27 +1,31 @@
 -- The rows that right commands make, and those that they change, are right by themselves.
 use Rattle.std.proofs.Common.{◌≤◌, ◌+◌, ◌||◌, ℕ, List, [], refl, arith}
-use Rattle.std.specs.Prelude.{Option, Some, None, length, All, IsTrue}
+use Rattle.std.specs.Prelude.{Bool, Option, Some, None, length, All, IsTrue}
 use Rattle.std.specs.Option.{ForSome}
 use Rattle.std.specs.Str.{bytes_eq}
 use Rattle.std.proofs.Math.Nat.{min-le_right}
 use Rattle.std.proofs.lemmas.Bool.{or_left}
-use Rattle.content_rows.specs.Kinds.{IsMoment, IsId, is_line, is_text, is_hex, is_path, none_or}
-use Rattle.content_rows.specs.ValidRow.{IsValidUser, IsValidTerm, IsValidNode, IsValidSession}
+use Rattle.content_rows.specs.Kinds.{IsMoment, IsId, is_line, is_text, is_comment_body, is_hex, is_path, none_or}
+use Rattle.content_rows.specs.ValidRow.{IsValidUser, IsValidTerm, IsValidNode, IsValidSession, IsValidComment}
 use Rattle.content_rows.specs.declared.row.User.{User}
 use Rattle.content_rows.specs.declared.row.Term.{Term}
 use Rattle.content_rows.specs.declared.row.Node.{Node}
+use Rattle.content_rows.specs.declared.row.Comment.{Comment}
 use Rattle.content_state.specs.declared.ask.Viewer.{Viewer}
 use Rattle.site_commands.specs.Nodes.{new_node, patched_node}
 use Rattle.site_commands.specs.Terms.{new_term, patched_term}
+use Rattle.site_commands.specs.Comments.{new_comment, patched_comment}
 use Rattle.site_commands.specs.Users.{digest_of, salt_of, new_user, patched_user}
 use Rattle.site_commands.specs.Sessions.{session_end}
-use Rattle.site_commands.specs.Right.{IsRightNewNode, IsRightNodePatch, IsRightNewTerm, IsRightTermPatch, IsRightNewUser, IsRightUserPatch, IsSalt}
+use Rattle.site_commands.specs.Right.{IsRightNewNode, IsRightNodePatch, IsRightNewTerm, IsRightTermPatch, IsRightNewUser, IsRightUserPatch, IsRightNewComment, IsRightCommentPatch, IsSalt}
 use Rattle.site_commands.specs.declared.body.NewNode.{NewNode}
 use Rattle.site_commands.specs.declared.body.NodePatch.{NodePatch}
 use Rattle.site_commands.specs.declared.body.NewTerm.{NewTerm}
 use Rattle.site_commands.specs.declared.body.TermPatch.{TermPatch}
 use Rattle.site_commands.specs.declared.body.NewUser.{NewUser}
 use Rattle.site_commands.specs.declared.body.UserPatch.{UserPatch}
+use Rattle.site_commands.specs.declared.body.NewComment.{NewComment}
+use Rattle.site_commands.specs.declared.body.CommentPatch.{CommentPatch}
 use Rattle.edit_laws.proofs.Parts.{sent_or_kept}
 use Rattle.edit_laws.proofs.Digests.{digest_is_hex}
 use Rattle.edit_laws.proofs.FieldValues.{changed_by_name, changed_are_texts}
@@ -74,6 +78,28 @@ right_patched_term term patch old right = record {
   description = sent_or_kept (λ description. IsTrue (is_text description)) patch.description term.description right.description old.description;
   name = sent_or_kept (λ name. IsTrue (is_line 255 name)) patch.name term.name right.name old.name;
   parent = sent_or_kept (λ parent. ForSome parent IsId) patch.parent term.parent right.parent old.parent;
+  uuid = old.uuid;
+}
+
+-- ---- comments
+
+pub right_new_comment : (new : NewComment) (n uid : ℕ) (approved : Bool) (now : ℕ) → IsRightNewComment new → IsMoment now → IsId n → uid ≤ 4294967294 → IsValidComment (new_comment new n uid approved now)
+right_new_comment new n uid approved now right moment node in_range = record {
+  body = right.body;
+  created = moment;
+  node = node;
+  parent = right.parent;
+  uid = in_range;
+  uuid = right.uuid;
+}
+
+pub right_patched_comment : (comment : Comment) (patch : CommentPatch) → IsValidComment comment → IsRightCommentPatch patch → IsValidComment (patched_comment comment patch)
+right_patched_comment comment patch old right = record {
+  body = sent_or_kept (λ body. IsTrue (is_comment_body body)) patch.body comment.body right.body old.body;
+  created = old.created;
+  node = old.node;
+  parent = old.parent;
+  uid = old.uid;
   uuid = old.uuid;
 }
 

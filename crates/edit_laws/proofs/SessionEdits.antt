@@ -15,6 +15,7 @@ use Rattle.content_state.specs.SiteRules.{IsValidState}
 use Rattle.content_state.specs.declared.ask.Viewer.{Viewer}
 use Rattle.state_commits.proofs.Owners.{is_found}
 use Rattle.valid_edits.proofs.Valid.{right_at}
+use Rattle.valid_edits.proofs.Going.{session_may_go}
 use Rattle.access_result.specs.declared.reason.Reason.TheVariants as reason
 use Rattle.site_commands.specs.Causes.{where_true, needs, set, removed, commit_of, accepted}
 use Rattle.site_commands.specs.Config.{administer_site}
@@ -81,7 +82,7 @@ module _ (state : State) (valid : IsValidState state) (pass : ℕ) where
 
   ended : (session : Option (List ℕ)) → OnlyKeeps state pass (end_session state pass session)
   ended None = refused state pass (refusal.Denied reason.NoSession)
-  ended (Some token) = writing state pass valid (removed (cell.Session token) ∷ []) done.LoggedOut (one_cell (cell.Session token)) (tt, tt)
+  ended (Some token) = writing state pass valid (removed (cell.Session token) ∷ []) done.LoggedOut (one_cell (cell.Session token)) (session_may_go state valid token, tt)
 
   pub log_out_keeps : (viewer : Viewer) → OnlyKeeps state pass (log_out state viewer pass)
   log_out_keeps viewer = ended viewer.session

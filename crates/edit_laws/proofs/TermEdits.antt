@@ -19,6 +19,7 @@ use Rattle.valid_edits.proofs.Parents.{none_deep}
 use Rattle.valid_edits.proofs.Together.{is_term}
 use Rattle.valid_edits.proofs.Valid.{right_at, next_term_free, changed_term_fits, kept_term_fits, made_shallow}
 use Rattle.valid_edits.proofs.Raised.{new_term_fits}
+use Rattle.valid_edits.proofs.Going.{term_may_go}
 use Rattle.site_commands.specs.Causes.{Decision, needs, of_body, of_target, set, removed, commit_of, accepted}
 use Rattle.site_commands.specs.Nodes.{id_in}
 use Rattle.site_commands.specs.Terms.{administer_taxonomy, is_deep, new_term, create_refusals, create_writes, create_right, create_term, patched_term, sent_parent_refusals, change_refusals, change_right, change_there, change_term, remove_refusals, remove_there, remove_term}
@@ -106,4 +107,4 @@ module _ (state : State) (valid : IsValidState state) (viewer : Viewer) (pass : 
       after_target state pass (term_of state.rows tid) (λ term. remove_there state viewer pass tid) (λ term is.
       let writes = removed (cell.Term tid) ∷ [] in
       after_causes state pass (needs state.rows viewer administer_taxonomy ∷ remove_refusals state.rows tid) (accepted state (commit_of pass writes) done.Saved) (λ none.
-      writing state pass valid writes done.Saved (one_cell (cell.Term tid)) (untrue (is_parent state.rows tid) _ none.1.0, tt))))
+      writing state pass valid writes done.Saved (one_cell (cell.Term tid)) (term_may_go state valid tid (untrue (is_parent state.rows tid) _ none.1.0), tt))))

@@ -11,7 +11,7 @@ use Rattle.content_rows.specs.declared.row.Row.TheVariants as row
 use Rattle.content_rows.specs.declared.row.User.{User}
 use Rattle.content_state.specs.State.{State}
 use Rattle.content_state.specs.Viewer.{viewer_of}
-use Rattle.indexed_rows.specs.Rows.{seq_of, type_of, user_of, term_of, node_of, session_of, row_at}
+use Rattle.indexed_rows.specs.Rows.{seq_of, type_of, user_of, term_of, node_of, session_of, comment_of, talk_of, row_at}
 use Rattle.content_state.specs.declared.ask.Ask.{Ask}
 use Rattle.content_state.specs.declared.ask.Viewer.{Viewer}
 use Rattle.content_state.specs.declared.commit.Commit.{Commit}
@@ -19,6 +19,7 @@ use Rattle.state_commits.specs.Apply.{full_tag}
 use Rattle.json_keys.specs.declared.checked.Checked.{Checked}
 use Rattle.json_keys.specs.declared.checked.Checked.TheVariants as checked
 use Rattle.site_access.specs.Access.{access_to_node}
+use Rattle.site_access.specs.Comments.{access_to_comment}
 use Rattle.site_commands.specs.Causes.{Decision, Accepted, Refused, unless, decided, where_true, unless_allowed, needs, of_body, of_target, set, removed, commit_of, accepted}
 use Rattle.site_commands.specs.Judged.{log_limit, in_log, unguarded}
 use Rattle.site_commands.specs.Verdict.{verdict}
@@ -27,6 +28,7 @@ use Rattle.site_commands.specs.Terms as terms
 use Rattle.site_commands.specs.Users as users
 use Rattle.site_commands.specs.Config as config
 use Rattle.site_commands.specs.Sessions as sessions
+use Rattle.site_commands.specs.Comments as comments
 use Rattle.site_commands.specs.declared.answer.Done.{Done}
 use Rattle.site_commands.specs.declared.answer.Done.TheVariants as done
 use Rattle.site_commands.specs.declared.answer.Refusal.{Refusal}
@@ -37,6 +39,8 @@ use Rattle.site_commands.specs.declared.body.NewUser.{NewUser}
 use Rattle.site_commands.specs.declared.command.NodeCreation.{NodeCreation}
 use Rattle.site_commands.specs.declared.command.NodeChange.{NodeChange}
 use Rattle.site_commands.specs.declared.command.TermChange.{TermChange}
+use Rattle.site_commands.specs.declared.command.CommentCreation.{CommentCreation}
+use Rattle.site_commands.specs.declared.command.CommentChange.{CommentChange}
 use Rattle.site_commands.specs.declared.command.UserCreation.{UserCreation}
 use Rattle.site_commands.specs.declared.command.UserChange.{UserChange}
 use Rattle.site_commands.specs.declared.command.ConfigKind.{ConfigKind}
@@ -103,7 +107,7 @@ module _ (state : State) where
   remove_node_raises viewer asked pass =
       after_target asked (λ nid. of_target (node_of state.rows nid) (λ node. nodes.remove_there state viewer pass nid)) (λ nid.
       after_target (node_of state.rows nid) (λ node. nodes.remove_there state viewer pass nid) (λ node.
-      after_no_cause (unless_allowed (access_to_node state.rows viewer op.Delete nid) ∷ []) (commit_of pass (removed (cell.Node nid) ∷ [])) done.Saved))
+      after_no_cause (unless_allowed (access_to_node state.rows viewer op.Delete nid) ∷ []) (commit_of pass (nodes.remove_writes state.rows nid)) done.Saved))
 
   -- ---- terms
 
@@ -128,6 +132,32 @@ module _ (state : State) where
       after_target asked (λ tid. of_target (term_of state.rows tid) (λ term. terms.remove_there state viewer pass tid)) (λ tid.
       after_target (term_of state.rows tid) (λ term. terms.remove_there state viewer pass tid) (λ term.
       after_no_cause (needs state.rows viewer terms.administer_taxonomy ∷ terms.remove_refusals state.rows tid) (commit_of pass (removed (cell.Term tid) ∷ [])) done.Saved))
+
+  -- ---- comments
+
+  create_comment_raises : (viewer : Viewer) (asked : CommentCreation) (now pass : ℕ) → RaisesAll (comments.create_comment state viewer asked now pass)
+  create_comment_raises viewer asked now pass =
+      after_target asked.nid (λ n. of_target (node_of state.rows n) (λ node. comments.create_there state viewer asked.body now pass n)) (λ n.
+      after_target (node_of state.rows n) (λ node. comments.create_there state viewer asked.body now pass n) (λ node.
+      after_causes (comments.create_denials state.rows viewer n) (of_body asked.body (comments.create_right state viewer now pass n)) (
+      after_body asked.body (comments.create_right state viewer now pass n) (λ new.
+      let next = comments.next_comment (talk_of state.rows) in
+      let comment = comments.new_comment new n viewer.uid (comments.is_approved state.rows viewer) now in
+      after_no_cause (comments.create_refusals state.rows n comment next) (commit_of pass (comments.create_writes comment next)) (done.CommentCreated next)))))
+
+  change_comment_raises : (viewer : Viewer) (asked : CommentChange) (pass : ℕ) → RaisesAll (comments.change_comment state viewer asked pass)
+  change_comment_raises viewer asked pass =
+      after_target asked.cid (λ cid. of_target (comment_of state.rows cid) (comments.change_there state viewer asked.status asked.body pass cid)) (λ cid.
+      after_target (comment_of state.rows cid) (comments.change_there state viewer asked.status asked.body pass cid) (λ comment.
+      after_causes (comments.change_denials state.rows viewer cid asked.status) (of_body asked.body (comments.change_right state pass cid comment)) (
+      after_body asked.body (comments.change_right state pass cid comment) (λ patch.
+      raising (commit_of pass (set (cell.Comment cid) (row.Comment (comments.patched_comment comment patch)) ∷ [])) done.Saved))))
+
+  remove_comment_raises : (viewer : Viewer) (asked : Option ℕ) (pass : ℕ) → RaisesAll (comments.remove_comment state viewer asked pass)
+  remove_comment_raises viewer asked pass =
+      after_target asked (λ cid. of_target (comment_of state.rows cid) (comments.remove_there state viewer pass cid)) (λ cid.
+      after_target (comment_of state.rows cid) (comments.remove_there state viewer pass cid) (λ comment.
+      after_no_cause (unless_allowed (access_to_comment state.rows viewer op.Delete cid) ∷ []) (commit_of pass (comments.remove_writes state.rows cid comment)) done.Saved))
 
   -- ---- users
 
@@ -200,6 +230,9 @@ module _ (state : State) where
   verdict_raises viewer (command.Login asked) now pass = log_in_raises asked.token now pass (sessions.user_with state.rows asked.name asked.pass)
   verdict_raises viewer command.Logout now pass = log_out_raises pass viewer.session
   verdict_raises viewer command.Rebuild now pass = rebuild_raises viewer pass
+  verdict_raises viewer (command.CreateComment asked) now pass = create_comment_raises viewer asked now pass
+  verdict_raises viewer (command.ChangeComment asked) now pass = change_comment_raises viewer asked pass
+  verdict_raises viewer (command.RemoveComment asked) now pass = remove_comment_raises viewer asked pass
 
 pub none_full : (state : State) (viewer : Viewer) (asked : Command) (now pass : ℕ) (commit : Commit) (done : Done) → verdict state viewer asked now pass ≡ Accepted commit done → full_tag state commit ≡ None
 unfolding RaisesAll

@@ -1,9 +1,10 @@
 -- A read is the same on two states of one log where no tag that covers it was invalidated in between.
-use Rattle.std.proofs.Common.{ℕ, List, [], ◌∷◌, ◌++◌, ◌≡◌, ◌⊎◌, refl, sym, ◌∙◌, ap, subst, arith, inl, inr, Bool, true, false, cond, Option, Some, None, Contains, is_some}
+use Rattle.std.proofs.Common.{ℕ, List, [], ◌∷◌, ◌++◌, ◌≡◌, ◌⊎◌, refl, sym, ◌∙◌, ap, subst, arith, inl, inr, Bool, true, false, cond, ◌==◌, Option, Some, None, Contains, is_some}
 use Rattle.std.specs.Prelude.{if◌then◌else◌, option_and_then}
 use Rattle.std.specs.List.{cons_option, filter, filter_map}
 use Rattle.std.specs.Str.{bytes_eq}
 use Rattle.std.proofs.lemmas.List.Elements.{Contains-append_left, Contains-append_right}
+use Rattle.std.proofs.lemmas.Bool.Decides.{eqb_tells}
 use Rattle.std.proofs.lemmas.Slice.Eq.{bytes_eq-Decides}
 use Rattle.cacheability.specs.declared.tag.Tag.{Tag}
 use Rattle.cacheability.specs.declared.tag.Tag.TheVariants as tag
@@ -13,13 +14,14 @@ use Rattle.content_rows.specs.declared.cell.Cell.TheVariants as cell
 use Rattle.content_rows.specs.declared.row.Row.{Row}
 use Rattle.content_rows.specs.declared.row.Row.TheVariants as row
 use Rattle.content_rows.specs.declared.row.Node.{Node}
+use Rattle.content_rows.specs.declared.row.Comment.{Comment}
 use Rattle.content_state.specs.declared.route.Route.{Route}
 use Rattle.content_state.specs.declared.route.Route.TheVariants as route
 use Rattle.content_state.specs.State.{State}
-use Rattle.indexed_rows.specs.Rows.{InOrder, row_at, as_site, as_type, as_role, as_user, as_term, as_node, as_menu, as_listing, as_block, node_entry, term_entry, block_entry, node_of, term_of, user_of}
+use Rattle.indexed_rows.specs.Rows.{InOrder, row_at, as_site, as_type, as_role, as_user, as_term, as_node, as_menu, as_listing, as_block, as_comment, node_entry, term_entry, block_entry, comment_entry, node_of, term_of, user_of}
 use Rattle.content_state.specs.Route.{id_after, node_front, term_front, user_front, login_path, root_path, front_in, front_path, meant, found_route, led_to, route_of, cell_with, cell_route, tag_of_id, numbered_tags, route_tags, front_tags, path_tags}
-use Rattle.content_state.specs.Read.{Read, SiteRow, TypeRow, RoleRow, UserRow, TermRow, NodeRow, MenuRow, ListingRow, BlockRow, AllNodes, NodesOfType, AllTerms, AllBlocks, PathRoute, cover}
-use Rattle.content_state.specs.Replay.{list_of_type, bumps}
+use Rattle.content_state.specs.Read.{Read, SiteRow, TypeRow, RoleRow, UserRow, TermRow, NodeRow, MenuRow, ListingRow, BlockRow, AllNodes, NodesOfType, AllTerms, AllBlocks, CommentRow, CommentsOf, PathRoute, cover}
+use Rattle.content_state.specs.Replay.{list_of_type, list_of_node, bumps}
 use Rattle.content_state.specs.SiteRules.{IsValidState}
 use Rattle.state_commits.specs.Edits.{SameRead, AreFitFor, CoveredReadsStay}
 use Rattle.state_commits.proofs.Steps.{Names, Tells}
@@ -44,12 +46,12 @@ owners_told path (cell.Node n) old new never x which = absurd (never (2, omega a
 owners_told path (cell.Listing l) old new never x which = absurd (never (1, omega arith, refl))
 owners_told path _ old new never x which = refl
 
--- the nodes of a type, gathered at once
-abbrev kept_if : {Y : Type 0} → (Y → Bool) → Option Y → Option Y
+-- the nodes of a type, or the comments of a node, gathered at once
+abbrev pub kept_if : {Y : Type 0} → (Y → Bool) → Option Y → Option Y
 kept_if p None = None
 kept_if p (Some y) = cond (p y) (Some y) None
 
-gathered_at_once : {X Y : Type 0} (p : Y → Bool) (f : X → Option Y) (xs : List X) → filter p (filter_map f xs) ≡ filter_map (λ x. kept_if p (f x)) xs
+pub gathered_at_once : {X Y : Type 0} (p : Y → Bool) (f : X → Option Y) (xs : List X) → filter p (filter_map f xs) ≡ filter_map (λ x. kept_if p (f x)) xs
 gathered_at_once p f [] = refl
 gathered_at_once {X} {Y} p f (x ∷ xs) = go (f x) (gathered_at_once p f xs)
   where
@@ -83,6 +85,28 @@ typed_told t (cell.Node n) old new never (row.Node r) which = go (bytes_eq r.nod
     go true is = absurd (never (lists_type t n r old new ((bytes_eq-Decides r.node_type t).0 is) which))
     go false is = refl
 typed_told t _ old new never _ which = refl
+
+abbrev pub is_on : ℕ → ℕ × Comment → Bool
+is_on n e = e.1.node == n
+
+abbrev pub comment_on : ℕ → Cell × Row → Option (ℕ × Comment)
+comment_on n e = kept_if (is_on n) (comment_entry e)
+
+-- a write by which a comment of a node comes or goes invalidates the list of that node's comments
+lists_node : (n c : ℕ) (r : Comment) (old new : Option Row) → r.node ≡ n → (old ≡ Some (row.Comment r)) ⊎ (new ≡ Some (row.Comment r)) → Contains (bumps (cell.Comment c) old new) (tag.CommentList n)
+lists_node n c r old new on (inl is) =
+    subst (λ o. Contains (bumps (cell.Comment c) o new) (tag.CommentList n)) (sym is) (1, omega arith, ap tag.CommentList on)
+lists_node n c r old new on (inr is) =
+    Contains-append_right (tag.Comment c ∷ []) (list_of_node old ++ list_of_node new) (tag.CommentList n)
+    (Contains-append_right (list_of_node old) (list_of_node new) (tag.CommentList n)
+    (subst (λ o. Contains (list_of_node o) (tag.CommentList n)) (sym is) (0, omega arith, ap tag.CommentList on)))
+
+on_told : (n : ℕ) → Tells (comment_on n) (tag.CommentList n)
+on_told n (cell.Comment c) old new never (row.Comment r) which = elim (eqb_tells r.node n) as (λ _. comment_on n (cell.Comment c, row.Comment r) ≡ None) [
+  | inl is ↦ absurd (never (lists_node n c r old new is.1 which))
+  | inr is ↦ ap (λ b. cond {A = Option (ℕ × Comment)} b (Some (c, r)) None) is.0
+]
+on_told n _ old new never _ which = refl
 
 -- the tags of a route, by those of the numbers that stand in the path
 by_numbers : (to : Route) (path : List ℕ) → route_tags to path ≡ tags_of to (numbered_tags path)
@@ -197,6 +221,14 @@ module _ (s t : State) (same : Kin s t) (sorted : InOrder s.rows) (sorted' : InO
   }
   read_same AllTerms fit stay = record { covers = refl; answers = same_gathered term_entry same sorted sorted' tag.TermList terms_told (one tag.TermList stay) }
   read_same AllBlocks fit stay = record { covers = refl; answers = same_gathered block_entry same sorted sorted' tag.BlockList blocks_told (one tag.BlockList stay) }
+  read_same (CommentRow n) fit stay = record { covers = refl; answers = ap (option_and_then as_comment) (at (cell.Comment n) (tag.Comment n) (λ old new. (0, omega arith, refl)) (one (tag.Comment n) stay)) }
+  read_same (CommentsOf n) fit stay = record {
+    covers = refl;
+    answers =
+        gathered_at_once (is_on n) comment_entry s.rows
+        ∙ same_gathered (comment_on n) same sorted sorted' (tag.CommentList n) (on_told n) (one (tag.CommentList n) stay)
+        ∙ sym (gathered_at_once (is_on n) comment_entry t.rows);
+  }
   read_same (PathRoute path) fit stay = path_same fit.0 fit.1 path stay
 
 pub covered_reads_stay : CoveredReadsStay

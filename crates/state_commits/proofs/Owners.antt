@@ -83,6 +83,8 @@ by_entry rows path (cell.Listing l) (row.Listing r) valid at found others rest =
     (ap (λ o. if is_some (option_and_then as_listing o) then route.Listing l else route.Nothing) at) rest
 by_entry rows path (cell.Block b) (row.Block r) valid at found others rest = rest
 by_entry rows path (cell.Session s) (row.Session r) valid at found others rest = rest
+by_entry rows path (cell.Comment c) (row.Comment r) valid at found others rest = rest
+by_entry rows path cell.Talk (row.Talk r) valid at found others rest = rest
 by_entry rows path _ _ valid at found others rest = absurd valid
 
 -- an entry that is right by itself and is found at its cell
@@ -168,6 +170,8 @@ owner path (cell.Term t) (row.Term r) valid to is = cc
 owner path (cell.Menu m) (row.Menu r) valid to is = cc
 owner path (cell.Block b) (row.Block r) valid to is = cc
 owner path (cell.Session s) (row.Session r) valid to is = cc
+owner path (cell.Comment c) (row.Comment r) valid to is = cc
+owner path cell.Talk (row.Talk r) valid to is = cc
 owner path _ _ valid to is = absurd valid
 
 -- a row that passes makes a test of all true

@@ -22,20 +22,20 @@ use Rattle.state_commits.proofs.Entries.{same_or_not, found_put_same, found_put_
 use Rattle.state_commits.proofs.Counted.{all_up, named_up, counts_ordered}
 
 -- one write: what is found at its cell and at others, and the order
-at_its_cell : (rows : List (Cell × Row)) (d : Cell) (r : Option Row) → InOrder rows → row_at (with_row_or_none rows d r) d ≡ r
+pub at_its_cell : (rows : List (Cell × Row)) (d : Cell) (r : Option Row) → InOrder rows → row_at (with_row_or_none rows d r) d ≡ r
 at_its_cell rows d None sorted = found_cut_same cell_cmp cell_cmp_total cell_cmp_exact rows d sorted
 at_its_cell rows d (Some x) sorted = found_put_same cell_cmp cell_cmp_total cell_cmp_exact rows d x
 
-elsewhere : (rows : List (Cell × Row)) (d : Cell) (r : Option Row) (c : Cell) → InOrder rows → c ≢ d → row_at (with_row_or_none rows d r) c ≡ row_at rows c
+pub elsewhere : (rows : List (Cell × Row)) (d : Cell) (r : Option Row) (c : Cell) → InOrder rows → c ≢ d → row_at (with_row_or_none rows d r) c ≡ row_at rows c
 elsewhere rows d None c sorted apart = found_cut_other cell_cmp cell_cmp_total cell_cmp_exact rows d c sorted apart
 elsewhere rows d (Some x) c sorted apart = found_put_other cell_cmp cell_cmp_total cell_cmp_exact rows d x c apart
 
-one_ordered : (rows : List (Cell × Row)) (d : Cell) (r : Option Row) → InOrder rows → InOrder (with_row_or_none rows d r)
+pub one_ordered : (rows : List (Cell × Row)) (d : Cell) (r : Option Row) → InOrder rows → InOrder (with_row_or_none rows d r)
 one_ordered rows d None sorted = ordered_cut cell_cmp cell_cmp_total cell_cmp_exact (is_at (cell_cmp d)) rows sorted
 one_ordered rows d (Some x) sorted = ordered_put cell_cmp cell_cmp_total cell_cmp_exact rows d x sorted
 
 -- all writes
-rows_ordered : (writes : List Write) (rows : List (Cell × Row)) → InOrder rows → InOrder (fold written rows writes)
+pub rows_ordered : (writes : List Write) (rows : List (Cell × Row)) → InOrder rows → InOrder (fold written rows writes)
 rows_ordered [] rows sorted = sorted
 rows_ordered (w ∷ writes) rows sorted = rows_ordered writes (written rows w) (one_ordered rows w.cell w.row sorted)
 

@@ -4,7 +4,7 @@ ghost use Rattle.std.specs.List.Sorted.{IsStrictlySortedBy};
 ghost use Rattle.std.specs.Option.{option_copied};
 ghost use Rattle.cacheability.specs.InOrder.{union};
 ghost use Rattle.cacheability.specs.Tag.{tag_cmp};
-ghost use Rattle.content_state.specs.Replay.{bumps, if_absent, list_of_type, tags_of_write, tags_of_commit};
+ghost use Rattle.content_state.specs.Replay.{bumps, if_absent, list_of_node, list_of_type, tags_of_write, tags_of_commit};
 
 use cacheability::{OrderedSet, Tag};
 use content_rows::{Cell, Row};
@@ -79,6 +79,8 @@ fn bumps(
         Cell::Listing(name) => Vec::from_slice(alloc, &[Tag::Listing(*name), Tag::NotFound]),
         Cell::Block(name) => Vec::from_slice(alloc, &[Tag::Block(*name), Tag::BlockList]),
         Cell::Session(_) => Ok(Vec::new(alloc)),
+        Cell::Comment(cid) => comment_bumps(alloc, *cid, old, new),
+        Cell::Talk => Ok(Vec::new(alloc)),
         Cell::Head => Ok(Vec::new(alloc)),
     }
 }
@@ -115,6 +117,32 @@ fn add_list_of_type(tags: &mut Vec<Tag>, row: Option<&Row>) -> Result<(), AllocE
 {
     if let Some(Row::Node(node)) = row {
         tags.push(Tag::NodeListOf(node.node_type))?;
+    }
+    Ok(())
+}
+
+/// The tags of a write to a comment: its own, and those of the lists of comments of the nodes that it stood on and stands
+/// on then.
+fn comment_bumps(
+    alloc: Global,
+    cid: u32,
+    old: Option<&Row>,
+    new: Option<&Row>,
+) -> Result<Vec<Tag>, AllocError>
+    ensures { IfOk result (λ tags. tags.items ≡ bumps (Cell.Comment cid) (option_copied old.entry) (option_copied new.entry)) }
+{
+    let mut tags = Vec::from_slice(alloc, &[Tag::Comment(cid)])?;
+    add_list_of_node(&mut tags, old)?;
+    add_list_of_node(&mut tags, new)?;
+    Ok(tags)
+}
+
+/// Adds the tag of the list of comments of a comment's node.
+fn add_list_of_node(tags: &mut Vec<Tag>, row: Option<&Row>) -> Result<(), AllocError>
+    ensures { OnOk result (tags.new.items ≡ tags.old.items ++ list_of_node (option_copied row.entry)) }
+{
+    if let Some(Row::Comment(comment)) = row {
+        tags.push(Tag::CommentList(comment.node))?;
     }
     Ok(())
 }

@@ -49,6 +49,7 @@ IsPlain (row.User r) = ⊥
 IsPlain (row.Term r) = ⊥
 IsPlain (row.Node r) = ⊥
 IsPlain (row.Listing r) = ⊥
+IsPlain (row.Comment r) = ⊥
 IsPlain _ = Unit {0}
 
 pub has_nothing : (r : Row) → IsPlain r → (what : Unique) (t : List ℕ) → text_of what r ≡ Some t → ⊥
@@ -56,8 +57,10 @@ has_nothing (row.User r) plain what t h = absurd plain
 has_nothing (row.Term r) plain what t h = absurd plain
 has_nothing (row.Node r) plain what t h = absurd plain
 has_nothing (row.Listing r) plain what t h = absurd plain
+has_nothing (row.Comment r) plain what t h = absurd plain
 has_nothing _ plain unique.NodeUuid t h = cc
 has_nothing _ plain unique.TermUuid t h = cc
 has_nothing _ plain unique.UserUuid t h = cc
 has_nothing _ plain unique.UserName t h = cc
 has_nothing _ plain unique.Path t h = cc
+has_nothing _ plain unique.CommentUuid t h = cc

@@ -1,8 +1,11 @@
 pub mod Rows
 pub mod Parents
+pub mod Counts
 pub mod Together
+pub mod Naming
 pub mod After
 pub mod Holding
 pub mod Kept
 pub mod Valid
 pub mod Raised
+pub mod Going

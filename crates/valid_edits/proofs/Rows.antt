@@ -1,6 +1,6 @@
 -- The rows of a state as a map: an entry that passes a test is found at its cell, and what is found passes.
 use Rattle.std.proofs.Common.{◌≡◌, ◌⊎◌, ◌∙◌, ℕ, List, [], ◌∷◌, true, false, refl, sym, ap, inl, inr}
-use Rattle.std.specs.Prelude.{Bool, Option, Some, None, cond, not, ◌||◌, option_map, find}
+use Rattle.std.specs.Prelude.{Bool, Option, Some, None, cond, not, ◌||◌, option_map, option_and_then, find}
 use Rattle.std.specs.List.{list_any}
 use Rattle.std.specs.Cmp.{Equal-is}
 use Rattle.std.specs.Ordering.{is_eq}
@@ -11,7 +11,16 @@ use Rattle.content_rows.specs.CellOrder.{cell_cmp}
 use Rattle.content_rows.proofs.CellLemmas.{cell_cmp_exact, cell_cmp_total, tells_cells_apart}
 use Rattle.content_rows.specs.declared.cell.Cell.{Cell}
 use Rattle.content_rows.specs.declared.row.Row.{Row}
-use Rattle.indexed_rows.specs.Rows.{row_at, InOrder}
+use Rattle.content_rows.specs.declared.row.Row.TheVariants as row
+use Rattle.content_rows.specs.declared.row.Seq.{Seq}
+use Rattle.content_rows.specs.declared.row.User.{User}
+use Rattle.content_rows.specs.declared.row.Term.{Term}
+use Rattle.content_rows.specs.declared.row.Node.{Node}
+use Rattle.content_rows.specs.declared.row.Listing.{Listing}
+use Rattle.content_rows.specs.declared.row.Session.{Session}
+use Rattle.content_rows.specs.declared.row.Comment.{Comment}
+use Rattle.content_rows.specs.declared.row.Talk.{Talk}
+use Rattle.indexed_rows.specs.Rows.{row_at, as_seq, as_user, as_term, as_node, as_listing, as_session, as_comment, as_talk, InOrder}
 use Rattle.indexed_rows.specs.Texts.{is_text}
 use Rattle.state_commits.proofs.Entries.{same_or_not}
 use Rattle.state_commits.proofs.Owners.{is_found, is_held}
@@ -81,3 +90,45 @@ text_is text (Some own) h = ap Some ((bytes_eq-Decides own text).0 h)
 pub is_text_of : (text : List ℕ) (own : Option (List ℕ)) → own ≡ Some text → is_text text own ≡ true
 is_text_of text None h = cc
 is_text_of text (Some own) h = let same : own ≡ text = cc in (bytes_eq-Decides own text).1 same
+
+-- ---- a row that is found as its kind
+
+pub is_seq : (o : Option Row) (r : Seq) → option_and_then as_seq o ≡ Some r → o ≡ Some (row.Seq r)
+is_seq None r h = cc
+is_seq (Some (row.Seq q)) r h = cc
+is_seq (Some _) r h = cc
+
+pub is_user : (o : Option Row) (r : User) → option_and_then as_user o ≡ Some r → o ≡ Some (row.User r)
+is_user None r h = cc
+is_user (Some (row.User q)) r h = cc
+is_user (Some _) r h = cc
+
+pub is_term : (o : Option Row) (r : Term) → option_and_then as_term o ≡ Some r → o ≡ Some (row.Term r)
+is_term None r h = cc
+is_term (Some (row.Term q)) r h = cc
+is_term (Some _) r h = cc
+
+pub is_node : (o : Option Row) (r : Node) → option_and_then as_node o ≡ Some r → o ≡ Some (row.Node r)
+is_node None r h = cc
+is_node (Some (row.Node q)) r h = cc
+is_node (Some _) r h = cc
+
+pub is_listing : (o : Option Row) (r : Listing) → option_and_then as_listing o ≡ Some r → o ≡ Some (row.Listing r)
+is_listing None r h = cc
+is_listing (Some (row.Listing q)) r h = cc
+is_listing (Some _) r h = cc
+
+pub is_session : (o : Option Row) (r : Session) → option_and_then as_session o ≡ Some r → o ≡ Some (row.Session r)
+is_session None r h = cc
+is_session (Some (row.Session q)) r h = cc
+is_session (Some _) r h = cc
+
+pub is_comment : (o : Option Row) (r : Comment) → option_and_then as_comment o ≡ Some r → o ≡ Some (row.Comment r)
+is_comment None r h = cc
+is_comment (Some (row.Comment q)) r h = cc
+is_comment (Some _) r h = cc
+
+pub is_talk : (o : Option Row) (r : Talk) → option_and_then as_talk o ≡ Some r → o ≡ Some (row.Talk r)
+is_talk None r h = cc
+is_talk (Some (row.Talk q)) r h = cc
+is_talk (Some _) r h = cc

@@ -6,4 +6,4 @@ mod holders;
 mod laws;
 
 pub use holders::{holder, is_parent, is_used, path_holder};
-pub use laws::fitting_edits_keep_valid;
+pub use laws::{fitting_edits_keep_valid, removals_keep_valid};
