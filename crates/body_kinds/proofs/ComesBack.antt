@@ -42,7 +42,7 @@ use Rattle.body_kinds.proofs.Back.{comes_back, sent_back, whole_back, left_out, 
 
 -- ---- values whose absence says something
 
-no_word : {X : Type 0} (v : Option X) → OrNone (λ _. Unit {0}) v
+pub no_word : {X : Type 0} (v : Option X) → OrNone (λ _. Unit {0}) v
 no_word None = tt
 no_word (Some x) = tt
 
@@ -61,7 +61,7 @@ set_flag_back {fault} Good c false g = left_out fault flag_in false refl
 
 -- ---- terms
 
-a_parent_back : (v : Option ℕ) → ForSome v IsId → ReadBack (entry_fault (entry.NullOr (plain.Whole 1 4294967294))) (option_in small_in) (option_map whole_data v) v
+pub a_parent_back : (v : Option ℕ) → ForSome v IsId → ReadBack (entry_fault (entry.NullOr (plain.Whole 1 4294967294))) (option_in small_in) (option_map whole_data v) v
 a_parent_back None h = left_out (entry_fault (entry.NullOr (plain.Whole 1 4294967294))) (option_in small_in) None refl
 a_parent_back (Some id) h = whole_back maybe_id (Some id) (h id refl)
 

@@ -12,6 +12,8 @@ use Rattle.site_commands.specs.declared.body.NewTerm.{NewTerm}
 use Rattle.site_commands.specs.declared.body.TermPatch.{TermPatch}
 use Rattle.site_commands.specs.declared.body.NewUser.{NewUser}
 use Rattle.site_commands.specs.declared.body.UserPatch.{UserPatch}
+use Rattle.site_commands.specs.declared.body.NewComment.{NewComment}
+use Rattle.site_commands.specs.declared.body.CommentPatch.{CommentPatch}
 
 -- what a key says, where it is there
 abbrev pub sent : {X : Type 0} → (Data → X) → List ℕ → Data → Option X
@@ -95,3 +97,15 @@ user_patch_in d = record {
   roles = sent (λ v. list_in name_in (items_in v)) (codes "roles") d;
   status = sent flag_in (codes "status") d;
 }
+
+-- ---- comments
+
+abbrev pub new_comment_in : Data → NewComment
+new_comment_in d = record {
+  body = text_in (value_at (codes "body") d);
+  parent = option_in small_in (value_at (codes "parent") d);
+  uuid = text_in (value_at (codes "uuid") d);
+}
+
+abbrev pub comment_patch_in : Data → CommentPatch
+comment_patch_in d = record { body = sent text_in (codes "body") d; status = sent flag_in (codes "status") d }

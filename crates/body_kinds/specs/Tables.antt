@@ -30,6 +30,10 @@ a_line most = shape.Of (entry.One (plain.Text (form.Line most)))
 abbrev pub a_text : Shape
 a_text = shape.Of (entry.One (plain.Text form.Body))
 
+-- what a comment says: 1 to 65,536 bytes
+abbrev pub a_comment : Shape
+a_comment = shape.Of (entry.One (plain.Text form.Comment))
+
 abbrev pub a_uuid : Shape
 a_uuid = shape.Of (entry.One (plain.Text form.Uuid))
 
@@ -120,3 +124,10 @@ user_patch_keys =
     ∷ (codes "roles", ask.May (names 32))
     ∷ (codes "status", ask.May a_flag)
     ∷ []
+
+abbrev pub new_comment_keys : List (List ℕ × Ask)
+new_comment_keys =
+    (codes "body", ask.Must a_comment) ∷ (codes "parent", ask.May id_or_null) ∷ (codes "uuid", ask.Must a_uuid) ∷ []
+
+abbrev pub comment_patch_keys : List (List ℕ × Ask)
+comment_patch_keys = (codes "body", ask.May a_comment) ∷ (codes "status", ask.May a_flag) ∷ []

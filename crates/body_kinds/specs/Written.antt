@@ -18,6 +18,8 @@ use Rattle.site_commands.specs.declared.body.NewTerm.{NewTerm}
 use Rattle.site_commands.specs.declared.body.TermPatch.{TermPatch}
 use Rattle.site_commands.specs.declared.body.NewUser.{NewUser}
 use Rattle.site_commands.specs.declared.body.UserPatch.{UserPatch}
+use Rattle.site_commands.specs.declared.body.NewComment.{NewComment}
+use Rattle.site_commands.specs.declared.body.CommentPatch.{CommentPatch}
 
 -- keys, each with what it says, where it says something
 abbrev pub Said : Type 0
@@ -140,6 +142,17 @@ user_patch_said patch =
     ∷ (codes "roles", option_map (list_data text_data) patch.roles)
     ∷ (codes "status", option_map boolean patch.status)
     ∷ []
+
+abbrev pub new_comment_said : NewComment → Said
+new_comment_said new =
+    (codes "body", Some (text_data new.body))
+    ∷ (codes "parent", option_map whole_data new.parent)
+    ∷ (codes "uuid", Some (text_data new.uuid))
+    ∷ []
+
+abbrev pub comment_patch_said : CommentPatch → Said
+comment_patch_said patch =
+    (codes "body", option_map text_data patch.body) ∷ (codes "status", option_map boolean patch.status) ∷ []
 
 -- ---- what types say of their values
 

@@ -2,14 +2,18 @@
 ghost use Rattle.std.specs.Prelude.{◌≡◌, IfOk};
 ghost use Rattle.serde_json.specs.View.{view};
 ghost use Rattle.json_keys.specs.Checked.{read_checked};
-ghost use Rattle.body_kinds.specs.Bodies.{new_node_in, node_patch_in, new_term_in, term_patch_in, new_user_in, user_patch_in};
-ghost use Rattle.body_kinds.specs.Tables.{new_node_keys, node_patch_keys, new_term_keys, term_patch_keys, new_user_keys, user_patch_keys};
+ghost use Rattle.body_kinds.specs.Bodies.{new_node_in, node_patch_in, new_term_in, term_patch_in, new_user_in, user_patch_in, new_comment_in, comment_patch_in};
+ghost use Rattle.body_kinds.specs.Tables.{new_node_keys, node_patch_keys, new_term_keys, term_patch_keys, new_user_keys, user_patch_keys, new_comment_keys, comment_patch_keys};
 
 use crate::read::body_read;
-use crate::tables::{NEW_NODE, NEW_TERM, NEW_USER, NODE_PATCH, TERM_PATCH, USER_PATCH};
+use crate::tables::{
+    COMMENT_PATCH, NEW_COMMENT, NEW_NODE, NEW_TERM, NEW_USER, NODE_PATCH, TERM_PATCH, USER_PATCH,
+};
 use json_keys::Checked;
 use serde_json::Value;
-use site_commands::{NewNode, NewTerm, NewUser, NodePatch, TermPatch, UserPatch};
+use site_commands::{
+    CommentPatch, NewComment, NewNode, NewTerm, NewUser, NodePatch, TermPatch, UserPatch,
+};
 use std::alloc::{AllocError, Global};
 
 /// What an object says as a node to be made, or the first rule that it breaks: of the keys that
@@ -54,4 +58,18 @@ pub fn user_patch(alloc: Global, value: &Value) -> Result<Checked<UserPatch>, Al
     ensures { IfOk result (λ c. c ≡ read_checked user_patch_in user_patch_keys (view value.now)) }
 {
     body_read(alloc, &USER_PATCH, value)
+}
+
+/// The same of a comment to be made.
+pub fn new_comment(alloc: Global, value: &Value) -> Result<Checked<NewComment>, AllocError>
+    ensures { IfOk result (λ c. c ≡ read_checked new_comment_in new_comment_keys (view value.now)) }
+{
+    body_read(alloc, &NEW_COMMENT, value)
+}
+
+/// The same of a change of a comment.
+pub fn comment_patch(alloc: Global, value: &Value) -> Result<Checked<CommentPatch>, AllocError>
+    ensures { IfOk result (λ c. c ≡ read_checked comment_patch_in comment_patch_keys (view value.now)) }
+{
+    body_read(alloc, &COMMENT_PATCH, value)
 }

@@ -1,16 +1,18 @@
 //! What is written of a right body is read back as it: no table refuses what it is to take.
 ghost use Rattle.std.specs.Prelude.{ℕ, List, IsTrue};
 ghost use Rattle.content_rows.specs.LiteralName.{is_name};
-ghost use Rattle.site_commands.specs.Right.{IsRightNewNode, IsRightNodePatch, IsRightNewTerm, IsRightTermPatch, IsRightNewUser, IsRightUserPatch};
+ghost use Rattle.site_commands.specs.Right.{IsRightNewNode, IsRightNodePatch, IsRightNewTerm, IsRightTermPatch, IsRightNewUser, IsRightUserPatch, IsRightNewComment, IsRightCommentPatch};
 ghost use Rattle.site_commands.specs.declared.body.NewNode.{NewNode};
 ghost use Rattle.site_commands.specs.declared.body.NodePatch.{NodePatch};
 ghost use Rattle.site_commands.specs.declared.body.NewTerm.{NewTerm};
 ghost use Rattle.site_commands.specs.declared.body.TermPatch.{TermPatch};
 ghost use Rattle.site_commands.specs.declared.body.NewUser.{NewUser};
 ghost use Rattle.site_commands.specs.declared.body.UserPatch.{UserPatch};
-ghost use Rattle.body_kinds.specs.Bodies.{new_node_in, node_patch_in, new_term_in, term_patch_in, new_user_in, user_patch_in};
-ghost use Rattle.body_kinds.specs.Tables.{new_node_keys, node_patch_keys, new_term_keys, term_patch_keys, new_user_keys, user_patch_keys};
-ghost use Rattle.body_kinds.specs.Written.{ComesBack, new_node_said, node_patch_said, new_term_said, term_patch_said, new_user_said, user_patch_said, IsTypedNewNode, IsTypedNodePatch, IsTypedNewUser, IsTypedUserPatch};
+ghost use Rattle.site_commands.specs.declared.body.NewComment.{NewComment};
+ghost use Rattle.site_commands.specs.declared.body.CommentPatch.{CommentPatch};
+ghost use Rattle.body_kinds.specs.Bodies.{new_node_in, node_patch_in, new_term_in, term_patch_in, new_user_in, user_patch_in, new_comment_in, comment_patch_in};
+ghost use Rattle.body_kinds.specs.Tables.{new_node_keys, node_patch_keys, new_term_keys, term_patch_keys, new_user_keys, user_patch_keys, new_comment_keys, comment_patch_keys};
+ghost use Rattle.body_kinds.specs.Written.{ComesBack, new_node_said, node_patch_said, new_term_said, term_patch_said, new_user_said, user_patch_said, new_comment_said, comment_patch_said, IsTypedNewNode, IsTypedNodePatch, IsTypedNewUser, IsTypedUserPatch};
 
 /// A right node to be made, of any type, comes back.
 pub fn new_nodes_come_back()
@@ -46,4 +48,16 @@ pub fn new_users_come_back()
 pub fn user_patches_come_back()
     ensures { (patch : UserPatch) → IsRightUserPatch patch → IsTypedUserPatch patch
         → ComesBack user_patch_in user_patch_keys (user_patch_said patch) patch }
+{}
+
+/// A right comment to be made comes back.
+pub fn new_comments_come_back()
+    ensures { (new : NewComment) → IsRightNewComment new
+        → ComesBack new_comment_in new_comment_keys (new_comment_said new) new }
+{}
+
+/// A right change of a comment comes back.
+pub fn comment_patches_come_back()
+    ensures { (patch : CommentPatch) → IsRightCommentPatch patch
+        → ComesBack comment_patch_in comment_patch_keys (comment_patch_said patch) patch }
 {}

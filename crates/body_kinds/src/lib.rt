@@ -6,6 +6,7 @@
 #![tactic(auto)]
 
 mod bodies;
+mod comment;
 mod laws;
 mod node;
 mod read;
@@ -14,9 +15,11 @@ mod tables;
 mod term;
 mod user;
 
-pub use bodies::{new_node, new_term, new_user, node_patch, term_patch, user_patch};
+pub use bodies::{
+    comment_patch, new_comment, new_node, new_term, new_user, node_patch, term_patch, user_patch,
+};
 pub use laws::{
-    new_nodes_come_back, new_terms_come_back, new_users_come_back, node_patches_come_back,
-    term_patches_come_back, user_patches_come_back,
+    comment_patches_come_back, new_comments_come_back, new_nodes_come_back, new_terms_come_back,
+    new_users_come_back, node_patches_come_back, term_patches_come_back, user_patches_come_back,
 };
 pub use row::{config_row, settings_row};

@@ -19,6 +19,8 @@ const UUID: Shape = Shape::Of(Entry::One(Plain::Text(Form::Uuid)));
 
 const TEXT: Shape = Shape::Of(Entry::One(Plain::Text(Form::Body)));
 
+const COMMENT: Shape = Shape::Of(Entry::One(Plain::Text(Form::Comment)));
+
 const TITLE: Shape = Shape::Of(Entry::One(Plain::Text(Form::Line(255))));
 
 const USER_NAME: Shape = Shape::Of(Entry::One(Plain::Text(Form::Line(60))));
@@ -105,5 +107,18 @@ pub(crate) const USER_PATCH: [Key; 5] = [
     ("name", Ask::May(USER_NAME)),
     ("pass", Ask::May(PASSWORD)),
     ("roles", Ask::May(ROLES)),
+    ("status", Ask::May(FLAG)),
+];
+
+/// The keys of a comment to be made.
+pub(crate) const NEW_COMMENT: [Key; 3] = [
+    ("body", Ask::Must(COMMENT)),
+    ("parent", Ask::May(PARENT)),
+    ("uuid", Ask::Must(UUID)),
+];
+
+/// The keys of a change of a comment.
+pub(crate) const COMMENT_PATCH: [Key; 2] = [
+    ("body", Ask::May(COMMENT)),
     ("status", Ask::May(FLAG)),
 ];

@@ -6,6 +6,7 @@ use Rattle.json_keys.specs.Order.{AllInOrder}
 use Rattle.site_commands.specs.Right.{IsSalt, IsRight}
 use Rattle.edit_paths.specs.declared.edit.Edit.{Edit}
 use Rattle.edit_paths.specs.declared.edit.Edit.TheVariants as edit
+use Rattle.body_kinds.proofs.CommentsRight.{new_comment_right, comment_patch_right}
 use Rattle.body_kinds.proofs.NodesRight.{new_node_right, node_patch_right}
 use Rattle.body_kinds.proofs.PeopleRight.{new_term_right, term_patch_right, new_user_right, user_patch_right}
 use Rattle.body_kinds.proofs.RowsRight.{config_right, settings_right}
@@ -38,3 +39,6 @@ command_right edit.SetSite d form words o = settings_right d o
 command_right edit.Login d form words o = tt
 command_right edit.Logout d form words o = tt
 command_right edit.Rebuild d form words o = tt
+command_right (edit.CreateComment nid) d form words o = new_comment_right d o
+command_right (edit.ChangeComment cid) d form words o = comment_patch_right d o
+command_right (edit.RemoveComment cid) d form words o = tt

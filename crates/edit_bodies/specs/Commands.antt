@@ -8,13 +8,15 @@ use Rattle.site_commands.specs.declared.command.Credentials.{Credentials}
 use Rattle.site_commands.specs.declared.command.NodeChange.{NodeChange}
 use Rattle.site_commands.specs.declared.command.NodeCreation.{NodeCreation}
 use Rattle.site_commands.specs.declared.command.TermChange.{TermChange}
+use Rattle.site_commands.specs.declared.command.CommentChange.{CommentChange}
+use Rattle.site_commands.specs.declared.command.CommentCreation.{CommentCreation}
 use Rattle.site_commands.specs.declared.command.UserChange.{UserChange}
 use Rattle.site_commands.specs.declared.command.UserCreation.{UserCreation}
 use Rattle.edit_paths.specs.declared.edit.Edit.{Edit}
 use Rattle.edit_paths.specs.declared.edit.Edit.TheVariants as edit
-use Rattle.body_kinds.specs.Bodies.{new_node_in, node_patch_in, new_term_in, term_patch_in, new_user_in, user_patch_in}
+use Rattle.body_kinds.specs.Bodies.{new_node_in, node_patch_in, new_term_in, term_patch_in, new_user_in, user_patch_in, new_comment_in, comment_patch_in}
 use Rattle.body_kinds.specs.SetRows.{config_row, settings_row}
-use Rattle.body_kinds.specs.Tables.{new_node_keys, node_patch_keys, new_term_keys, term_patch_keys, new_user_keys, user_patch_keys}
+use Rattle.body_kinds.specs.Tables.{new_node_keys, node_patch_keys, new_term_keys, term_patch_keys, new_user_keys, user_patch_keys, new_comment_keys, comment_patch_keys}
 use Rattle.edit_bodies.specs.Bodies.{Sent}
 use Rattle.edit_bodies.specs.Digits.{digits_of}
 use Rattle.edit_bodies.specs.Keys.{has, node_keys, user_keys, node_type_in}
@@ -60,6 +62,16 @@ user_change uid d words = record {
   body = read_checked user_patch_in user_patch_keys d;
 }
 
+abbrev pub comment_creation : Option ℕ → Data → CommentCreation
+comment_creation nid d = record { nid = nid; body = read_checked new_comment_in new_comment_keys d }
+
+abbrev pub comment_change : Option ℕ → Data → CommentChange
+comment_change cid d = record {
+  cid = cid;
+  status = has (codes "status") d;
+  body = read_checked comment_patch_in comment_patch_keys d;
+}
+
 abbrev pub credentials : Form → Option Words → Credentials
 credentials form words = record { name = form.name; pass = form.pass; token = digits_of (words_or words) }
 
@@ -81,6 +93,9 @@ command_at edit.SetSite d form words = command.SetSite (settings_row d)
 command_at edit.Login d form words = command.Login (credentials form words)
 command_at edit.Logout d form words = command.Logout
 command_at edit.Rebuild d form words = command.Rebuild
+command_at (edit.CreateComment nid) d form words = command.CreateComment (comment_creation nid d)
+command_at (edit.ChangeComment cid) d form words = command.ChangeComment (comment_change cid d)
+command_at (edit.RemoveComment cid) d form words = command.RemoveComment cid
 
 -- the command that an edit is with what its body says, whose words were drawn where it takes them
 unfoldable pub command_in : Edit → Sent → Option Words → Command

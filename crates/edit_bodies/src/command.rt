@@ -12,6 +12,8 @@ ghost use Rattle.edit_bodies.specs.Commands.{
   term_change,
   user_creation,
   user_change,
+  comment_creation,
+  comment_change,
   command_at,
   command_in,
   draws,
@@ -21,7 +23,8 @@ use crate::body::{Body, object_in};
 use crate::keys::{has, node_keys, node_type_in, user_keys};
 use crate::words::{Words, digits_of};
 use body_kinds::{
-    config_row, new_node, new_term, new_user, node_patch, settings_row, term_patch, user_patch,
+    comment_patch, config_row, new_comment, new_node, new_term, new_user, node_patch, settings_row,
+    term_patch, user_patch,
 };
 use cacheability::Name;
 use content_rows::Duplicate;
@@ -29,7 +32,8 @@ use edit_paths::Edit;
 use json_keys::walk;
 use serde_json::{Map, Value};
 use site_commands::{
-    Command, Credentials, NodeChange, NodeCreation, TermChange, UserChange, UserCreation,
+    Command, CommentChange, CommentCreation, Credentials, NodeChange, NodeCreation, TermChange,
+    UserChange, UserCreation,
 };
 use std::alloc::{AllocError, Global};
 
@@ -91,6 +95,9 @@ fn command_at(
         Edit::Login => Command::Login(credentials(alloc, body, words)?),
         Edit::Logout => Command::Logout,
         Edit::Rebuild => Command::Rebuild,
+        Edit::CreateComment(nid) => Command::CreateComment(comment_creation(alloc, *nid, value)?),
+        Edit::ChangeComment(cid) => Command::ChangeComment(comment_change(alloc, *cid, value)?),
+        Edit::RemoveComment(cid) => Command::RemoveComment(*cid),
     })
 }
 
@@ -123,6 +130,35 @@ fn term_change(alloc: Global, tid: Option<u32>, value: &Value) -> Result<TermCha
     Ok(TermChange {
         tid,
         body: term_patch(alloc, value)?,
+    })
+}
+
+/// To comment on a node.
+fn comment_creation(
+    alloc: Global,
+    nid: Option<u32>,
+    value: &Value,
+) -> Result<CommentCreation, AllocError>
+    ensures { IfOk result (λ asked. asked ≡ comment_creation nid (view value.now)) }
+{
+    Ok(CommentCreation {
+        nid,
+        body: new_comment(alloc, value)?,
+    })
+}
+
+/// To change a comment.
+fn comment_change(
+    alloc: Global,
+    cid: Option<u32>,
+    value: &Value,
+) -> Result<CommentChange, AllocError>
+    ensures { IfOk result (λ asked. asked ≡ comment_change cid (view value.now)) }
+{
+    Ok(CommentChange {
+        cid,
+        status: has(value, "status"),
+        body: comment_patch(alloc, value)?,
     })
 }
 

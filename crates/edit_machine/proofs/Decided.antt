@@ -32,3 +32,11 @@ second_refuses cause xs ys r none found =
 pub third_decides : (cause : Option Refusal) (xs ys : List (Option Refusal)) → cause ≡ None → first_cause xs ≡ None → first_cause ys ≡ first_cause (cause ∷ (xs ++ ys))
 third_decides cause xs ys none passed =
     sym (ap (λ c. option_or c (first_cause (xs ++ ys))) none ∙ first_append xs ys ∙ ap (λ c. option_or c (first_cause ys)) passed)
+
+-- the first cause of two, where the first is not there
+pub last_decides : (cause last : Option Refusal) → cause ≡ None → last ≡ first_cause (cause ∷ last ∷ [])
+last_decides cause last none = sym (ap (λ c. option_or c (option_or last None)) none ∙ or_none last)
+  where
+    or_none : (o : Option Refusal) → option_or o None ≡ o
+    or_none None = refl
+    or_none (Some r) = refl

@@ -3,3 +3,4 @@ pub mod Exchanged
 pub mod Trees
 pub mod Values
 pub mod Named
+pub mod Replies

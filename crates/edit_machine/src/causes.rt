@@ -1,8 +1,9 @@
 //! Why an edit is refused, and what is kept of one that is accepted.
 ghost use Rattle.std.specs.Prelude.{◌≡◌, [], ◌∷◌, IfOk, IsSome, nat_le};
 ghost use Rattle.access_result.specs.declared.reason.Reason.TheVariants as reason_is;
-ghost use Rattle.indexed_rows.specs.Rows.{node_of};
+ghost use Rattle.indexed_rows.specs.Rows.{node_of, comment_of};
 ghost use Rattle.site_access.specs.Access.{access_to_node, access_to_create};
+ghost use Rattle.site_access.specs.Comments.{access_to_comment};
 ghost use Rattle.site_access.specs.Account.{IsAccountOf, OnRows};
 ghost use Rattle.site_access.specs.Depends.{access_of};
 ghost use Rattle.site_commands.specs.Causes.{told, Refused, unless_allowed, needs, key_needs, set, removed, commit_of, accepted};
@@ -10,7 +11,7 @@ ghost use Rattle.site_commands.specs.declared.answer.Refusal.TheVariants as refu
 
 use access_result::{AccessResult, PermissionText, Reason, Verdict as Access};
 use cacheability::{Name, Op};
-use content_rows::{Cell, Items, Row, Seq, Text};
+use content_rows::{Cell, Items, Row, Seq, Talk, Text};
 use content_state::{Commit, State, Write};
 use json_keys::Rule;
 use site_access::Account;
@@ -94,6 +95,22 @@ pub fn node_denial(
     Ok(denial(alloc, access))
 }
 
+/// What refuses to do this to a comment that is there. `Err` only where memory is wanting.
+pub fn comment_denial(
+    alloc: Global,
+    state: &State,
+    account: &Account,
+    op: Op,
+    cid: u32,
+) -> Result<Option<Refusal>, AllocError>
+    requires account { IsAccountOf state.now.rows account.now.viewer account.now }
+    requires there { IsSome (comment_of state.now.rows cid) }
+    ensures { IfOk result (λ cause. cause ≡ unless_allowed (access_to_comment state.now.rows account.now.viewer op cid)) }
+{
+    let access = account.comment_access(alloc, state, op, cid)?;
+    Ok(denial(alloc, access))
+}
+
 /// What refuses to make a node of a type. `Err` only where memory is wanting.
 pub fn creation_denial(
     alloc: Global,
@@ -165,6 +182,25 @@ pub fn creation(
     Ok(commit_of(alloc, pass, writes))
 }
 
+/// An edit that sets a new comment, and the id to be given next. `Err` only where memory is wanting.
+pub fn commenting(
+    alloc: Global,
+    pass: u32,
+    next: u32,
+    cell: Cell,
+    row: Row,
+) -> Result<Commit, AllocError>
+    ensures { IfOk result (λ commit. commit ≡ commit_of pass (set Cell.Talk (Row.Talk (record { comment = next })) ∷ set cell row ∷ [])) }
+{
+    // first of all, as in `setting`
+    let new = set(alloc, cell, row)?;
+    let ids = set(alloc, Cell::Talk, Row::Talk(Talk { comment: next }))?;
+    let mut writes = Vec::with_capacity(alloc, 2)?;
+    writes.push(ids)?;
+    writes.push(new)?;
+    Ok(commit_of(alloc, pass, writes))
+}
+
 /// An edit that removes the row of a cell. `Err` only where memory is wanting.
 pub fn removal(alloc: Global, pass: u32, cell: Cell) -> Result<Commit, AllocError>
     ensures { IfOk result (λ commit. commit ≡ commit_of pass (removed cell ∷ [])) }
@@ -185,7 +221,7 @@ fn set(alloc: Global, cell: Cell, row: Row) -> Result<Write, AllocError>
 }
 
 /// An edit of these writes.
-fn commit_of(alloc: Global, pass: u32, writes: Vec<Write>) -> Commit
+pub fn commit_of(alloc: Global, pass: u32, writes: Vec<Write>) -> Commit
     ensures { result ≡ commit_of pass writes.items }
 {
     Commit {

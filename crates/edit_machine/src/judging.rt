@@ -4,6 +4,7 @@ ghost use Rattle.site_access.specs.Account.{IsAccountOf};
 ghost use Rattle.site_commands.specs.Causes.{told};
 ghost use Rattle.site_commands.specs.Verdict.{verdict};
 
+use crate::comments::{change_comment, create_comment, remove_comment};
 use crate::config::{remove_config, set_config, set_site};
 use crate::nodes::{change_node, create_node, remove_node};
 use crate::sessions::{log_in, log_out, rebuild};
@@ -23,9 +24,10 @@ use std::alloc::{AllocError, Global};
 ///   no active user has the name and the password that somebody logs in with; who logs out has no session;
 /// - `TokenClash`: a session of the token that somebody is to be logged in with is there;
 /// - `Broken`: a rule is broken, of the body by itself; or `Unknown` for a field that the type hasn't, `Absent` for
-///   nodes, terms or a user that are named, `Cycle` and `Deep` for a term's parent with which a chain of parents would
-///   come back to itself or have more than nine terms, `Taken` for a user's name, `Locked` for a role that stays, `Used`
-///   for a type that nodes have or a term that is another's parent, `Full` where there is no id or no version left;
+///   nodes, terms, a user or a comment on the same node that are named, `Cycle` and `Deep` for a parent with which a
+///   chain of parents would come back to itself or have more than nine terms or comments, `Many` for a node that has
+///   1,000 comments, `Taken` for a user's name, `Locked` for a role that stays, `Used` for a type that nodes have or a
+///   term that is another's parent, `Full` where there is no id or no version left;
 /// - `UuidTaken`: another row of the kind has the universal id;
 /// - `Stale`: the version that the change was made of is not the node's;
 /// - `PathTaken`: another row has the path;
@@ -86,5 +88,8 @@ fn judge_for(
         Command::Login(asked) => log_in(alloc, state, asked, now, pass),
         Command::Logout => log_out(alloc, state, &account.viewer, pass),
         Command::Rebuild => rebuild(alloc, state, account, pass),
+        Command::CreateComment(asked) => create_comment(alloc, state, account, asked, now, pass),
+        Command::ChangeComment(asked) => change_comment(alloc, state, account, asked, pass),
+        Command::RemoveComment(cid) => remove_comment(alloc, state, account, *cid, pass),
     }
 }

@@ -2,6 +2,7 @@
 #![tactic(auto)]
 
 mod causes;
+mod comments;
 mod config;
 mod fields;
 mod judging;

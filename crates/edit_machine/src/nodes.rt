@@ -31,9 +31,9 @@ ghost use Rattle.valid_edits.specs.Fits.{is_absent_user};
 ghost use Rattle.edit_machine.specs.First.{first_cause};
 
 use crate::causes::{
-    accepted, broken, broken_body, creation, creation_denial, is_last, node_denial, removal,
-    setting,
+    accepted, broken, broken_body, creation, creation_denial, is_last, node_denial, setting,
 };
+use crate::comments::node_removal;
 use crate::fields::{
     changed_values, fields_denial, has_unknown_change, has_unknown_value, key_denial,
 };
@@ -443,7 +443,7 @@ pub fn remove_node(
     if let Some(refusal) = node_denial(alloc, state, account, Op::Delete, nid)? {
         return Ok(Verdict::Refused(refusal));
     }
-    let commit = removal(alloc, pass, Cell::Node(nid))?;
+    let commit = node_removal(alloc, state, pass, nid)?;
     accepted(alloc, state, commit, Done::Saved)
 }
 
@@ -524,12 +524,12 @@ fn is_absent_user(state: &State, uid: u32) -> bool
     uid != 0 && state.user(uid).0.is_none()
 }
 
-/// The id of the node, term or user of a cell.
+/// The id of the node, term, user or comment of a cell.
 pub fn id_in(cell: &Cell) -> u32
     ensures { result ≡ id_in cell.now }
 {
     match cell {
-        Cell::Node(id) | Cell::Term(id) | Cell::User(id) => *id,
+        Cell::Node(id) | Cell::Term(id) | Cell::User(id) | Cell::Comment(id) => *id,
         _ => 0,
     }
 }

@@ -3,6 +3,7 @@ use Rattle.std.proofs.Common.{ℕ, List, [], ◌∷◌, ◌≡◌, ◌∙◌, re
 use Rattle.std.specs.Prelude.{Option, Some, None, ◌⊎◌}
 use Rattle.std.specs.Option.{option_or, option_and_then}
 use Rattle.matchit.proofs.OnLiterals.{matchit_on_literals}
+use Rattle.matchit.specs.Seek.{seek, param_step}
 use Rattle.content_rows.specs.IdText.{id_of}
 use Rattle.site_commands.specs.declared.command.ConfigKind.TheVariants as kind
 use Rattle.edit_paths.specs.declared.edit.Edit.{Edit}
@@ -11,7 +12,7 @@ use Rattle.edit_paths.specs.declared.paths.Subject.{Subject}
 use Rattle.edit_paths.specs.declared.paths.Subject.TheVariants as subject
 use Rattle.edit_paths.specs.Paired.{name_of, posts, patches, deletes, first_edit}
 use Rattle.edit_paths.specs.Routes.{Rows, with_route, post_rows, patch_rows, delete_rows, about_of, post_of, patch_of, delete_of}
-use Rattle.edit_paths.proofs.Routed.{AreBytes, found_by, found_as}
+use Rattle.edit_paths.proofs.Routed.{AreBytes, found_by, found_between, found_as}
 
 -- ---- one subject at most
 
@@ -19,7 +20,7 @@ abbrev subjects : List Subject
 subjects =
     subject.Node ∷ subject.Term ∷ subject.User
     ∷ subject.Config kind.Role ∷ subject.Config kind.NodeType ∷ subject.Config kind.Block ∷ subject.Config kind.Menu ∷ subject.Config kind.Listing
-    ∷ subject.Site ∷ subject.Login ∷ subject.Logout ∷ subject.Cache ∷ []
+    ∷ subject.Site ∷ subject.Login ∷ subject.Logout ∷ subject.Cache ∷ subject.Comment ∷ []
 
 abbrev Among : List Subject → Subject → Type 0
 Among [] s = ⊥
@@ -38,6 +39,7 @@ among subject.Site = inr (inr (inr (inr (inr (inr (inr (inr (inl refl))))))))
 among subject.Login = inr (inr (inr (inr (inr (inr (inr (inr (inr (inl refl)))))))))
 among subject.Logout = inr (inr (inr (inr (inr (inr (inr (inr (inr (inr (inl refl))))))))))
 among subject.Cache = inr (inr (inr (inr (inr (inr (inr (inr (inr (inr (inr (inl refl)))))))))))
+among subject.Comment = inr (inr (inr (inr (inr (inr (inr (inr (inr (inr (inr (inr (inl refl))))))))))))
 
 -- the first edit that a path names by these subjects
 abbrev first_by : (Subject → Option Edit) → List Subject → Option Edit
@@ -73,7 +75,7 @@ chosen edits found only =
 -- ---- the three methods
 
 post_only : (path : List ℕ) → AreBytes path → (s : Subject) (e : Edit) → post_of s path ≡ Some e → about_of post_rows path ≡ Some s
-unfolding matchit_on_literals with_route post_rows
+unfolding matchit_on_literals with_route post_rows seek param_step
 post_only path bytes subject.Node e = found_as (codes "/node") path post_rows subject.Node edit.CreateNode e refl
 post_only path bytes subject.Term e = found_as (codes "/taxonomy/term") path post_rows subject.Term edit.CreateTerm e refl
 post_only path bytes subject.User e = found_as (codes "/user") path post_rows subject.User edit.CreateUser e refl
@@ -86,6 +88,7 @@ post_only path bytes subject.Site e = found_as (codes "/config/site") path post_
 post_only path bytes subject.Login e = found_as (codes "/user/login") path post_rows subject.Login edit.Login e refl
 post_only path bytes subject.Logout e = found_as (codes "/user/logout") path post_rows subject.Logout edit.Logout e refl
 post_only path bytes subject.Cache e = found_as (codes "/cache/rebuild") path post_rows subject.Cache edit.Rebuild e refl
+post_only path bytes subject.Comment e = found_between (codes "/node/") (codes "comment") path post_rows _ edit.CreateComment id_of e refl refl refl bytes
 
 patch_only : (path : List ℕ) → AreBytes path → (s : Subject) (e : Edit) → patch_of s path ≡ Some e → about_of patch_rows path ≡ Some s
 unfolding matchit_on_literals with_route patch_rows
@@ -97,6 +100,7 @@ patch_only path bytes subject.Site e = λ h. absurd cc
 patch_only path bytes subject.Login e = λ h. absurd cc
 patch_only path bytes subject.Logout e = λ h. absurd cc
 patch_only path bytes subject.Cache e = λ h. absurd cc
+patch_only path bytes subject.Comment e = found_by (codes "/comment/") path patch_rows _ edit.ChangeComment id_of e refl refl bytes
 
 delete_only : (path : List ℕ) → AreBytes path → (s : Subject) (e : Edit) → delete_of s path ≡ Some e → about_of delete_rows path ≡ Some s
 unfolding matchit_on_literals with_route delete_rows
@@ -112,6 +116,7 @@ delete_only path bytes subject.Site e = λ h. absurd cc
 delete_only path bytes subject.Login e = λ h. absurd cc
 delete_only path bytes subject.Logout e = λ h. absurd cc
 delete_only path bytes subject.Cache e = λ h. absurd cc
+delete_only path bytes subject.Comment e = found_by (codes "/comment/") path delete_rows _ edit.RemoveComment id_of e refl refl bytes
 
 -- the edit by what is found is the first of the table
 pub post_chosen : (rows : Rows) (path : List ℕ) (found : Option Subject) → rows ≡ post_rows → AreBytes path → found ≡ about_of rows path

@@ -1,8 +1,11 @@
 -- What a router finds for a path that goes along the bytes of a route and ends in the route's parameter.
-use Rattle.std.proofs.Common.{ℕ, List, [], ◌∷◌, ◌++◌, ◌≡◌, ◌≢◌, ◌<◌, ◌∙◌, true, false, refl, sym, subst, cond, length, suc, zero, arith}
+use Rattle.std.proofs.Common.{ℕ, List, [], ◌∷◌, ◌++◌, ◌≡◌, ◌≢◌, ◌<◌, ◌∙◌, true, false, refl, sym, ap, subst, cond, length, suc, zero, arith}
 use Rattle.std.specs.Prelude.{Bool, Option, Some, None, ◌-◌, ◌==◌, ◌&&◌}
 use Rattle.matchit.specs.Rows.{RowsOf, param_token, catch_all_token}
-use Rattle.matchit.specs.Seek.{seek, first, step, or_else, param_step, has_slash, own}
+use Rattle.matchit.specs.Seek.{seek, first, step, or_else, param_step, has_slash, segment, cuts, own}
+use Rattle.std.proofs.lemmas.Bool.{lt-ltb}
+use Rattle.std.proofs.lemmas.List.{length-append}
+use Rattle.std.proofs.Math.Seq.{drop-append_seam}
 use native.Mathlib.Numerals.{unary_clauses}
 
 neq_false : (a b : ℕ) → a ≢ b → (a == b) ≡ false
@@ -11,6 +14,22 @@ neq_false a b h = grind arith
 both : (a b : Bool) → (a && b) ≡ true → (a ≡ true) × (b ≡ true)
 both true b h = (refl, h)
 both false b h = absurd cc
+
+-- a text without a slash is a segment with the slash that follows it
+segment_then : (text tail : List ℕ) → has_slash text ≡ false → segment (text ++ (47 ∷ tail)) ≡ text ++ (47 ∷ [])
+segment_then [] tail whole = refl
+segment_then (b ∷ text) tail whole =
+    elim (b == 47) as (λ x. cond x true (has_slash text) ≡ false → cond x (b ∷ []) (b ∷ segment (text ++ (47 ∷ tail))) ≡ b ∷ (text ++ (47 ∷ []))) [
+      | true ↦ λ h. absurd cc
+      | false ↦ λ h. ap (λ (t : List ℕ). b ∷ t) (segment_then text tail h)
+    ] whole
+
+length_with : (text : List ℕ) → length (text ++ (47 ∷ [])) - 1 ≡ length text
+length_with text = rw (length-append text (47 ∷ [])) (omega arith)
+
+cuts_slash : (text : List ℕ) → 0 < length text → cuts (text ++ (47 ∷ [])) (47 ∷ []) ≡ true
+cuts_slash text some =
+    rw (length_with text, drop-append_seam text (47 ∷ [])) (ap (λ b. b && true) (lt-ltb 1 (length (text ++ (47 ∷ []))) (rw (length-append text (47 ∷ [])) (omega arith))))
 
 module _ {K : Type 0} where
   param_none : (path : List ℕ) → (param_step {K = K} [] path).1 ≡ []
@@ -84,3 +103,32 @@ module _ {K : Type 0} where
   param_found front rows key b rest plain alone byte whole =
       front_read front rows (b ∷ rest) plain
       ∙ subst (λ (left : RowsOf K). seek 0 left (b ∷ rest) ≡ Some key) (sym alone) (param_read key b rest byte whole)
+
+  -- what follows a segment is sought where the segment ends
+  seek_on : (rows : RowsOf K) (text path : List ℕ) → seek (length text) rows (text ++ path) ≡ seek 0 rows path
+  unfolding seek
+  seek_on rows [] path = refl
+  seek_on rows (b ∷ text) path = seek_on rows text path
+
+  -- a parameter before a slash takes the segment without the slash
+  cut_at : (key : K) (text tail : List ℕ) → 0 < length text → has_slash text ≡ false
+      → param_step ((47 ∷ tail, key) ∷ []) (text ++ (47 ∷ tail)) ≡ (length text, (47 ∷ tail, key) ∷ [])
+  unfolding param_step
+  cut_at key text tail some whole =
+      rw (segment_then text tail whole, cuts_slash text some, length_with text) refl
+
+  then_read : (key : K) (b : ℕ) (rest tail : List ℕ) → b < 256 → has_slash (b ∷ rest) ≡ false
+      → seek 0 ((param_token ∷ 47 ∷ tail, key) ∷ []) ((b ∷ rest) ++ (47 ∷ tail)) ≡ seek 0 ((47 ∷ tail, key) ∷ []) (47 ∷ tail)
+  unfolding seek param_step
+  then_read key b rest tail byte whole =
+      rw (neq_false 256 b (λ e. absurd (omega arith)), seek_none 0 (rest ++ (47 ∷ tail)), cut_at key (b ∷ rest) tail (omega arith) whole)
+      (or_none _ ∙ simp unary_clauses (seek_on ((47 ∷ tail, key) ∷ []) rest (47 ∷ tail)))
+
+  -- the route that goes on with a slash after its parameter, alone after these bytes
+  pub between_found : (front : List ℕ) (rows : RowsOf K) (key : K) (b : ℕ) (rest tail : List ℕ)
+      → is_plain front rows ≡ true → after_bytes front rows ≡ (param_token ∷ 47 ∷ tail, key) ∷ [] → b < 256 → has_slash (b ∷ rest) ≡ false
+      → seek 0 ((47 ∷ tail, key) ∷ []) (47 ∷ tail) ≡ Some key
+      → first rows (front ++ ((b ∷ rest) ++ (47 ∷ tail))) ≡ Some key
+  between_found front rows key b rest tail plain alone byte whole ends =
+      front_read front rows ((b ∷ rest) ++ (47 ∷ tail)) plain
+      ∙ subst (λ (left : RowsOf K). seek 0 left ((b ∷ rest) ++ (47 ∷ tail)) ≡ Some key) (sym alone) (then_read key b rest tail byte whole ∙ ends)

@@ -1,20 +1,21 @@
 -- A path that has the form of a route is about what the route says.
-use Rattle.std.proofs.Common.{ℕ, List, [], ◌∷◌, ◌++◌, ◌≡◌, ◌<◌, ◌∙◌, true, false, refl, sym, subst, ap, cond, length, drop, get_or, suc, arith, Fits, w8}
-use Rattle.std.specs.Prelude.{Bool, Some, None, ◌==◌, ◌&&◌, ◌||◌, not, nat_eq, nat_le, if◌then◌else◌}
+use Rattle.std.proofs.Common.{ℕ, List, [], ◌∷◌, ◌++◌, ◌≡◌, ◌<◌, ◌∙◌, true, false, refl, sym, subst, ap, cond, length, take, drop, get_or, suc, arith, Fits, w8}
+use Rattle.std.specs.Prelude.{Bool, Some, None, ◌-◌, ◌==◌, ◌&&◌, ◌||◌, not, nat_eq, nat_le, if◌then◌else◌}
 use Rattle.std.specs.List.{list_any, starts_with}
 use Rattle.std.specs.Option.{option_map}
 use Rattle.std.specs.Str.{bytes_eq}
 use Rattle.std.proofs.lemmas.Bool.Decides.{Decides-eqb}
+use Rattle.std.proofs.lemmas.List.{take-append-drop, append_assoc}
 use Rattle.std.proofs.lemmas.Slice.Eq.{bytes_eq-Decides, starts_is}
 use Rattle.matchit.specs.Rows.{param_token}
 use Rattle.matchit.specs.Router.{RouteOf}
-use Rattle.matchit.specs.Seek.{has_slash}
+use Rattle.matchit.specs.Seek.{has_slash, seek}
 use Rattle.content_rows.specs.Kinds.{is_slash}
 use Rattle.edit_paths.specs.declared.edit.Edit.{Edit}
 use Rattle.edit_paths.specs.declared.paths.Subject.{Subject}
-use Rattle.edit_paths.specs.Paired.{is_segment, segment_after, fixed}
+use Rattle.edit_paths.specs.Paired.{is_segment, segment_after, segment_between, fixed}
 use Rattle.edit_paths.specs.Routes.{Rows, about_of}
-use Rattle.edit_paths.proofs.Found.{after_bytes, is_plain, param_found}
+use Rattle.edit_paths.proofs.Found.{after_bytes, is_plain, param_found, between_found}
 
 -- each element of a list is a byte
 abbrev pub AreBytes : List ℕ → Type 0
@@ -82,6 +83,41 @@ pub found_by : {T : Type 0} (front path : List ℕ) (rows : Rows) (route : Route
 found_by front path rows route make read named plain alone bytes =
     elim (segment_after front path) as (λ o. segment_after front path ≡ o → option_map make (option_map read o) ≡ Some named → about_of rows path ≡ Some route.value) [
       | Some segment ↦ λ is h. found_joined front path segment rows route plain alone bytes (joined front path segment is)
+      | None ↦ λ is h. absurd cc
+    ] refl
+
+-- a front, the segment that follows it and an end are the path
+between : (front end path segment : List ℕ) → segment_between front end path ≡ Some segment
+    → (path ≡ front ++ (segment ++ end)) × (is_segment segment ≡ true)
+between front end path segment h =
+    let cut = length path - length end in
+    elim (bytes_eq (drop cut path) end) as (λ b. bytes_eq (drop cut path) end ≡ b → (if b then segment_after front (take cut path) else None) ≡ Some segment → (path ≡ front ++ (segment ++ end)) × (is_segment segment ≡ true)) [
+      | true ↦ λ is here.
+          let start = joined front (take cut path) segment here in (
+            sym (take-append-drop cut path) ∙ ap (λ (t : List ℕ). t ++ drop cut path) start.path_is ∙ ap (λ (t : List ℕ). front ++ segment ++ t) ((bytes_eq-Decides (drop cut path) end).0 is) ∙ append_assoc front segment end,
+            start.fits,
+          )
+      | false ↦ λ is here. absurd cc
+    ] refl h
+
+found_then : (front segment tail : List ℕ) (rows : Rows) (route : RouteOf Subject)
+    → is_plain front rows ≡ true → after_bytes front rows ≡ (param_token ∷ 47 ∷ tail, route) ∷ [] → seek 0 ((47 ∷ tail, route) ∷ []) (47 ∷ tail) ≡ Some route
+    → AreBytes (front ++ (segment ++ (47 ∷ tail))) → is_segment segment ≡ true
+    → about_of rows (front ++ (segment ++ (47 ∷ tail))) ≡ Some route.value
+found_then front [] tail rows route plain alone ends bytes fits = absurd cc
+found_then front (b ∷ rest) tail rows route plain alone ends bytes fits =
+    ap (option_map (λ r. r.value)) (between_found front rows route b rest tail plain alone (byte_after front b (rest ++ (47 ∷ tail)) bytes) (whole (b ∷ rest) fits) ends)
+
+-- a path that names an edit by what stands between a front and an end that begins with a slash
+pub found_between : {T : Type 0} (front tail path : List ℕ) (rows : Rows) (route : RouteOf Subject) (make : T → Edit) (read : List ℕ → T) (named : Edit)
+    → is_plain front rows ≡ true → after_bytes front rows ≡ (param_token ∷ 47 ∷ tail, route) ∷ [] → seek 0 ((47 ∷ tail, route) ∷ []) (47 ∷ tail) ≡ Some route
+    → AreBytes path → option_map make (option_map read (segment_between front (47 ∷ tail) path)) ≡ Some named → about_of rows path ≡ Some route.value
+found_between front tail path rows route make read named plain alone ends bytes =
+    elim (segment_between front (47 ∷ tail) path) as (λ o. segment_between front (47 ∷ tail) path ≡ o → option_map make (option_map read o) ≡ Some named → about_of rows path ≡ Some route.value) [
+      | Some segment ↦ λ is h.
+          let (path_is, fits) = between front (47 ∷ tail) path segment is in
+          subst (λ (p : List ℕ). about_of rows p ≡ Some route.value) (sym path_is)
+          (found_then front segment tail rows route plain alone ends (subst AreBytes path_is bytes) fits)
       | None ↦ λ is h. absurd cc
     ] refl
 

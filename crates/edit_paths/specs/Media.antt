@@ -23,6 +23,9 @@ reads_of edit.SetSite = reads.Json
 reads_of edit.Login = reads.Form
 reads_of edit.Logout = reads.Nothing
 reads_of edit.Rebuild = reads.Nothing
+reads_of (edit.CreateComment id) = reads.Json
+reads_of (edit.ChangeComment id) = reads.Json
+reads_of (edit.RemoveComment id) = reads.Nothing
 
 unfoldable pub json_type : List ℕ
 json_type = codes "application/json"

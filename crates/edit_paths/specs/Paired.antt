@@ -1,5 +1,5 @@
 -- Which edit a method and a path name. Methods are exact, in their case too (RFC 9110, section 9.1).
-use Rattle.std.specs.Prelude.{ℕ, List, [], ◌∷◌, Option, Some, None, Bool, ◌&&◌, not, nat_eq, nat_le, length, drop, codes, if◌then◌else◌}
+use Rattle.std.specs.Prelude.{ℕ, List, [], ◌∷◌, Option, Some, None, Bool, ◌&&◌, not, nat_eq, nat_le, length, ◌-◌, take, drop, codes, if◌then◌else◌}
 use Rattle.std.specs.List.{list_any, starts_with}
 use Rattle.std.specs.Option.{option_map, option_or}
 use Rattle.std.specs.Str.{bytes_eq, is_utf8}
@@ -20,6 +20,12 @@ segment_after front path =
     let rest = drop (length front) path in
     if starts_with nat_eq path front && is_segment rest then Some rest else None
 
+-- the segment that stands between a front and an end
+abbrev pub segment_between : List ℕ → List ℕ → List ℕ → Option (List ℕ)
+segment_between front end path =
+    let cut = length path - length end in
+    if bytes_eq (drop cut path) end then segment_after front (take cut path) else None
+
 -- the machine name that a segment is, if it is one
 abbrev pub name_of : List ℕ → Option (List ℕ)
 name_of segment = if is_name segment then Some segment else None
@@ -33,6 +39,10 @@ fixed text named path = if bytes_eq path text then Some named else None
 -- this front and a segment, for what has the id that the segment writes, if it writes one
 abbrev pub by_id : List ℕ → (Option ℕ → Edit) → List ℕ → Option Edit
 by_id front make path = option_map make (option_map id_of (segment_after front path))
+
+-- this front, a segment and this end, for what has the id that the segment writes, if it writes one
+abbrev pub by_id_then : List ℕ → List ℕ → (Option ℕ → Edit) → List ℕ → Option Edit
+by_id_then front end make path = option_map make (option_map id_of (segment_between front end path))
 
 -- this front and a segment, for what has the name that the segment is, if it is one
 abbrev pub by_name : List ℕ → (Option (List ℕ) → Edit) → List ℕ → Option Edit
@@ -55,6 +65,7 @@ posts =
     ∷ fixed (codes "/user/login") edit.Login
     ∷ fixed (codes "/user/logout") edit.Logout
     ∷ fixed (codes "/cache/rebuild") edit.Rebuild
+    ∷ by_id_then (codes "/node/") (codes "/comment") edit.CreateComment
     ∷ []
 
 -- PATCH
@@ -63,6 +74,7 @@ patches =
     by_id (codes "/node/") edit.ChangeNode
     ∷ by_id (codes "/taxonomy/term/") edit.ChangeTerm
     ∷ by_id (codes "/user/") edit.ChangeUser
+    ∷ by_id (codes "/comment/") edit.ChangeComment
     ∷ []
 
 -- DELETE
@@ -75,6 +87,7 @@ deletes =
     ∷ by_name (codes "/config/block/") (edit.Remove kind.Block)
     ∷ by_name (codes "/config/menu/") (edit.Remove kind.Menu)
     ∷ by_name (codes "/config/listing/") (edit.Remove kind.Listing)
+    ∷ by_id (codes "/comment/") edit.RemoveComment
     ∷ []
 
 -- the edit of the first of these forms that a path has; no path has two forms of one method

@@ -13,7 +13,7 @@ use Rattle.edit_paths.specs.declared.edit.Edit.{Edit}
 use Rattle.edit_paths.specs.declared.edit.Edit.TheVariants as edit
 use Rattle.edit_paths.specs.declared.paths.Subject.{Subject}
 use Rattle.edit_paths.specs.declared.paths.Subject.TheVariants as subject
-use Rattle.edit_paths.specs.Paired.{fixed, by_id, by_name}
+use Rattle.edit_paths.specs.Paired.{fixed, by_id, by_id_then, by_name}
 
 abbrev pub Rows : Type 0
 Rows = RowsOf (RouteOf Subject)
@@ -37,26 +37,29 @@ with_config rows =
 
 unfoldable pub post_rows : Rows
 post_rows =
-    with_route (codes "/cache/rebuild") subject.Cache
+    with_route (codes "/node/{n}/comment") subject.Comment
+    (with_route (codes "/cache/rebuild") subject.Cache
     (with_route (codes "/user/logout") subject.Logout
     (with_route (codes "/user/login") subject.Login
     (with_route (codes "/config/site") subject.Site
     (with_config
     (with_route (codes "/user") subject.User
     (with_route (codes "/taxonomy/term") subject.Term
-    (with_route (codes "/node") subject.Node [])))))))
+    (with_route (codes "/node") subject.Node []))))))))
 
 unfoldable pub patch_rows : Rows
 patch_rows =
-    with_route (codes "/user/{u}") subject.User
+    with_route (codes "/comment/{c}") subject.Comment
+    (with_route (codes "/user/{u}") subject.User
     (with_route (codes "/taxonomy/term/{t}") subject.Term
-    (with_route (codes "/node/{n}") subject.Node []))
+    (with_route (codes "/node/{n}") subject.Node [])))
 
 unfoldable pub delete_rows : Rows
 delete_rows =
-    with_config
+    with_route (codes "/comment/{c}") subject.Comment
+    (with_config
     (with_route (codes "/taxonomy/term/{t}") subject.Term
-    (with_route (codes "/node/{n}") subject.Node []))
+    (with_route (codes "/node/{n}") subject.Node [])))
 
 -- what a router says that a path is about
 abbrev pub about_of : Rows → List ℕ → Option Subject
@@ -84,6 +87,7 @@ post_of subject.Site = fixed (codes "/config/site") edit.SetSite
 post_of subject.Login = fixed (codes "/user/login") edit.Login
 post_of subject.Logout = fixed (codes "/user/logout") edit.Logout
 post_of subject.Cache = fixed (codes "/cache/rebuild") edit.Rebuild
+post_of subject.Comment = by_id_then (codes "/node/") (codes "/comment") edit.CreateComment
 
 -- the edit of a PATCH of a path about this
 abbrev pub patch_of : Subject → List ℕ → Option Edit
@@ -95,6 +99,7 @@ patch_of subject.Site = no_edit
 patch_of subject.Login = no_edit
 patch_of subject.Logout = no_edit
 patch_of subject.Cache = no_edit
+patch_of subject.Comment = by_id (codes "/comment/") edit.ChangeComment
 
 -- the edit of a DELETE of a path about this
 abbrev pub delete_of : Subject → List ℕ → Option Edit
@@ -106,3 +111,4 @@ delete_of subject.Site = no_edit
 delete_of subject.Login = no_edit
 delete_of subject.Logout = no_edit
 delete_of subject.Cache = no_edit
+delete_of subject.Comment = by_id (codes "/comment/") edit.RemoveComment

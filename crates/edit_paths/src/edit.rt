@@ -35,4 +35,10 @@ pub enum Edit {
     Logout,
     /// To let every kept piece of a page be made again.
     Rebuild,
+    /// To comment on the node of an id.
+    CreateComment(Option<u32>),
+    /// To change the comment of an id.
+    ChangeComment(Option<u32>),
+    /// To remove the comment of an id.
+    RemoveComment(Option<u32>),
 }

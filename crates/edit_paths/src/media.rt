@@ -29,11 +29,14 @@ pub fn reads_of(edit: &Edit) -> Reads
         | Edit::CreateUser
         | Edit::ChangeUser(_)
         | Edit::Set(_, _)
-        | Edit::SetSite => Reads::Json,
+        | Edit::SetSite
+        | Edit::CreateComment(_)
+        | Edit::ChangeComment(_) => Reads::Json,
         Edit::Login => Reads::Form,
         Edit::RemoveNode(_)
         | Edit::RemoveTerm(_)
         | Edit::Remove(_, _)
+        | Edit::RemoveComment(_)
         | Edit::Logout
         | Edit::Rebuild => Reads::Nothing,
     }

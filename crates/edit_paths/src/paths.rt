@@ -5,7 +5,7 @@ ghost use Rattle.std.specs.Option.{option_map};
 ghost use Rattle.content_rows.specs.IdText.{id_of};
 ghost use Rattle.content_rows.specs.Kinds.{is_slash};
 ghost use Rattle.edit_paths.specs.declared.paths.Subject.TheVariants as subject;
-ghost use Rattle.edit_paths.specs.Paired.{is_segment, segment_after, name_of, fixed, posts, patches, deletes, first_edit, forms_of, paired};
+ghost use Rattle.edit_paths.specs.Paired.{is_segment, segment_after, segment_between, name_of, fixed, posts, patches, deletes, first_edit, forms_of, paired};
 ghost use Rattle.edit_paths.specs.Routes.{post_rows, patch_rows, delete_rows, with_config, with_route, about_of, config_front, post_of, patch_of, delete_of};
 
 use crate::edit::Edit;
@@ -35,6 +35,8 @@ enum Subject {
     Logout,
     /// What is kept of pages.
     Cache,
+    /// Comments: those on a node, or one by its id.
+    Comment,
 }
 
 /// The paths of edits, by method. It is made once for many requests. There is only one such value, so contracts see nothing
@@ -155,6 +157,7 @@ fn post_of(about: Subject, path: &[u8]) -> Option<Edit>
         Subject::Login => fixed(b"/user/login", Edit::Login, path),
         Subject::Logout => fixed(b"/user/logout", Edit::Logout, path),
         Subject::Cache => fixed(b"/cache/rebuild", Edit::Rebuild, path),
+        Subject::Comment => Some(Edit::CreateComment(id_between(b"/node/", b"/comment", path)?)),
     }
 }
 
@@ -166,6 +169,7 @@ fn patch_of(about: Subject, path: &[u8]) -> Option<Edit>
         Subject::Node => Some(Edit::ChangeNode(id_in(b"/node/", path)?)),
         Subject::Term => Some(Edit::ChangeTerm(id_in(b"/taxonomy/term/", path)?)),
         Subject::User => Some(Edit::ChangeUser(id_in(b"/user/", path)?)),
+        Subject::Comment => Some(Edit::ChangeComment(id_in(b"/comment/", path)?)),
         _ => None,
     }
 }
@@ -178,6 +182,7 @@ fn delete_of(about: Subject, path: &[u8]) -> Option<Edit>
         Subject::Node => Some(Edit::RemoveNode(id_in(b"/node/", path)?)),
         Subject::Term => Some(Edit::RemoveTerm(id_in(b"/taxonomy/term/", path)?)),
         Subject::Config(kind) => Some(Edit::Remove(kind, name_in(config_front(kind), path)?)),
+        Subject::Comment => Some(Edit::RemoveComment(id_in(b"/comment/", path)?)),
         _ => None,
     }
 }
@@ -209,6 +214,13 @@ fn id_in(front: &[u8], path: &[u8]) -> Option<Option<u32>>
     Some(id_of(segment_after(front, path)?))
 }
 
+/// The id that the segment between a front and an end is, if there is that segment.
+fn id_between(front: &[u8], end: &[u8], path: &[u8]) -> Option<Option<u32>>
+    ensures { result ≡ option_map id_of (segment_between front.now end.now path.now) }
+{
+    Some(id_of(segment_between(front, end, path)?))
+}
+
 /// The name that the segment after a front is, if there is that segment.
 fn name_in(front: &[u8], path: &[u8]) -> Option<Option<Name>>
     ensures { result ≡ option_map name_of (segment_after front.now path.now) }
@@ -232,6 +244,18 @@ fn segment_after<'p>(front: &[u8], path: &'p [u8]) -> Option<&'p [u8]>
 {
     if path.starts_with(front) {
         segment_in(&path[front.len()..])
+    } else {
+        None
+    }
+}
+
+/// The segment that stands between a front and an end.
+fn segment_between<'p>(front: &[u8], end: &[u8], path: &'p [u8]) -> Option<&'p [u8]>
+    ensures { option_map (λ s. s.now) result ≡ segment_between front.now end.now path.now }
+{
+    let cut = path.len().saturating_sub(end.len());
+    if &path[cut..] == end {
+        segment_after(front, &path[..cut])
     } else {
         None
     }
@@ -284,6 +308,7 @@ fn add_posts(router: &mut Router<Subject>) -> Result<(), AllocError>
     add_content(router)?;
     add_config(router)?;
     add_actions(router)?;
+    add_route(router, "/node/{n}/comment", Subject::Comment)?;
     Ok(())
 }
 
@@ -324,6 +349,7 @@ fn add_patches(router: &mut Router<Subject>) -> Result<(), AllocError>
     add_route(router, "/node/{n}", Subject::Node)?;
     add_route(router, "/taxonomy/term/{t}", Subject::Term)?;
     add_route(router, "/user/{u}", Subject::User)?;
+    add_route(router, "/comment/{c}", Subject::Comment)?;
     Ok(())
 }
 
@@ -336,6 +362,7 @@ fn add_deletes(router: &mut Router<Subject>) -> Result<(), AllocError>
     add_route(router, "/node/{n}", Subject::Node)?;
     add_route(router, "/taxonomy/term/{t}", Subject::Term)?;
     add_config(router)?;
+    add_route(router, "/comment/{c}", Subject::Comment)?;
     Ok(())
 }
 

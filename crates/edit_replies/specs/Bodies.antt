@@ -69,6 +69,9 @@ tid_start = codes "{\"tid\":"
 abbrev pub uid_start : List ℕ
 uid_start = codes "{\"uid\":"
 
+abbrev pub cid_start : List ℕ
+cid_start = codes "{\"cid\":"
+
 abbrev pub object_end : List ℕ
 object_end = codes "}"
 
@@ -81,6 +84,7 @@ done_body (done.NodeCreated nid) = nid_start ++ decimal nid ++ vid_between ++ de
 done_body (done.NodeChanged nid vid) = nid_start ++ decimal nid ++ vid_between ++ decimal vid ++ object_end
 done_body (done.TermCreated tid) = tid_start ++ decimal tid ++ object_end
 done_body (done.UserCreated uid) = uid_start ++ decimal uid ++ object_end
+done_body (done.CommentCreated cid) = cid_start ++ decimal cid ++ object_end
 done_body done.Saved = ok_body
 done_body (done.LoggedIn uid token) = []
 done_body done.LoggedOut = ok_body
@@ -90,6 +94,7 @@ done_status (done.NodeCreated nid) = 201
 done_status (done.NodeChanged nid vid) = 200
 done_status (done.TermCreated tid) = 201
 done_status (done.UserCreated uid) = 201
+done_status (done.CommentCreated cid) = 201
 done_status done.Saved = 200
 done_status (done.LoggedIn uid token) = 303
 done_status done.LoggedOut = 200

@@ -45,6 +45,7 @@ fn done_body(done: &Done) -> ArrayVec<u8, 64>
         Done::NodeChanged(nid, vid) => put_node(out, *nid, *vid),
         Done::TermCreated(tid) => put_id(out, b"{\"tid\":", *tid),
         Done::UserCreated(uid) => put_id(out, b"{\"uid\":", *uid),
+        Done::CommentCreated(cid) => put_id(out, b"{\"cid\":", *cid),
         Done::Saved | Done::LoggedOut => put(out, b"{\"ok\":true}"),
         Done::LoggedIn(..) => {}
     }
@@ -58,9 +59,10 @@ fn status_line(done: &Done) -> &'static [u8]
     ensures short { length result.now ≤ 24 }
 {
     match done {
-        Done::NodeCreated(_) | Done::TermCreated(_) | Done::UserCreated(_) => {
-            b"HTTP/1.1 201 Created\r\n"
-        }
+        Done::NodeCreated(_)
+        | Done::TermCreated(_)
+        | Done::UserCreated(_)
+        | Done::CommentCreated(_) => b"HTTP/1.1 201 Created\r\n",
         Done::NodeChanged(..) | Done::Saved | Done::LoggedOut => b"HTTP/1.1 200 OK\r\n",
         Done::LoggedIn(..) => b"HTTP/1.1 303 See Other\r\n",
     }

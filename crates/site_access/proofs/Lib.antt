@@ -1,5 +1,6 @@
-pub mod SilentPlans
+pub mod CommentPlans
 pub mod NotedNodes
 pub mod PlansDecide
-pub mod WholeResults
 pub mod RoutePlans
+pub mod SilentPlans
+pub mod WholeResults

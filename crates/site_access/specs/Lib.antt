@@ -10,3 +10,4 @@ pub mod Users
 pub mod Routes
 pub mod Noting
 pub mod Viewing
+pub mod Comments

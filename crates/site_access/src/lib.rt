@@ -3,6 +3,7 @@
 
 mod access;
 mod account;
+mod comment;
 mod depends;
 mod field;
 mod laws;
@@ -18,6 +19,10 @@ mod viewing;
 
 pub use access::{create_access, field_access, node_access};
 pub use account::Account;
+pub use comment::{
+    access_comments, administer_comments, comment_access, comment_plan_decides, edit_own_comments,
+    post_comments, skip_comment_approval,
+};
 pub use field::field_in;
 pub use laws::{decisions_are_exact, plans_answer};
 pub use route::{route_access, route_plan_decides};

@@ -8,3 +8,4 @@ pub mod Sessions
 pub mod Verdict
 pub mod Judged
 pub mod Right
+pub mod Comments

@@ -11,7 +11,7 @@ use Rattle.content_rows.specs.declared.row.Node.{Node}
 use Rattle.content_rows.specs.declared.row.NodeType.{NodeType}
 use Rattle.content_state.specs.State.{State}
 use Rattle.indexed_rows.specs.Write.{Write}
-use Rattle.indexed_rows.specs.Rows.{seq_of, type_of, term_of, node_of}
+use Rattle.indexed_rows.specs.Rows.{seq_of, type_of, term_of, node_of, comments_on}
 use Rattle.content_state.specs.declared.ask.Viewer.{Viewer}
 use Rattle.indexed_rows.specs.declared.unique.Unique.TheVariants as unique
 use Rattle.json_keys.specs.declared.checked.Checked.{Checked}
@@ -53,6 +53,7 @@ abbrev pub id_in : Cell → ℕ
 id_in (cell.Node n) = n
 id_in (cell.Term n) = n
 id_in (cell.User n) = n
+id_in (cell.Comment n) = n
 id_in _ = 0
 
 abbrev pub uuid_taken : Option Cell → Option Refusal
@@ -181,10 +182,15 @@ change_node state viewer asked now pass =
 
 -- ---- a node that goes
 
+-- the node goes with all comments on it, whoever may view them
+-- https://api.drupal.org/api/drupal/core%21modules%21comment%21comment.module/function/comment_entity_predelete/10
+abbrev pub remove_writes : List (Cell × Row) → ℕ → List Write
+remove_writes rows nid = removed (cell.Node nid) ∷ map (λ e. removed (cell.Comment e.0)) (comments_on rows nid)
+
 abbrev pub remove_there : State → Viewer → ℕ → ℕ → Decision
 remove_there state viewer pass nid =
     decided (unless_allowed (access_to_node state.rows viewer op.Delete nid) ∷ [])
-    (accepted state (commit_of pass (removed (cell.Node nid) ∷ [])) done.Saved)
+    (accepted state (commit_of pass (remove_writes state.rows nid)) done.Saved)
 
 -- to remove a node: it is there, and the viewer may delete it
 abbrev pub remove_node : State → Viewer → Option ℕ → ℕ → Decision

@@ -6,7 +6,7 @@ use Rattle.std.specs.List.Sorted.{IsStrictlySortedBy}
 use Rattle.std.specs.Option.{ForSome}
 use Rattle.std.specs.Ordering.{nat_cmp}
 use Rattle.std.specs.Cmp.Lexicographic.{slice_cmp}
-use Rattle.content_rows.specs.Kinds.{IsMoment, IsId, is_line, is_text, is_uuid, is_hex, is_path, none_or}
+use Rattle.content_rows.specs.Kinds.{IsMoment, IsId, is_line, is_text, is_comment_body, is_uuid, is_hex, is_path, none_or}
 use Rattle.content_rows.specs.ValidRow.{IsValidRow}
 use Rattle.content_rows.specs.declared.cell.Cell.{Cell}
 use Rattle.content_rows.specs.declared.cell.Cell.TheVariants as cell
@@ -29,6 +29,8 @@ use Rattle.site_commands.specs.declared.body.NewTerm.{NewTerm}
 use Rattle.site_commands.specs.declared.body.TermPatch.{TermPatch}
 use Rattle.site_commands.specs.declared.body.NewUser.{NewUser}
 use Rattle.site_commands.specs.declared.body.UserPatch.{UserPatch}
+use Rattle.site_commands.specs.declared.body.NewComment.{NewComment}
+use Rattle.site_commands.specs.declared.body.CommentPatch.{CommentPatch}
 use Rattle.site_commands.specs.declared.command.Command.{Command}
 use Rattle.site_commands.specs.declared.command.Command.TheVariants as command
 use Rattle.site_commands.specs.declared.command.ConfigKind.{ConfigKind}
@@ -87,6 +89,14 @@ pub record IsRightUserPatch (patch : UserPatch) : Type 0 where
   pub pass : ForSome patch.pass (λ pass. IsTrue (is_line 128 pass))
   pub few_roles : ForSome patch.roles (λ roles. length roles ≤ 32)
 
+pub record IsRightNewComment (new : NewComment) : Type 0 where
+  pub body : IsTrue (is_comment_body new.body)
+  pub parent : ForSome new.parent IsId
+  pub uuid : IsTrue (is_uuid new.uuid)
+
+pub record IsRightCommentPatch (patch : CommentPatch) : Type 0 where
+  pub body : ForSome patch.body (λ body. IsTrue (is_comment_body body))
+
 -- ---- commands
 
 -- what holds of a body that breaks no rule by itself
@@ -118,6 +128,9 @@ IsRight (command.SetSite body) = OfBody (IsValidRow cell.Site) body
 IsRight (command.Login asked) = Unit {0}
 IsRight command.Logout = Unit {0}
 IsRight command.Rebuild = Unit {0}
+IsRight (command.CreateComment asked) = OfBody IsRightNewComment asked.body
+IsRight (command.ChangeComment asked) = OfBody IsRightCommentPatch asked.body
+IsRight (command.RemoveComment asked) = Unit {0}
 
 -- ---- what accepted edits do
 

@@ -11,6 +11,7 @@ use Rattle.site_commands.specs.Terms.{create_term, change_term, remove_term}
 use Rattle.site_commands.specs.Users.{create_user, change_user}
 use Rattle.site_commands.specs.Config.{set_config, remove_config, set_site}
 use Rattle.site_commands.specs.Sessions.{log_in, log_out, rebuild}
+use Rattle.site_commands.specs.Comments.{create_comment, change_comment, remove_comment}
 use Rattle.site_commands.specs.declared.command.Command.{Command}
 use Rattle.site_commands.specs.declared.command.Command.TheVariants as command
 
@@ -29,3 +30,6 @@ verdict state viewer (command.SetSite body) now pass = set_site state viewer bod
 verdict state viewer (command.Login asked) now pass = log_in state asked now pass
 verdict state viewer command.Logout now pass = log_out state viewer pass
 verdict state viewer command.Rebuild now pass = rebuild state viewer pass
+verdict state viewer (command.CreateComment asked) now pass = create_comment state viewer asked now pass
+verdict state viewer (command.ChangeComment asked) now pass = change_comment state viewer asked pass
+verdict state viewer (command.RemoveComment asked) now pass = remove_comment state viewer asked pass

@@ -18,6 +18,8 @@ pub enum Done {
     TermCreated(u32),
     /// It made the user of this id.
     UserCreated(u32),
+    /// It made the comment of this id.
+    CommentCreated(u32),
     /// It did what was asked, and there is nothing to tell.
     Saved,
     /// It logged the user of this id in, with a session of this token.

@@ -215,3 +215,37 @@ impl Drop for UserPatch {
         } = self;
     }
 }
+
+/// A comment to be made.
+pub struct NewComment {
+    /// What it says.
+    pub body: Text,
+    /// The comment that it replies to, if any.
+    pub parent: Option<u32>,
+    /// Its universal id.
+    pub uuid: Text,
+}
+
+impl Drop for NewComment {
+    fn drop(self) {
+        let NewComment {
+            body: _,
+            parent: _,
+            uuid: _,
+        } = self;
+    }
+}
+
+/// What is to change of a comment; what isn't said stays.
+pub struct CommentPatch {
+    /// What it says.
+    pub body: Option<Text>,
+    /// Whether it is published.
+    pub status: Option<bool>,
+}
+
+impl Drop for CommentPatch {
+    fn drop(self) {
+        let CommentPatch { body: _, status: _ } = self;
+    }
+}

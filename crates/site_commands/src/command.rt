@@ -1,6 +1,8 @@
 //! What an edit asks for.
 
-use crate::body::{NewNode, NewTerm, NewUser, NodePatch, TermPatch, UserPatch};
+use crate::body::{
+    CommentPatch, NewComment, NewNode, NewTerm, NewUser, NodePatch, TermPatch, UserPatch,
+};
 use cacheability::Name;
 use content_rows::{Items, Row, Text};
 use json_keys::Checked;
@@ -90,6 +92,26 @@ pub struct UserChange {
     pub body: Checked<UserPatch>,
 }
 
+/// To comment on a node.
+#[derive(Drop)]
+pub struct CommentCreation {
+    /// The node's id; none where the path has none.
+    pub nid: Option<u32>,
+    /// What the body says.
+    pub body: Checked<NewComment>,
+}
+
+/// To change a comment.
+#[derive(Drop)]
+pub struct CommentChange {
+    /// Its id; none where the path has none.
+    pub cid: Option<u32>,
+    /// Whether the key `status`, which needs a permission of its own, stands in the body, whatever its value.
+    pub status: bool,
+    /// What the body says.
+    pub body: Checked<CommentPatch>,
+}
+
 /// What is configured by whole rows, each with a name.
 /// <https://www.drupal.org/docs/drupal-apis/configuration-api/configuration-entity-overview>
 #[derive(Clone, Copy, PartialEq, Eq)]
@@ -126,7 +148,7 @@ pub enum Command {
     CreateNode(NodeCreation),
     /// To change a node.
     ChangeNode(NodeChange),
-    /// To remove the node of an id.
+    /// To remove the node of an id, with all comments on it.
     RemoveNode(Option<u32>),
     /// To make a term.
     CreateTerm(Checked<NewTerm>),
@@ -150,4 +172,10 @@ pub enum Command {
     Logout,
     /// To let every kept piece of a page be made again.
     Rebuild,
+    /// To comment on a node.
+    CreateComment(CommentCreation),
+    /// To change a comment.
+    ChangeComment(CommentChange),
+    /// To remove the comment of an id, with all replies below it.
+    RemoveComment(Option<u32>),
 }

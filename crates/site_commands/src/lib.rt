@@ -6,8 +6,11 @@ mod body;
 mod command;
 
 pub use answer::{Answer, Done, Refusal, Verdict};
-pub use body::{FieldChange, NewNode, NewTerm, NewUser, NodePatch, TermPatch, UserPatch};
+pub use body::{
+    CommentPatch, FieldChange, NewComment, NewNode, NewTerm, NewUser, NodePatch, TermPatch,
+    UserPatch,
+};
 pub use command::{
-    Command, ConfigKind, Credentials, NodeChange, NodeCreation, NodeKeys, TermChange, UserChange,
-    UserCreation, UserKeys,
+    Command, CommentChange, CommentCreation, ConfigKind, Credentials, NodeChange, NodeCreation,
+    NodeKeys, TermChange, UserChange, UserCreation, UserKeys,
 };
