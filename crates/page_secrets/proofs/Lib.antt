@@ -1,7 +1,10 @@
 pub mod Settled
 pub mod Likeness
+pub mod AlikeComments
 pub mod Visits
 pub mod Deciding
+pub mod SameAuthors
+pub mod SameComments
 pub mod SameNodes
 pub mod SameListings
 pub mod SameBlocks

@@ -1,7 +1,7 @@
 -- Rows in the order of their cells that are alike at each cell are alike one after the other: so they have the same blocks, the
 -- same cell has a path, and the nodes of a listing that the viewer may view are placed alike.
 use Rattle.std.proofs.Common.{◌≡◌, ◌∙◌, ℕ, List, [], ◌∷◌, true, false, refl, sym, ap, subst, cond, map, inl, inr}
-use Rattle.std.specs.Prelude.{Bool, ◌&&◌, Option, Some, None, option_map}
+use Rattle.std.specs.Prelude.{Bool, ◌&&◌, ◌==◌, ◌⊎◌, Option, Some, None, option_map}
 use Rattle.std.specs.List.{AllByRecursion, filter, filter_map, cons_option, find}
 use Rattle.std.specs.Map.{keys_of}
 use Rattle.std.specs.Ordering.{is_eq, ordering_reverse}
@@ -18,15 +18,19 @@ use Rattle.content_rows.specs.declared.row.Row.TheVariants as row
 use Rattle.content_rows.specs.declared.row.Node.{Node}
 use Rattle.content_rows.specs.declared.row.Listing.{Listing}
 use Rattle.content_rows.specs.declared.row.Term.{Term}
+use Rattle.content_rows.specs.declared.row.Comment.{Comment}
 use Rattle.content_state.specs.declared.ask.Viewer.{Viewer}
 use Rattle.indexed_rows.specs.declared.unique.Unique.TheVariants as unique
-use Rattle.indexed_rows.specs.Rows.{row_at, node_entry, term_entry, block_entry, nodes_of, terms_of, blocks_of, InOrder}
+use Rattle.indexed_rows.specs.Rows.{row_at, node_entry, term_entry, block_entry, comment_entry, nodes_of, terms_of, blocks_of, comments_of, comments_on, InOrder}
 use Rattle.content_state.specs.Route.{cell_with}
 use Rattle.indexed_rows.specs.Texts.{is_text, text_of}
 use Rattle.site_access.specs.Access.{access_to_node}
 use Rattle.site_lists.specs.Listed.{is_listed, rank_of}
 use Rattle.render_canvas.specs.Decision.{is_allowed}
-use Rattle.page_secrets.specs.Alike.{AreAlikeNodes, with_fields}
+use Rattle.site_comments.specs.declared.reader.CommentReader.{CommentReader}
+use Rattle.site_comments.specs.Viewed.{may_view_comment, reader_of}
+use Rattle.page_secrets.specs.Alike.{AreAlikeNodes, with_fields, with_body}
+use Rattle.page_secrets.proofs.AlikeComments.{IsHiddenComment, AreAlikeComments}
 use Rattle.page_secrets.proofs.Likeness.{LookAlikeAt}
 
 -- ---- rows in order
@@ -61,12 +65,14 @@ module _ (viewer : Viewer) (rows rows' : List (Cell × Row)) where
   one_alone : (c : Cell) (r : Row) → LookAlikeAt viewer rows rows' c (Some r) None → ⊥
   one_alone c r (inl (inl same)) = cc
   one_alone c r (inl (inr nodes)) = let is = nodes.found_too in cc
-  one_alone c r (inr users) = let is = users.found_too in cc
+  one_alone c r (inr (inl users)) = let is = users.found_too in cc
+  one_alone c r (inr (inr comments)) = let is = comments.found_too in cc
 
   other_alone : (c : Cell) (r : Row) → LookAlikeAt viewer rows rows' c None (Some r) → ⊥
   other_alone c r (inl (inl same)) = cc
   other_alone c r (inl (inr nodes)) = let is = nodes.found_is in cc
-  other_alone c r (inr users) = let is = users.found_is in cc
+  other_alone c r (inr (inl users)) = let is = users.found_is in cc
+  other_alone c r (inr (inr comments)) = let is = comments.found_is in cc
 
   -- behind the first cell of both
   alike_behind : (x y : Cell × Row) (xs ys : List (Cell × Row)) → InOrder (x ∷ xs) → InOrder (y ∷ ys) → x.0 ≡ y.0
@@ -104,15 +110,17 @@ module _ (viewer : Viewer) (rows rows' : List (Cell × Row)) where
   same_some : {A : Type 0} (x y : A) → Some x ≡ Some y → x ≡ y
   same_some x y e = cc
 
-  -- ---- what neither a node nor a user gives: terms and blocks
+  -- ---- what no node, no user and no comment gives: terms and blocks
 
-  module _ {A : Type 0} (entry : Cell × Row → Option A) (of_node : (n : ℕ) (r : Row) → entry (cell.Node n, r) ≡ None) (of_user : (u : ℕ) (r : Row) → entry (cell.User u, r) ≡ None) where
+  module _ {A : Type 0} (entry : Cell × Row → Option A) (of_node : (n : ℕ) (r : Row) → entry (cell.Node n, r) ≡ None) (of_user : (u : ℕ) (r : Row) → entry (cell.User u, r) ≡ None) (of_comment : (k : ℕ) (r : Row) → entry (cell.Comment k, r) ≡ None) where
     same_entry : (e d : Cell × Row) → e.0 ≡ d.0 → LookAlikeAt viewer rows rows' e.0 (Some e.1) (Some d.1) → entry e ≡ entry d
     same_entry e d is (inl (inl same)) = let r = same_some e.1 d.1 same in λ i. entry (is i, r i)
     same_entry e d is (inl (inr nodes)) =
         ap (λ c. entry (c, e.1)) nodes.cell_is ∙ of_node nodes.n e.1 ∙ sym (ap (λ c. entry (c, d.1)) (sym is ∙ nodes.cell_is) ∙ of_node nodes.n d.1)
-    same_entry e d is (inr users) =
+    same_entry e d is (inr (inl users)) =
         ap (λ c. entry (c, e.1)) users.cell_is ∙ of_user users.u e.1 ∙ sym (ap (λ c. entry (c, d.1)) (sym is ∙ users.cell_is) ∙ of_user users.u d.1)
+    same_entry e d is (inr (inr comments)) =
+        ap (λ c. entry (c, e.1)) comments.cell_is ∙ of_comment comments.k e.1 ∙ sym (ap (λ c. entry (c, d.1)) (sym is ∙ comments.cell_is) ∙ of_comment comments.k d.1)
 
     same_entries : (xs ys : List (Cell × Row)) → AreAlikeLists xs ys → filter_map entry xs ≡ filter_map entry ys
     same_entries [] [] alike = refl
@@ -124,10 +132,10 @@ module _ (viewer : Viewer) (rows rows' : List (Cell × Row)) where
         λ i. cons_option (head i) (tail i)
 
   pub same_blocks : (xs ys : List (Cell × Row)) → AreAlikeLists xs ys → blocks_of xs ≡ blocks_of ys
-  same_blocks = same_entries block_entry (λ n r. refl) (λ u r. refl)
+  same_blocks = same_entries block_entry (λ n r. refl) (λ u r. refl) (λ k r. refl)
 
   pub same_terms : (xs ys : List (Cell × Row)) → AreAlikeLists xs ys → terms_of xs ≡ terms_of ys
-  same_terms = same_entries term_entry (λ n r. refl) (λ u r. refl)
+  same_terms = same_entries term_entry (λ n r. refl) (λ u r. refl) (λ k r. refl)
 
   -- ---- the cell of a path
 
@@ -137,9 +145,12 @@ module _ (viewer : Viewer) (rows rows' : List (Cell × Row)) where
 
   same_path : (c : Cell) (r r' : Row) → LookAlikeAt viewer rows rows' c (Some r) (Some r') → text_of unique.Path r ≡ text_of unique.Path r'
   same_path c r r' (inl (inl same)) = ap (text_of unique.Path) (same_some r r' same)
-  same_path c r r' (inr users) =
+  same_path c r r' (inr (inl users)) =
       ap (text_of unique.Path) (same_some r (row.User users.user) users.found_is)
       ∙ sym (ap (text_of unique.Path) (same_some r' (row.User users.user') users.found_too))
+  same_path c r r' (inr (inr comments)) =
+      ap (text_of unique.Path) (same_some r (row.Comment comments.comment) comments.found_is)
+      ∙ sym (ap (text_of unique.Path) (same_some r' (row.Comment comments.comment') comments.found_too))
   same_path c r r' (inl (inr nodes)) =
       ap (text_of unique.Path) (same_some r (row.Node nodes.node) nodes.found_is)
       ∙ same_node_path nodes.n nodes.node nodes.node' nodes.alike
@@ -203,10 +214,14 @@ module _ (viewer : Viewer) (rows rows' : List (Cell × Row)) where
           let r = same_some e.1 d.1 same in
           let one : node_entry e ≡ node_entry d = λ i. node_entry (is i, r i) in
           one_kept (node_entry e) ∙ ap (λ o. map rank_of (filter keeps' (cons_option o ys))) one
-      entry_kept e d is (inr users) =
+      entry_kept e d is (inr (inl users)) =
           ap (λ c. map rank_of (filter keeps (cons_option (node_entry (c, e.1)) xs))) users.cell_is
           ∙ rest
           ∙ sym (ap (λ c. map rank_of (filter keeps' (cons_option (node_entry (c, d.1)) ys))) (sym is ∙ users.cell_is))
+      entry_kept e d is (inr (inr comments)) =
+          ap (λ c. map rank_of (filter keeps (cons_option (node_entry (c, e.1)) xs))) comments.cell_is
+          ∙ rest
+          ∙ sym (ap (λ c. map rank_of (filter keeps' (cons_option (node_entry (c, d.1)) ys))) (sym is ∙ comments.cell_is))
       entry_kept e d is (inl (inr nodes)) =
           let r = same_some e.1 (row.Node nodes.node) nodes.found_is in
           let r' = same_some d.1 (row.Node nodes.node') nodes.found_too in
@@ -224,3 +239,62 @@ module _ (viewer : Viewer) (rows rows' : List (Cell × Row)) where
     same_ranks (x ∷ xs) [] alike = absurd alike
     same_ranks (x ∷ xs) (y ∷ ys) alike =
         entry_kept (nodes_of xs) (nodes_of ys) (same_ranks xs ys alike.2) x y alike.0 alike.1
+
+  -- ---- the comments of a node
+
+  module _ (n : ℕ) where
+    abbrev reader : CommentReader
+    reader = reader_of rows viewer
+
+    abbrev on_node : ℕ × Comment → Bool
+    on_node e = e.1.node == n
+
+    -- one more comment that is of the node on both or on neither
+    module _ (xs ys : List (ℕ × Comment)) (rest : AreAlikeComments reader (filter on_node xs) (filter on_node ys)) where
+      both_on : (b : Bool) (e d : ℕ × Comment) → (e ≡ d) ⊎ IsHiddenComment reader e d
+          → AreAlikeComments reader (cond b (e ∷ filter on_node xs) (filter on_node xs)) (cond b (d ∷ filter on_node ys) (filter on_node ys))
+      both_on true e d one = (one, rest)
+      both_on false e d one = rest
+
+      one_on : (o : Option (ℕ × Comment)) → AreAlikeComments reader (filter on_node (cons_option o xs)) (filter on_node (cons_option o ys))
+      one_on None = rest
+      one_on (Some e) = both_on (on_node e) e e (inl refl)
+
+      none_on : (o o' : Option (ℕ × Comment)) → o ≡ None → o' ≡ None → AreAlikeComments reader (filter on_node (cons_option o xs)) (filter on_node (cons_option o' ys))
+      none_on o o' none none' =
+          subst (λ p. AreAlikeComments reader (filter on_node (cons_option p xs)) (filter on_node (cons_option o' ys))) (sym none)
+          (subst (λ p. AreAlikeComments reader (filter on_node xs) (filter on_node (cons_option p ys))) (sym none') rest)
+
+      hidden_on : (k : ℕ) (one other : Comment) → other ≡ with_body one other.body → may_view_comment reader one ≡ false
+          → AreAlikeComments reader (filter on_node ((k, one) ∷ xs)) (filter on_node ((k, other) ∷ ys))
+      hidden_on k one other others hidden =
+          subst (λ (o : Comment). AreAlikeComments reader (filter on_node ((k, one) ∷ xs)) (cond (o.node == n) ((k, other) ∷ filter on_node ys) (filter on_node ys))) (sym others)
+          (both_on (one.node == n) (k, one) (k, other) (inr (record { number = refl; others = others; hidden = hidden })))
+
+      entry_on : (e d : Cell × Row) → e.0 ≡ d.0 → LookAlikeAt viewer rows rows' e.0 (Some e.1) (Some d.1)
+          → AreAlikeComments reader (filter on_node (cons_option (comment_entry e) xs)) (filter on_node (cons_option (comment_entry d) ys))
+      entry_on e d is (inl (inl same)) =
+          let r = same_some e.1 d.1 same in
+          let one : comment_entry e ≡ comment_entry d = λ i. comment_entry (is i, r i) in
+          subst (λ o. AreAlikeComments reader (filter on_node (cons_option (comment_entry e) xs)) (filter on_node (cons_option o ys))) one (one_on (comment_entry e))
+      entry_on e d is (inl (inr nodes)) =
+          none_on (comment_entry e) (comment_entry d) (ap (λ c. comment_entry (c, e.1)) nodes.cell_is) (ap (λ c. comment_entry (c, d.1)) (sym is ∙ nodes.cell_is))
+      entry_on e d is (inr (inl users)) =
+          none_on (comment_entry e) (comment_entry d) (ap (λ c. comment_entry (c, e.1)) users.cell_is) (ap (λ c. comment_entry (c, d.1)) (sym is ∙ users.cell_is))
+      entry_on e d is (inr (inr comments)) =
+          let r = same_some e.1 (row.Comment comments.comment) comments.found_is in
+          let r' = same_some d.1 (row.Comment comments.comment') comments.found_too in
+          let c = comments.cell_is in
+          let c' = sym is ∙ comments.cell_is in
+          let one : comment_entry e ≡ Some (comments.k, comments.comment) = λ i. comment_entry (c i, r i) in
+          let other : comment_entry d ≡ Some (comments.k, comments.comment') = λ i. comment_entry (c' i, r' i) in
+          subst (λ o. AreAlikeComments reader (filter on_node (cons_option o xs)) (filter on_node (cons_option (comment_entry d) ys))) (sym one)
+          (subst (λ o. AreAlikeComments reader (filter on_node ((comments.k, comments.comment) ∷ xs)) (filter on_node (cons_option o ys))) (sym other)
+          (hidden_on comments.k comments.comment comments.comment' comments.others comments.hidden))
+
+    pub same_comments : (xs ys : List (Cell × Row)) → AreAlikeLists xs ys → AreAlikeComments reader (comments_on xs n) (comments_on ys n)
+    same_comments [] [] alike = tt
+    same_comments [] (y ∷ ys) alike = absurd alike
+    same_comments (x ∷ xs) [] alike = absurd alike
+    same_comments (x ∷ xs) (y ∷ ys) alike =
+        entry_on (comments_of xs) (comments_of ys) (same_comments xs ys alike.2) x y alike.0 alike.1

@@ -7,7 +7,6 @@ use Rattle.content_rows.specs.declared.row.NodeType.{NodeType}
 use Rattle.content_rows.specs.declared.row.FieldRow.{FieldRow}
 use Rattle.content_rows.specs.declared.row.FieldValue.{FieldValue}
 use Rattle.content_rows.specs.declared.row.Term.{Term}
-use Rattle.content_rows.specs.declared.row.User.{User}
 use Rattle.content_state.specs.declared.element.Mode.{Mode}
 use Rattle.content_state.specs.declared.element.Mode.TheVariants as mode
 use Rattle.content_state.specs.declared.element.Depth.{Depth}
@@ -18,33 +17,17 @@ use Rattle.content_state.specs.Context.{Visit}
 use Rattle.content_state.specs.Plan.{Plan, Done, reading, ◌>>=◌}
 use Rattle.site_access.specs.Access.{access_to_found_field, owner_in, field_of, type_in}
 use Rattle.render_canvas.specs.Decision.{is_allowed}
-use Rattle.render_array.specs.Nodes.{may_view_node, may_view_field, linked_author, author_found, author, submitted, is_submitted, submitted_if, field_value, field_shown, field_with, field, teaser_field, fields, teaser_fields, with_term, with_viewable_term, term_named, term_item, terms_shown, terms, embedded, refs, refs_below, node_full, href, linked_title, node_teaser, node_embed, node_in_mode, node_or_nothing, node_shown}
+use Rattle.render_array.specs.Nodes.{may_view_node, may_view_field, submitted, is_submitted, submitted_if, field_value, field_shown, field_with, field, teaser_field, fields, teaser_fields, with_term, with_viewable_term, term_named, term_item, terms_shown, terms, embedded, refs, refs_below, node_full, href, linked_title, node_teaser, node_embed, node_in_mode, node_or_nothing, node_shown}
 use Rattle.page_secrets.specs.Alike.{IsHiddenField, with_fields}
 use Rattle.page_secrets.proofs.Settled.{settled, settled_bind, Alike, alike_bind, alike_after, alike_done, alike_write, alike_escaped, alike_attach, alike_part, alike_if, alike_each, alike_folded}
-use Rattle.page_secrets.proofs.Visits.{sees, AreAlikeFound, AlikeVisits, alike_reading, alike_user}
-use Rattle.page_secrets.proofs.Deciding.{view_left, same_view, field_answer, field_left, same_term_view, same_user_view}
+use Rattle.page_secrets.proofs.Visits.{sees, AreAlikeFound, AlikeVisits, alike_reading}
+use Rattle.page_secrets.proofs.Deciding.{view_left, same_view, field_answer, field_left, same_term_view}
+use Rattle.page_secrets.proofs.SameAuthors.{same_by_line}
+use Rattle.page_secrets.proofs.SameComments.{same_comments}
 
--- ---- who submitted it, and when
+-- ---- its terms
 
 module _ (v v' : Visit) (alike : AlikeVisits v v') where
-  same_linked_author : (u : ℕ) (name : List ℕ) → Alike v v' (linked_author u name) (linked_author u name)
-  unfolding linked_author
-  same_linked_author u name =
-      alike_bind _ _ (alike_write _) (λ _. alike_bind _ _ (alike_write _) (λ _. alike_bind _ _ (alike_write _) (λ _.
-      alike_bind _ _ (alike_escaped _) (λ _. alike_write _))))
-
-  same_author_found : (u : ℕ) (found : Option User) → Alike v v' (author_found u found) (author_found u found)
-  same_author_found u None = alike_write _
-  same_author_found u (Some user) =
-      alike_bind _ _ (same_user_view alike u) (λ allowed. alike_if allowed (same_linked_author u user.name) (alike_escaped _))
-
-  same_author : (uid : ℕ) → Alike v v' (author uid) (author uid)
-  unfolding author
-  same_author uid =
-      alike_if (uid == 0) (alike_write _) (alike_user alike uid (author_found uid) (same_author_found uid None) (λ user digest salt. same_author_found uid (Some user)))
-
-  -- ---- terms
-
   same_with_term : (found : List ℕ) (t : ℕ) (term : Option Term) → Alike v v' (with_term found t term) (with_term found t term)
   same_with_term found t None = alike_done found
   same_with_term found t (Some term) = alike_bind _ _ (same_term_view alike t) (λ allowed. alike_done _)
@@ -144,9 +127,7 @@ module _ (v v' : Visit) (alike : AlikeVisits v v') (n : ℕ) (node : Node) (valu
 
     same_submitted : Alike v v' (submitted node) (submitted other)
     unfolding submitted
-    same_submitted =
-        alike_bind _ _ (alike_write _) (λ _. alike_bind _ _ (same_author v v' alike node.uid) (λ _. alike_bind _ _ (alike_write _) (λ _.
-        alike_bind _ _ (alike_write _) (λ _. alike_write _))))
+    same_submitted = same_by_line v v' alike node.uid node.created
 
     same_submitted_if : (type : Option NodeType) → Alike v v' (submitted_if node type) (submitted_if other type)
     unfolding submitted_if
@@ -182,7 +163,7 @@ module _ (v v' : Visit) (alike : AlikeVisits v v') (n : ℕ) (node : Node) (valu
     same_full =
         alike_bind _ _ (alike_attach _) (λ _. alike_bind _ _ (alike_reading alike (TypeRow node.node_type) tt) (λ type.
         alike_bind _ _ (alike_write _) (λ _. alike_bind _ _ (same_submitted_if type) (λ _. alike_bind _ _ (same_fields type) (λ _.
-        alike_bind _ _ same_terms (λ _. alike_bind _ _ (same_refs depth.One) (λ _. alike_write _)))))))
+        alike_bind _ _ same_terms (λ _. alike_bind _ _ (same_refs depth.One) (λ _. alike_bind _ _ (same_comments v v' alike n) (λ _. alike_write _))))))))
 
     same_teaser : Alike v v' (node_teaser n node) (node_teaser n other)
     unfolding node_teaser

@@ -22,7 +22,7 @@ use Rattle.content_state.specs.declared.ask.Viewer.{Viewer}
 use Rattle.content_state.specs.declared.route.Route.TheVariants as route
 use Rattle.indexed_rows.specs.Rows.{row_at, as_site, as_type, as_role, as_user, as_term, as_node, as_menu, as_listing, as_block, as_session, site_of, type_of, role_of, user_of, term_of, node_of, menu_of, listing_of, block_of, session_of, nodes_of, terms_of, InOrder}
 use Rattle.content_state.specs.Route.{id_after, node_front, term_front, user_front, root_path, login_path, front_in, front_path, meant, node_route, listing_route, cell_route, cell_with, found_route, led_to, route_of}
-use Rattle.content_state.specs.Read.{Read, SiteRow, TypeRow, RoleRow, UserRow, TermRow, NodeRow, MenuRow, ListingRow, BlockRow, AllNodes, NodesOfType, AllTerms, AllBlocks, PathRoute, answer}
+use Rattle.content_state.specs.Read.{Read, SiteRow, TypeRow, RoleRow, UserRow, TermRow, NodeRow, MenuRow, ListingRow, BlockRow, AllNodes, NodesOfType, AllTerms, AllBlocks, CommentRow, CommentsOf, PathRoute, answer}
 use Rattle.content_state.specs.Context.{Visit, trail_in, value, upward, preorder}
 use Rattle.content_state.specs.Viewer.{viewer_by, viewer_with, viewer_of, roles_of, present_roles, viewer_permissions, view_grants_of, bypass_node_access}
 use Rattle.site_access.specs.Access.{Access, access_by, access_to_node, access_to_found_field, field_of, field_of_type}
@@ -32,43 +32,44 @@ use Rattle.page_secrets.specs.Alike.{AreAlikeNodes}
 use Rattle.page_secrets.specs.Passwords.{with_password}
 use Rattle.page_secrets.proofs.Likeness.{LookAlikeAt}
 use Rattle.page_secrets.proofs.Decided.{decided, votes_by, as_votes, both_denied, field_by, as_field}
-use Rattle.page_secrets.proofs.Visits.{IsOfNeither, AreAlikeFound, AreOneUser, sees, listed, AlikeVisits}
-use Rattle.page_secrets.proofs.SameCells.{AreAlikeLists, alike_lists, same_terms, same_blocks, same_cell_with, same_ranks}
+use Rattle.page_secrets.proofs.Visits.{IsOfNone, AreAlikeFound, AreOneUser, sees, listed, AlikeVisits}
+use Rattle.page_secrets.proofs.SameCells.{AreAlikeLists, alike_lists, same_terms, same_blocks, same_cell_with, same_ranks, same_comments}
 
 module _ (viewer : Viewer) (rows rows' : List (Cell × Row)) (alike : (c : Cell) → LookAlikeAt viewer rows rows' c (row_at rows c) (row_at rows' c)) where
-  -- ---- rows that are no nodes and no users
+  -- ---- rows that are no nodes, no users and no comments
 
-  by_cell : (c : Cell) (f g : Option Row) → ((n : ℕ) → c ≡ cell.Node n → ⊥) → ((u : ℕ) → c ≡ cell.User u → ⊥) → LookAlikeAt viewer rows rows' c f g → f ≡ g
-  by_cell c f g no_node no_user (inl (inl same)) = same
-  by_cell c f g no_node no_user (inl (inr nodes)) = absurd (no_node nodes.n nodes.cell_is)
-  by_cell c f g no_node no_user (inr users) = absurd (no_user users.u users.cell_is)
+  by_cell : (c : Cell) (f g : Option Row) → ((n : ℕ) → c ≡ cell.Node n → ⊥) → ((u : ℕ) → c ≡ cell.User u → ⊥) → ((k : ℕ) → c ≡ cell.Comment k → ⊥) → LookAlikeAt viewer rows rows' c f g → f ≡ g
+  by_cell c f g no_node no_user no_comment (inl (inl same)) = same
+  by_cell c f g no_node no_user no_comment (inl (inr nodes)) = absurd (no_node nodes.n nodes.cell_is)
+  by_cell c f g no_node no_user no_comment (inr (inl users)) = absurd (no_user users.u users.cell_is)
+  by_cell c f g no_node no_user no_comment (inr (inr comments)) = absurd (no_comment comments.k comments.cell_is)
 
-  same_row : (c : Cell) → ((n : ℕ) → c ≡ cell.Node n → ⊥) → ((u : ℕ) → c ≡ cell.User u → ⊥) → row_at rows c ≡ row_at rows' c
-  same_row c no_node no_user = by_cell c (row_at rows c) (row_at rows' c) no_node no_user (alike c)
+  same_row : (c : Cell) → ((n : ℕ) → c ≡ cell.Node n → ⊥) → ((u : ℕ) → c ≡ cell.User u → ⊥) → ((k : ℕ) → c ≡ cell.Comment k → ⊥) → row_at rows c ≡ row_at rows' c
+  same_row c no_node no_user no_comment = by_cell c (row_at rows c) (row_at rows' c) no_node no_user no_comment (alike c)
 
   same_site : site_of rows ≡ site_of rows'
-  same_site = ap (option_and_then as_site) (same_row cell.Site (λ n e. cc) (λ u e. cc))
+  same_site = ap (option_and_then as_site) (same_row cell.Site (λ n e. cc) (λ u e. cc) (λ k e. cc))
 
   same_type : (name : List ℕ) → type_of rows name ≡ type_of rows' name
-  same_type name = ap (option_and_then as_type) (same_row (cell.NodeType name) (λ n e. cc) (λ u e. cc))
+  same_type name = ap (option_and_then as_type) (same_row (cell.NodeType name) (λ n e. cc) (λ u e. cc) (λ k e. cc))
 
   same_role : (name : List ℕ) → role_of rows name ≡ role_of rows' name
-  same_role name = ap (option_and_then as_role) (same_row (cell.Role name) (λ n e. cc) (λ u e. cc))
+  same_role name = ap (option_and_then as_role) (same_row (cell.Role name) (λ n e. cc) (λ u e. cc) (λ k e. cc))
 
   same_term : (t : ℕ) → term_of rows t ≡ term_of rows' t
-  same_term t = ap (option_and_then as_term) (same_row (cell.Term t) (λ n e. cc) (λ u e. cc))
+  same_term t = ap (option_and_then as_term) (same_row (cell.Term t) (λ n e. cc) (λ u e. cc) (λ k e. cc))
 
   same_menu : (name : List ℕ) → menu_of rows name ≡ menu_of rows' name
-  same_menu name = ap (option_and_then as_menu) (same_row (cell.Menu name) (λ n e. cc) (λ u e. cc))
+  same_menu name = ap (option_and_then as_menu) (same_row (cell.Menu name) (λ n e. cc) (λ u e. cc) (λ k e. cc))
 
   same_listing : (name : List ℕ) → listing_of rows name ≡ listing_of rows' name
-  same_listing name = ap (option_and_then as_listing) (same_row (cell.Listing name) (λ n e. cc) (λ u e. cc))
+  same_listing name = ap (option_and_then as_listing) (same_row (cell.Listing name) (λ n e. cc) (λ u e. cc) (λ k e. cc))
 
   same_block_row : (name : List ℕ) → block_of rows name ≡ block_of rows' name
-  same_block_row name = ap (option_and_then as_block) (same_row (cell.Block name) (λ n e. cc) (λ u e. cc))
+  same_block_row name = ap (option_and_then as_block) (same_row (cell.Block name) (λ n e. cc) (λ u e. cc) (λ k e. cc))
 
   same_session : (name : List ℕ) → session_of rows name ≡ session_of rows' name
-  same_session name = ap (option_and_then as_session) (same_row (cell.Session name) (λ n e. cc) (λ u e. cc))
+  same_session name = ap (option_and_then as_session) (same_row (cell.Session name) (λ n e. cc) (λ u e. cc) (λ k e. cc))
 
   -- ---- users
 
@@ -83,7 +84,11 @@ module _ (viewer : Viewer) (rows rows' : List (Cell × Row)) (alike : (c : Cell)
     where
       no_node : (n : ℕ) → cell.User u ≡ cell.Node n → ⊥
       no_node n e = cc
-  users_by u f g (inr users) =
+  users_by u f g (inr (inr comments)) = absurd (no_comment comments.k comments.cell_is)
+    where
+      no_comment : (k : ℕ) → cell.User u ≡ cell.Comment k → ⊥
+      no_comment k e = cc
+  users_by u f g (inr (inl users)) =
       subst (λ o. AreOneUser (option_and_then as_user o) (option_and_then as_user g)) (sym users.found_is)
       (subst (λ o. AreOneUser (Some users.user) (option_and_then as_user o)) (sym users.found_too) users.others)
 
@@ -165,10 +170,14 @@ module _ (viewer : Viewer) (rows rows' : List (Cell × Row)) (alike : (c : Cell)
       → AreAlikeFound viewer rows rows' n (option_and_then as_node f) (option_and_then as_node g)
   found_by n f g (inl (inl same)) =
       subst (λ o. AreAlikeFound viewer rows rows' n (option_and_then as_node f) (option_and_then as_node o)) same (itself n (option_and_then as_node f))
-  found_by n f g (inr users) = absurd (no_user users.u users.cell_is)
+  found_by n f g (inr (inl users)) = absurd (no_user users.u users.cell_is)
     where
       no_user : (u : ℕ) → cell.Node n ≡ cell.User u → ⊥
       no_user u e = cc
+  found_by n f g (inr (inr comments)) = absurd (no_comment comments.k comments.cell_is)
+    where
+      no_comment : (k : ℕ) → cell.Node n ≡ cell.Comment k → ⊥
+      no_comment k e = cc
   found_by n f g (inl (inr nodes)) =
       subst (λ o. AreAlikeFound viewer rows rows' n (option_and_then as_node o) (option_and_then as_node g)) (sym nodes.found_is)
       (subst (λ o. AreAlikeFound viewer rows rows' n (Some nodes.node) (option_and_then as_node o)) (sym nodes.found_too)
@@ -285,7 +294,7 @@ module _ (viewer : Viewer) (rows rows' : List (Cell × Row)) (alike : (c : Cell)
       same_value (context.MenuTrail name) =
           same_trail ask.path (menu_of rows name) ∙ ap (trail_in rows' ask.path) (same_menu name)
 
-      same_answer : (r : Read) → IsOfNeither r → answer rows r ≡ answer rows' r
+      same_answer : (r : Read) → IsOfNone r → answer rows r ≡ answer rows' r
       same_answer SiteRow none = same_site
       same_answer (TypeRow t) none = same_type t
       same_answer (RoleRow r) none = same_role r
@@ -299,6 +308,8 @@ module _ (viewer : Viewer) (rows rows' : List (Cell × Row)) (alike : (c : Cell)
       same_answer (NodesOfType t) none = absurd none
       same_answer AllTerms none = same_terms viewer rows rows' rows rows' lists
       same_answer AllBlocks none = same_blocks viewer rows rows' rows rows' lists
+      same_answer (CommentRow k) none = absurd none
+      same_answer (CommentsOf n) none = absurd none
       same_answer (PathRoute p) none = same_route p
 
       same_listed : (listing : Listing) (at : ℕ) → listed here listing at ≡ listed there listing at
@@ -317,4 +328,5 @@ module _ (viewer : Viewer) (rows rows' : List (Cell × Row)) (alike : (c : Cell)
         found = same_found;
         users = one_user;
         listings = same_listed;
+        comments = λ n. same_comments viewer rows rows' n rows rows' lists;
       }

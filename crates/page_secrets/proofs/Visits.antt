@@ -1,5 +1,5 @@
--- Two visits on which a viewer sees the same: what is read of no node and of no user is the same, access decides the same, nodes
--- are alike, and users are the same but for their passwords.
+-- Two visits on which a viewer sees the same: what is read of no node, no user and no comment is the same, access decides the
+-- same, nodes are alike, users are the same but for their passwords, and comments but for the bodies of hidden ones.
 use Rattle.std.proofs.Common.{◌≡◌, ℕ, List, ap, sym, subst}
 use Rattle.std.specs.Prelude.{Bool, ◌&&◌, Option, Some, None}
 use Rattle.std.specs.List.{filter}
@@ -11,24 +11,28 @@ use Rattle.content_rows.specs.declared.row.Node.{Node}
 use Rattle.content_rows.specs.declared.row.Listing.{Listing}
 use Rattle.content_rows.specs.declared.row.User.{User}
 use Rattle.content_state.specs.declared.ask.Viewer.{Viewer}
-use Rattle.indexed_rows.specs.Rows.{node_of, user_of, nodes_of, terms_of}
-use Rattle.content_state.specs.Read.{Read, NodeRow, UserRow, AllNodes, NodesOfType, answer}
+use Rattle.indexed_rows.specs.Rows.{node_of, user_of, nodes_of, terms_of, comments_on}
+use Rattle.content_state.specs.Read.{Read, NodeRow, UserRow, AllNodes, NodesOfType, CommentRow, CommentsOf, answer}
 use Rattle.content_state.specs.Context.{Visit, value}
 use Rattle.content_state.specs.Plan.{Plan, Done, reading, asking, ◌>>=◌}
 use Rattle.site_access.specs.Access.{access_to_node, access_to_found_field, field_of}
 use Rattle.site_lists.specs.Listed.{is_listed, ids_in_order}
 use Rattle.render_canvas.specs.Decision.{is_allowed}
 use Rattle.page_secrets.specs.Alike.{AreAlikeNodes}
+use Rattle.site_comments.specs.Viewed.{reader_of}
 use Rattle.page_secrets.specs.Passwords.{with_password}
+use Rattle.page_secrets.proofs.AlikeComments.{AreAlikeComments}
 use Rattle.page_secrets.proofs.Settled.{Alike}
 
--- reads that neither a node nor a user answers
-abbrev pub IsOfNeither : Read → Type 0
-IsOfNeither (NodeRow n) = ⊥
-IsOfNeither (UserRow u) = ⊥
-IsOfNeither AllNodes = ⊥
-IsOfNeither (NodesOfType t) = ⊥
-IsOfNeither _ = Unit {0}
+-- reads that no node, no user and no comment answers
+abbrev pub IsOfNone : Read → Type 0
+IsOfNone (NodeRow n) = ⊥
+IsOfNone (UserRow u) = ⊥
+IsOfNone AllNodes = ⊥
+IsOfNone (NodesOfType t) = ⊥
+IsOfNone (CommentRow k) = ⊥
+IsOfNone (CommentsOf n) = ⊥
+IsOfNone _ = Unit {0}
 
 -- a node that is there on neither, or on both, alike for the viewer
 abbrev pub AreAlikeFound : Viewer → List (Cell × Row) → List (Cell × Row) → ℕ → Option Node → Option Node → Type 0
@@ -53,7 +57,7 @@ listed v listing moment = ids_in_order (filter (λ e. is_listed (terms_of v.rows
 pub record AlikeVisits (v v' : Visit) : Type 0 where
   pub moment : v.moment ≡ v'.moment
   pub values : (c : Context) → value v c ≡ value v' c
-  pub rows : (r : Read) → IsOfNeither r → answer v.rows r ≡ answer v'.rows r
+  pub rows : (r : Read) → IsOfNone r → answer v.rows r ≡ answer v'.rows r
   pub access : (n : ℕ) → access_to_node v.rows v.viewer op.View n ≡ access_to_node v'.rows v'.viewer op.View n
   pub fields : (uid : ℕ) (type name : List ℕ)
       → access_to_found_field v.rows v.viewer op.View uid name (field_of v.rows type name)
@@ -61,8 +65,9 @@ pub record AlikeVisits (v v' : Visit) : Type 0 where
   pub found : (n : ℕ) → AreAlikeFound v.viewer v.rows v'.rows n (node_of v.rows n) (node_of v'.rows n)
   pub users : (u : ℕ) → AreOneUser (user_of v.rows u) (user_of v'.rows u)
   pub listings : (listing : Listing) (moment : ℕ) → listed v listing moment ≡ listed v' listing moment
+  pub comments : (n : ℕ) → AreAlikeComments (reader_of v.rows v.viewer) (comments_on v.rows n) (comments_on v'.rows n)
 
-pub alike_reading : {v v' : Visit} → AlikeVisits v v' → (r : Read) → IsOfNeither r → Alike v v' (reading r) (reading r)
+pub alike_reading : {v v' : Visit} → AlikeVisits v v' → (r : Read) → IsOfNone r → Alike v v' (reading r) (reading r)
 unfolding reading
 alike_reading alike r none = record { same = ap Done (alike.rows r none) }
 

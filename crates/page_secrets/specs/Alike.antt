@@ -1,5 +1,5 @@
--- States that are alike for a viewer: they differ in nothing but nodes that access denies the viewer to view in both, and
--- values of fields that are hidden from the viewer in both.
+-- States that are alike for a viewer: they differ in nothing but nodes that access denies the viewer to view in both,
+-- values of fields that are hidden from the viewer in both, and bodies of comments that it denies the viewer to view in both.
 -- https://www.drupal.org/docs/8/api/entity-api/access-on-entities
 use Rattle.std.specs.Prelude.{ℕ, List, ◌≡◌, ◌⊎◌, ◌↔◌, false, Option, Some, IsTrue}
 use Rattle.cacheability.specs.declared.op.Op.TheVariants as op
@@ -9,6 +9,7 @@ use Rattle.content_rows.specs.declared.row.Row.{Row}
 use Rattle.content_rows.specs.declared.row.Row.TheVariants as row
 use Rattle.content_rows.specs.declared.row.Node.{Node}
 use Rattle.content_rows.specs.declared.row.FieldValue.{FieldValue}
+use Rattle.content_rows.specs.declared.row.Comment.{Comment}
 use Rattle.content_state.specs.declared.ask.Ask.{Ask}
 use Rattle.content_state.specs.declared.ask.Viewer.{Viewer}
 use Rattle.content_state.specs.State.{State}
@@ -16,6 +17,7 @@ use Rattle.indexed_rows.specs.Rows.{row_at, user_of, InOrder}
 use Rattle.content_state.specs.Viewer.{viewer_of}
 use Rattle.site_access.specs.Access.{Access, access_to_node, access_to_field_of}
 use Rattle.site_access.specs.Users.{is_active}
+use Rattle.site_access.specs.Comments.{access_to_comment}
 use Rattle.render_canvas.specs.Decision.{is_allowed}
 use Rattle.render_array.specs.Nodes.{field_value}
 use Rattle.render_array.specs.Shown.{IsPage}
@@ -78,12 +80,39 @@ pub record HaveAlikeNodes (viewer : Viewer) (rows rows' : List (Cell × Row)) (c
   pub found_too : found' ≡ Some (row.Node node')
   pub alike : AreAlikeNodes viewer rows rows' n node node'
 
--- at a cell both have the same row or none, or one node, alike for the viewer
+-- the comment with this body
+abbrev pub with_body : Comment → List ℕ → Comment
+with_body comment body =
+    record {
+      body = body;
+      created = comment.created;
+      node = comment.node;
+      parent = comment.parent;
+      status = comment.status;
+      uid = comment.uid;
+      uuid = comment.uuid;
+    }
+
+-- what both have at a cell is one comment, which access denies the viewer to view on both rows; it may differ in its body
+pub record HaveAlikeComments (viewer : Viewer) (rows rows' : List (Cell × Row)) (c : Cell) (found found' : Option Row) : Type 0 where
+  pub k : ℕ
+  pub comment : Comment
+  pub comment' : Comment
+  pub cell_is : c ≡ cell.Comment k
+  pub found_is : found ≡ Some (row.Comment comment)
+  pub found_too : found' ≡ Some (row.Comment comment')
+  pub others : comment' ≡ with_body comment comment'.body
+  pub denied : IsDenied (access_to_comment rows viewer op.View k)
+  pub denied_too : IsDenied (access_to_comment rows' viewer op.View k)
+
+-- at a cell both have the same row or none, or one node or one comment, alike for the viewer
 abbrev pub AreAlikeAt : Viewer → List (Cell × Row) → List (Cell × Row) → Cell → Option Row → Option Row → Type 0
-AreAlikeAt viewer rows rows' c found found' = (found ≡ found') ⊎ HaveAlikeNodes viewer rows rows' c found found'
+AreAlikeAt viewer rows rows' c found found' =
+    ((found ≡ found') ⊎ HaveAlikeNodes viewer rows rows' c found found') ⊎ HaveAlikeComments viewer rows rows' c found found'
 
 -- The viewer is one of both states. All rows are the same, but that a node which the viewer may view in neither differs in
--- all but its path, and any other node in the values of fields that are hidden from the viewer in both.
+-- all but its path, any other node in the values of fields that are hidden from the viewer in both, and a comment which
+-- the viewer may view in neither in its body.
 pub record AlikeFor (viewer : Viewer) (s s' : State) : Type 0 where
   pub of_one : IsViewerOf s.rows viewer
   pub of_other : IsViewerOf s'.rows viewer

@@ -4,7 +4,7 @@ ghost use Rattle.page_secrets.specs.Passwords.{NoPasswordShows};
 
 /// Where two states are alike for the viewer of a request, the same statuses and bodies are allowed for
 /// its page on both: so a page shows nothing of what access denies its viewer to view, neither a
-/// node, nor a field, nor how many of them there are.
+/// node, nor a field, nor how many of them there are, nor what a comment says.
 /// <https://www.drupal.org/docs/8/api/entity-api/access-on-entities>
 pub fn nothing_leaks()
     ensures { NothingLeaks }

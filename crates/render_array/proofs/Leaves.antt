@@ -1,12 +1,14 @@
 -- The places that plans leave open, on a visit.
 use Rattle.std.proofs.Common.{ℕ, zero, suc, List, [], ◌∷◌, ◌++◌, ◌≡◌, ◌<◌, sym, subst, refl, arith, Bool, true, false, length, Option, Some, None}
 use Rattle.std.proofs.lemmas.Bool.{eqb-true, eqb-false}
+use Rattle.std.specs.List.{list_any}
 use Rattle.std.specs.Prelude.{◌==◌, ◌&&◌, nat_le, nat_lt, ◌-◌, slice_get, if◌then◌else◌, take, drop, unwrap_or}
 use Rattle.access_result.specs.declared.reason.Reason.{Reason}
 use Rattle.content_rows.specs.declared.row.Node.{Node}
 use Rattle.content_rows.specs.declared.row.NodeType.{NodeType}
 use Rattle.content_rows.specs.declared.row.FieldRow.{FieldRow}
 use Rattle.content_rows.specs.declared.row.Term.{Term}
+use Rattle.content_rows.specs.declared.row.Comment.{Comment}
 use Rattle.content_rows.specs.declared.row.User.{User}
 use Rattle.content_rows.specs.declared.row.Link.{Link}
 use Rattle.content_rows.specs.declared.row.Menu.{Menu}
@@ -31,7 +33,7 @@ use Rattle.content_state.specs.declared.element.Placing.TheVariants as placing
 use Rattle.content_state.specs.declared.element.Library.{Library}
 use Rattle.content_state.specs.declared.route.Route.{Route}
 use Rattle.content_state.specs.declared.route.Route.TheVariants as route
-use Rattle.content_state.specs.Read.{answer, TypeRow, NodeRow, TermRow, UserRow, MenuRow, ListingRow, BlockRow, PathRoute}
+use Rattle.content_state.specs.Read.{answer, TypeRow, NodeRow, TermRow, UserRow, MenuRow, ListingRow, BlockRow, PathRoute, CommentsOf}
 use Rattle.content_state.specs.Viewer.{access_content}
 use Rattle.content_state.specs.Context.{Visit, value}
 use Rattle.content_state.specs.Plan.{Piece, Place, bytes, Plan, Done, Write, Attach, Reading, Asking, Clock, Part, ◌>>=◌, ◌>>◌, Needs, Made, reading, asking, clock, write, escaped, attach, part, each, folded}
@@ -40,10 +42,13 @@ use Rattle.site_access.specs.Access.{Access, Allowed, Denied}
 use Rattle.site_access.specs.Plans.{holds, node_access, field_access}
 use Rattle.site_access.specs.Terms.{term_access}
 use Rattle.site_access.specs.Users.{user_access}
+use Rattle.site_access.specs.Comments.{access_comments, administer_comments}
 use Rattle.site_access.specs.Routes.{listing_access, route_access}
 use Rattle.site_access.proofs.SilentPlans.{IsSilent}
 use Rattle.site_access.proofs.PlansDecide.{node_read, field_read}
 use Rattle.site_access.proofs.RoutePlans.{term_read, user_read, route_read}
+use Rattle.site_comments.specs.declared.reader.CommentReader.{CommentReader}
+use Rattle.site_comments.specs.Viewed.{reads_some, is_shown}
 use Rattle.site_lists.specs.declared.tree.MenuPlace.{MenuPlace}
 use Rattle.site_lists.specs.declared.paging.Page.{Page}
 use Rattle.site_lists.specs.Listed.{term_listing}
@@ -54,7 +59,7 @@ use Rattle.site_lists.specs.Visible.{for_viewer, names_front, at_front, on_path,
 use Rattle.render_canvas.specs.Decision.{is_allowed}
 use Rattle.render_array.specs.Pieces as pieces
 use Rattle.render_canvas.specs.Reads.{region_names, by_viewer}
-use Rattle.render_array.specs.Nodes.{may_view_node, may_view_field, may_view_term, may_view_user, linked_author, author_found, author, submitted, is_submitted, submitted_if, field_value, field_shown, field, teaser_field, fields, teaser_fields, with_term, with_viewable_term, term_named, term_item, terms_shown, terms, embedded, refs, refs_below, node_full, href, linked_title, node_teaser, node_embed, node_in_mode, node_or_nothing, node_shown}
+use Rattle.render_array.specs.Nodes.{may_view_node, may_view_field, may_view_term, may_view_user, linked_author, author_found, author, by_line, submitted, is_submitted, submitted_if, field_value, field_shown, field, teaser_field, fields, teaser_fields, with_term, with_viewable_term, term_named, term_item, terms_shown, terms, embedded, refs, refs_below, comment_text, comment_shown, comment_below, replies, comments_shown, comments_for, comments, node_full, href, linked_title, node_teaser, node_embed, node_in_mode, node_or_nothing, node_shown}
 use Rattle.render_array.specs.Listings.{page_number, listed_node, listed_nodes, nodes_or_none, previous_link, next_link, pager_shown, pager, pager_in, page_of_nodes, listing_view, listing_or_nothing, listing_shown, term_listing_shown}
 use Rattle.render_array.specs.Menus.{may_follow_to, may_follow, may_follow_link, Shown, none_shown, with_shown, link_shown, link_at, lists_end, link_closed, depth_after, links_shown, menu_view, menu_or_nothing, menu_shown}
 use Rattle.render_array.specs.Blocks.{text_body, menu_there, menu_body, listing_there, listing_body, hello, greeting_body, csrf_of_session, csrf_body, clock_body, body_of_kind, block_label, block_view, block_or_nothing, block_shown, block_if_visible, block_place, region}
@@ -153,9 +158,13 @@ module _ (P : Hole → Type 0) (v : Visit) where
   unfolding author write reading
   author_leaves uid = either (uid == 0) _ _ tt (author_found_leaves uid (answer v.rows (UserRow uid)))
 
+  by_line_leaves : (uid created : ℕ) → Leaves P v (by_line uid created)
+  unfolding by_line write
+  by_line_leaves uid created = both (author uid) _ (author_leaves uid) (λ a. tt)
+
   submitted_leaves : (node : Node) → Leaves P v (submitted node)
-  unfolding submitted write
-  submitted_leaves node = both (author node.uid) _ (author_leaves node.uid) (λ a. tt)
+  unfolding submitted
+  submitted_leaves node = by_line_leaves node.uid node.created
 
   submitted_if_leaves : (node : Node) (type : Option NodeType) → Leaves P v (submitted_if node type)
   unfolding submitted_if
@@ -215,6 +224,46 @@ module _ (P : Hole → Type 0) (v : Visit) where
   unfolding refs embedded part
   refs_leaves deep node place = each_leaves (embedded deep) node.refs (λ n. (place n, tt))
 
+  -- ---- comments
+
+  comment_text_leaves : (text : List ℕ) → Leaves P v (comment_text text)
+  unfolding comment_text write escaped
+  comment_text_leaves text = tt
+
+  comment_shown_leaves : (below : Option ℕ → Plan (Unit {0})) (e : ℕ × Comment) → ((parent : Option ℕ) → Leaves P v (below parent)) → Leaves P v (comment_shown below e)
+  unfolding comment_shown reading write
+  comment_shown_leaves below e of_below =
+      both (by_line e.1.uid e.1.created) _ (by_line_leaves e.1.uid e.1.created)
+      (λ a. both (comment_text e.1.body) _ (comment_text_leaves e.1.body)
+      (λ b. both (below (Some e.0)) _ (of_below (Some e.0)) (λ c. tt)))
+
+  comment_below_leaves : (below : Option ℕ → Plan (Unit {0})) (reader : CommentReader) (parent : Option ℕ) (e : ℕ × Comment) → ((k : Option ℕ) → Leaves P v (below k)) → Leaves P v (comment_below below reader parent e)
+  unfolding comment_below
+  comment_below_leaves below reader parent e of_below = either (is_shown reader parent e.1) _ _ (comment_shown_leaves below e of_below) tt
+
+  replies_leaves : (levels : ℕ) (reader : CommentReader) (all : List (ℕ × Comment)) (parent : Option ℕ) → Leaves P v (replies levels reader all parent)
+  unfolding replies
+  replies_leaves zero reader all parent = tt
+  replies_leaves (suc levels) reader all parent =
+      each_leaves (comment_below (replies levels reader all) reader parent) all
+      (λ e. comment_below_leaves (replies levels reader all) reader parent e (replies_leaves levels reader all))
+
+  comments_shown_leaves : (reader : CommentReader) (all : List (ℕ × Comment)) → Leaves P v (comments_shown reader all)
+  unfolding comments_shown attach write
+  comments_shown_leaves reader all =
+      either (list_any (λ e. is_shown reader None e.1) all) _ _ (both (replies 9 reader all None) _ (replies_leaves 9 reader all None) (λ a. tt)) tt
+
+  comments_for_leaves : (reader : CommentReader) (n : ℕ) → Leaves P v (comments_for reader n)
+  unfolding comments_for reading
+  comments_for_leaves reader n = either (reads_some reader) _ _ (comments_shown_leaves reader (answer v.rows (CommentsOf n))) tt
+
+  comments_leaves : (n : ℕ) → Leaves P v (comments n)
+  unfolding comments
+  comments_leaves n =
+      both (holds administer_comments) _ (holds_leaves administer_comments)
+      (λ administers. both (holds access_comments) _ (holds_leaves access_comments)
+      (λ accesses. comments_for_leaves (record { administers = administers; accesses = accesses }) n))
+
   node_full_leaves : (n : ℕ) (node : Node) → ((m : ℕ) → P (hole.Fragment (fragment.Node m (mode.Embed depth.One)))) → Leaves P v (node_full n node)
   unfolding node_full attach reading write
   node_full_leaves n node place =
@@ -222,7 +271,8 @@ module _ (P : Hole → Type 0) (v : Visit) where
       both (submitted_if node type) _ (submitted_if_leaves node type)
       (λ a. both (fields n node type) _ (fields_leaves n node type)
       (λ b. both (terms node) _ (terms_leaves node)
-      (λ c. both (refs depth.One node) _ (refs_leaves depth.One node place) (λ d. tt))))
+      (λ c. both (refs depth.One node) _ (refs_leaves depth.One node place)
+      (λ d. both (comments n) _ (comments_leaves n) (λ e. tt)))))
 
   href_leaves : (n : ℕ) (o : Option (List ℕ)) → Leaves P v (href n o)
   unfolding write escaped

@@ -1,3 +1,4 @@
+pub mod Deeper
 pub mod Leaves
 pub mod Lists
 pub mod MenuLaws

@@ -1,14 +1,15 @@
 -- What a node shows, in each of its modes, as plans of reads.
 -- https://www.drupal.org/docs/drupal-apis/entity-api/display-modes-view-modes-and-form-modes
-use Rattle.std.specs.Prelude.{ℕ, Bool, false, List, [], ◌∷◌, ◌++◌, length, ◌==◌, Option, Some, None, unwrap_or, option_map, if◌then◌else◌}
+use Rattle.std.specs.Prelude.{ℕ, zero, suc, Bool, false, List, [], ◌∷◌, ◌++◌, length, ◌==◌, Option, Some, None, unwrap_or, option_map, if◌then◌else◌}
 use Rattle.std.specs.Fmt.{decimal}
-use Rattle.std.specs.List.{find}
+use Rattle.std.specs.List.{find, list_any}
 use Rattle.std.specs.Str.{bytes_eq}
 use Rattle.cacheability.specs.declared.op.Op.TheVariants as op
 use Rattle.content_rows.specs.declared.row.Node.{Node}
 use Rattle.content_rows.specs.declared.row.NodeType.{NodeType}
 use Rattle.content_rows.specs.declared.row.FieldRow.{FieldRow}
 use Rattle.content_rows.specs.declared.row.Term.{Term}
+use Rattle.content_rows.specs.declared.row.Comment.{Comment}
 use Rattle.content_rows.specs.declared.row.User.{User}
 use Rattle.content_state.specs.declared.element.Hole.TheVariants as hole
 use Rattle.content_state.specs.declared.element.Fragment.TheVariants as fragment
@@ -17,11 +18,14 @@ use Rattle.content_state.specs.declared.element.Mode.TheVariants as mode
 use Rattle.content_state.specs.declared.element.Depth.{Depth}
 use Rattle.content_state.specs.declared.element.Depth.TheVariants as depth
 use Rattle.content_state.specs.declared.element.Library.TheVariants as library
-use Rattle.content_state.specs.Read.{TypeRow, NodeRow, TermRow, UserRow}
+use Rattle.content_state.specs.Read.{TypeRow, NodeRow, TermRow, UserRow, CommentRow, CommentsOf}
 use Rattle.content_state.specs.Plan.{Plan, Done, write, escaped, attach, part, reading, each, folded, ◌>>=◌, ◌>>◌}
-use Rattle.site_access.specs.Plans.{node_access, field_access}
+use Rattle.site_access.specs.Plans.{holds, node_access, field_access}
 use Rattle.site_access.specs.Terms.{term_access}
 use Rattle.site_access.specs.Users.{user_access}
+use Rattle.site_access.specs.Comments.{access_comments, administer_comments}
+use Rattle.site_comments.specs.declared.reader.CommentReader.{CommentReader}
+use Rattle.site_comments.specs.Viewed.{reads_some, is_shown}
 use Rattle.site_dates.specs.Dates.{date_text_of}
 use Rattle.render_canvas.specs.Decision.{is_allowed}
 unfoldable pub use Rattle.render_canvas.specs.Reads.{may_view_node}
@@ -58,13 +62,17 @@ author_found u (Some user) = do
 unfoldable pub author : ℕ → Plan (Unit {0})
 author uid = if uid == 0 then write pieces.anonymous_name else reading (UserRow uid) >>= author_found uid
 
-unfoldable pub submitted : Node → Plan (Unit {0})
-submitted node = do
+-- by whom it was made, and on which day
+unfoldable pub by_line : ℕ → ℕ → Plan (Unit {0})
+by_line uid created = do
   write pieces.by_start
-  author node.uid
+  author uid
   write pieces.by_between
-  write (date_text_of node.created)
+  write (date_text_of created)
   write pieces.paragraph_end
+
+unfoldable pub submitted : Node → Plan (Unit {0})
+submitted node = by_line node.uid node.created
 
 abbrev pub is_submitted : Option NodeType → Bool
 is_submitted None = false
@@ -161,9 +169,58 @@ refs_below depth.One node = refs depth.Two node
 refs_below depth.Two node = refs depth.Three node
 refs_below depth.Three node = Done tt
 
+-- ---- its comments
+
+unfoldable pub comment_text : List ℕ → Plan (Unit {0})
+comment_text text = do
+  write pieces.paragraph_start
+  escaped text
+  write pieces.paragraph_end
+
+-- a comment: who made it and when, what it says, and below it what answers it
+unfoldable pub comment_shown : (Option ℕ → Plan (Unit {0})) → ℕ × Comment → Plan (Unit {0})
+comment_shown below e = do
+  found ← reading (CommentRow e.0)
+  write pieces.comment_start
+  by_line e.1.uid e.1.created
+  comment_text e.1.body
+  below (Some e.0)
+  write pieces.article_end
+
+-- a comment that answers the one of that number, or none, where it may be viewed; else nothing
+unfoldable pub comment_below : (Option ℕ → Plan (Unit {0})) → CommentReader → Option ℕ → ℕ × Comment → Plan (Unit {0})
+comment_below below reader parent e = if is_shown reader parent e.1 then comment_shown below e else Done tt
+
+-- those of the comments of a node that answer the one of that number, or none, by their numbers, each with those that
+-- answer it: so many levels deep
+unfoldable pub replies : ℕ → CommentReader → List (ℕ × Comment) → Option ℕ → Plan (Unit {0})
+replies zero reader all parent = Done tt
+replies (suc levels) reader all parent = each (comment_below (replies levels reader all) reader parent) all
+
+-- the comments of a node that the viewer may view, nine levels deep: a reply stands in what it answers, where that is
+-- shown; nothing where none is shown
+unfoldable pub comments_shown : CommentReader → List (ℕ × Comment) → Plan (Unit {0})
+comments_shown reader all = if list_any (λ e. is_shown reader None e.1) all
+    then (do
+      attach library.Comment
+      write pieces.comments_start
+      replies 9 reader all None
+      write pieces.comments_end)
+    else Done tt
+
+-- the comments of a node, which are looked for where the viewer may view some comments
+unfoldable pub comments_for : CommentReader → ℕ → Plan (Unit {0})
+comments_for reader n = if reads_some reader then (reading (CommentsOf n) >>= comments_shown reader) else Done tt
+
+unfoldable pub comments : ℕ → Plan (Unit {0})
+comments n = do
+  administers ← holds administer_comments
+  accesses ← holds access_comments
+  comments_for (record { administers = administers; accesses = accesses }) n
+
 -- ---- a node in each mode
 
--- in full: who submitted it, its fields, its terms, and the nodes that it refers to
+-- in full: who submitted it, its fields, its terms, the nodes that it refers to, and its comments
 unfoldable pub node_full : ℕ → Node → Plan (Unit {0})
 node_full n node = do
   attach library.Node
@@ -173,6 +230,7 @@ node_full n node = do
   fields n node type
   terms node
   refs depth.One node
+  comments n
   write pieces.article_end
 
 -- where it stands: its own path, else by its number

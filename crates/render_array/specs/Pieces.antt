@@ -192,3 +192,12 @@ login_form = codes "<form method=\"post\" action=\"/user/login\"><input name=\"n
 
 unfoldable pub member_start : List ℕ
 member_start = codes "<p>Member since "
+
+unfoldable pub comments_start : List ℕ
+comments_start = codes "<section class=\"comments\">"
+
+unfoldable pub comments_end : List ℕ
+comments_end = codes "</section>"
+
+unfoldable pub comment_start : List ℕ
+comment_start = codes "<article class=\"comment\">"

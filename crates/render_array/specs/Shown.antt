@@ -17,6 +17,7 @@ use Rattle.render_array.specs.Whole.{whole, element_count}
 -- the name of a library
 unfoldable pub library_name : Library → List ℕ
 library_name library.Clock = codes "clock"
+library_name library.Comment = codes "comment"
 library_name library.Login = codes "login"
 library_name library.Menu = codes "menu"
 library_name library.Node = codes "node"
@@ -24,15 +25,16 @@ library_name library.Pager = codes "pager"
 
 -- the libraries, in the order of their names
 abbrev pub all_libraries : List Library
-all_libraries = library.Clock ∷ library.Login ∷ library.Menu ∷ library.Node ∷ library.Pager ∷ []
+all_libraries = library.Clock ∷ library.Comment ∷ library.Login ∷ library.Menu ∷ library.Node ∷ library.Pager ∷ []
 
 -- the place of a library in that order
 abbrev pub place_of : Library → ℕ
 place_of library.Clock = 0
-place_of library.Login = 1
-place_of library.Menu = 2
-place_of library.Node = 3
-place_of library.Pager = 4
+place_of library.Comment = 1
+place_of library.Login = 2
+place_of library.Menu = 3
+place_of library.Node = 4
+place_of library.Pager = 5
 
 abbrev pub same_library : Library → Library → Bool
 same_library a b = place_of a == place_of b

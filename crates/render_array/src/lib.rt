@@ -4,6 +4,7 @@
 
 mod blocks;
 mod building;
+mod comments;
 mod element;
 mod listings;
 mod menus;

@@ -28,6 +28,7 @@ ghost use Rattle.render_array.specs.Nodes.{
   node_shown,
 };
 
+use crate::comments::comments;
 use crate::submitted::submitted_if;
 use crate::terms::terms;
 use cacheability::{Name, Op};
@@ -194,6 +195,7 @@ fn node_full(canvas: &mut Canvas, n: u32, node: &Node)
     fields(canvas, n, node, node_type);
     terms(canvas, node);
     refs(canvas, Depth::One, node);
+    comments(canvas, n);
     canvas.write(b"</article>");
 }
 

@@ -1,9 +1,9 @@
-//! Who submitted a node, and when: each builder writes what the plan of the same name shows.
+//! Who made a node or a comment, and when: each builder writes what the plan of the same name shows.
 ghost use Rattle.std.specs.Prelude.{◌≡◌, Some, IsSome};
 ghost use Rattle.std.specs.Option.{option_copied};
 ghost use Rattle.indexed_rows.specs.Rows.{user_of};
 ghost use Rattle.render_canvas.specs.Canvas.{Renders};
-ghost use Rattle.render_array.specs.Nodes.{may_view_user, linked_author, author_found, author, submitted, is_submitted, submitted_if};
+ghost use Rattle.render_array.specs.Nodes.{may_view_user, linked_author, author_found, author, by_line, submitted, is_submitted, submitted_if};
 
 use content_rows::{Node, NodeType, User};
 use render_canvas::Canvas;
@@ -52,15 +52,22 @@ fn author(canvas: &mut Canvas, uid: u32)
     }
 }
 
+/// By whom something was made, and on which day.
+pub(crate) fn by_line(canvas: &mut Canvas, uid: u32, created: u64)
+    ensures { Renders (by_line uid created) canvas.old tt canvas.new }
+{
+    canvas.write(b"<p>By ");
+    author(canvas, uid);
+    canvas.write(b" on ");
+    canvas.date(created);
+    canvas.write(b"</p>");
+}
+
 /// Who owns a node, and the day on which it was made.
 fn submitted(canvas: &mut Canvas, node: &Node)
     ensures { Renders (submitted node.now) canvas.old tt canvas.new }
 {
-    canvas.write(b"<p>By ");
-    author(canvas, node.uid);
-    canvas.write(b" on ");
-    canvas.date(node.created);
-    canvas.write(b"</p>");
+    by_line(canvas, node.uid, node.created);
 }
 
 /// Whether a type that is there says that its nodes show this.

@@ -542,4 +542,14 @@ pub mapped_all : {A B C : Type 0} (g : A → B) (f : C → B → Plan C) (b : C)
 mapped_all g f b {c = c} xs ys i {old = old} {new = new} run over same =
     subst (λ zs. Renders (folded f b zs) old c new) (ap (map g) (take_all i xs over) ∙ same) run
 
+pub each_mapped_item : {A B : Type 0} (g : A → B) (f : B → Plan (Unit {0})) (xs : List A) (i : ℕ) (x : A) {old mid new : Sheet} → i < length xs → x ≡ get_or xs i x → Renders (each f (map g (take i xs))) old tt mid → Renders (f (g x)) mid tt new → Renders (each f (map g (take (i + 1) xs))) old tt new
+each_mapped_item g f xs i x {old = old} {mid = mid} {new = new} below is first second =
+    subst (λ l. Renders (each f l) old tt new) (sym (mapped-take g (i + 1) xs))
+    (each_item f (map g xs) i (g x) (let e = mapped-length g xs in omega arith) (mapped-read g xs i x below is)
+    (subst (λ l. Renders (each f l) old tt mid) (mapped-take g i xs) first) second)
+
+pub each_mapped_all : {A B : Type 0} (g : A → B) (f : B → Plan (Unit {0})) (xs : List A) (ys : List B) (i : ℕ) {old new : Sheet} → Renders (each f (map g (take i xs))) old tt new → length xs ≤ i → map g xs ≡ ys → Renders (each f ys) old tt new
+each_mapped_all g f xs ys i {old = old} {new = new} run over same =
+    subst (λ zs. Renders (each f zs) old tt new) (ap (map g) (take_all i xs over) ∙ same) run
+
 pub ruleset loops = (each_none, each_more, each_all, folded_none, folded_more, folded_all)

@@ -1,10 +1,11 @@
 //! What builders read through a canvas: rows, contexts, and what lists and trails are made of.
-ghost use Rattle.std.specs.Prelude.{◌≡◌, Some, IsSome, IfOk, All};
+ghost use Rattle.std.specs.Prelude.{◌≡◌, Some, IsSome, IfOk, All, map};
 ghost use Rattle.std.specs.Option.{option_copied};
 ghost use Rattle.std.specs.Str.{bytes_eq};
 ghost use Rattle.cacheability.specs.declared.context.Context.TheVariants as context;
 ghost use Rattle.indexed_rows.specs.Rows.{term_of, user_of, menu_of, listing_of, block_of, node_of};
-ghost use Rattle.content_state.specs.Read.{TermRow, UserRow, MenuRow, ListingRow, BlockRow};
+ghost use Rattle.content_state.specs.Read.{TermRow, UserRow, MenuRow, ListingRow, BlockRow, CommentRow, CommentsOf};
+ghost use Rattle.content_state.specs.Comments.{shown_comment};
 ghost use Rattle.content_state.specs.Plan.{reading, asking};
 ghost use Rattle.content_state.specs.Met.{result_of};
 ghost use Rattle.site_access.specs.Plans.{holds};
@@ -16,7 +17,7 @@ ghost use Rattle.render_canvas.specs.Canvas.{Renders};
 
 use crate::canvas::Canvas;
 use cacheability::{Context, Name, Tag};
-use content_rows::{Block, Listing, Menu, Region, Term, Text, User};
+use content_rows::{Block, Comment, Listing, Menu, Region, Term, Text, User};
 use site_lists::{
     active_trail, block_visible, blocks_of, candidates, list_tags, page_asked, query_value,
 };
@@ -41,6 +42,31 @@ impl<'a> Canvas<'a> {
         let (user, tag) = self.state.user(uid);
         self.tag(tag);
         user
+    }
+
+    /// The comment of that number, if there is one.
+    pub fn comment(&mut self, cid: u32) -> Option<&'a Comment>
+        ensures { Renders (reading (CommentRow cid)) self.old (option_copied result) self.new }
+    {
+        let (comment, tag) = self.state.comment(cid);
+        self.tag(tag);
+        comment
+    }
+
+    /// The comments of a node, by their numbers. Where memory is wanting, none.
+    pub fn comments_on(&mut self, n: u32) -> Vec<(u32, &'a Comment)>
+        ensures { Renders (reading (CommentsOf n)) self.old (map shown_comment result.items) self.new }
+    {
+        match self.state.comments_on(self.alloc, n) {
+            Ok(comments) => {
+                self.tag(Tag::CommentList(n));
+                comments
+            }
+            Err(_) => {
+                self.fail();
+                Vec::new(self.alloc)
+            }
+        }
     }
 
     /// The menu of that name, if there is one.

@@ -87,6 +87,7 @@ pub fn meta_text(alloc: Global, attached: &[Library]) -> Result<Vec<u8>, AllocEr
 {
     let mut text = Vec::with_capacity(alloc, attached.len().saturating_mul(LINE_ROOM))?;
     add_meta(&mut text, attached, Library::Clock)?;
+    add_meta(&mut text, attached, Library::Comment)?;
     add_meta(&mut text, attached, Library::Login)?;
     add_meta(&mut text, attached, Library::Menu)?;
     add_meta(&mut text, attached, Library::Node)?;
@@ -132,6 +133,7 @@ fn library_name(library: Library) -> &'static [u8]
 {
     match library {
         Library::Clock => b"clock",
+        Library::Comment => b"comment",
         Library::Login => b"login",
         Library::Menu => b"menu",
         Library::Node => b"node",
@@ -145,9 +147,10 @@ fn place_of(library: Library) -> u8
 {
     match library {
         Library::Clock => 0,
-        Library::Login => 1,
-        Library::Menu => 2,
-        Library::Node => 3,
-        Library::Pager => 4,
+        Library::Comment => 1,
+        Library::Login => 2,
+        Library::Menu => 3,
+        Library::Node => 4,
+        Library::Pager => 5,
     }
 }

@@ -13,7 +13,7 @@ use Rattle.page_secrets.proofs.laws.no_password_shows.Goals as goal
 looks : (viewer : Viewer) (rows rows' : List (Cell × Row)) (c : Cell) (found found' : Option Row)
     → (found ≡ found') ⊎ HaveOneUser c found found' → LookAlikeAt viewer rows rows' c found found'
 looks viewer rows rows' c found found' (inl same) = inl (inl same)
-looks viewer rows rows' c found found' (inr users) = inr users
+looks viewer rows rows' c found found' (inr users) = inr (inl users)
 
 pub returns : goal.returns
 returns c = λ s s' ask now one other alike status body.

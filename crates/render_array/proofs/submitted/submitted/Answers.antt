@@ -1,8 +1,6 @@
 use Rattle.render_array.specs.Nodes.{submitted}
-use Rattle.render_array.specs.Pieces as pieces
-use Rattle.render_canvas.proofs.Run.{next}
 use Rattle.render_array.proofs.submitted.submitted.Goals as goal
 
 pub returns : goal.returns
-unfolding submitted pieces.by_start pieces.by_between pieces.paragraph_end
-returns c = next _ c.write.ensures (next _ c.author.ensures (next _ c.write-2.ensures (next _ c.date.ensures c.write-3.ensures)))
+unfolding submitted
+returns c = c.by_line.ensures
