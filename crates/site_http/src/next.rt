@@ -44,6 +44,8 @@ pub struct Inbox {
     start: usize,
     piece: Vec<u8>,
     room: HeadRoom,
+    /// How many requests were parsed: of each eight the second is to be known.
+    parsed: u8,
 }
 
 impl Drop for Inbox {
@@ -53,6 +55,7 @@ impl Drop for Inbox {
             start: _,
             piece: _,
             room: _,
+            parsed: _,
         } = self;
     }
 }
@@ -77,6 +80,7 @@ impl Inbox {
             start: 0,
             piece: vec![in alloc; 0; PIECE]?,
             room: HeadRoom::new(alloc)?,
+            parsed: 0,
         })
     }
 
@@ -124,7 +128,7 @@ impl Inbox {
     }
 
     /// What the bytes begin with, and without it where it is a request; or that more must be read.
-    fn take_next(&mut self, alloc: Global, recent: &RecentReplies, learns: bool) -> Option<Next>
+    fn take_next(&mut self, alloc: Global, recent: &RecentReplies) -> Option<Next>
         ensures decided { Decided result self.old self.new }
         ensures known { IfSome result (λ next. KnowsBy recent.now next) }
     {
@@ -137,7 +141,9 @@ impl Inbox {
             Ok(Parsed::More) => None,
             Ok(Parsed::Refused(code)) => Some(Next::Refused(code)),
             Ok(Parsed::Whole(request, n)) => {
-                let bytes = if learns {
+                let parsed = self.parsed;
+                self.parsed = parsed.wrapping_add(1);
+                let bytes = if parsed % 8 == 1 {
                     plain_bytes(alloc, &self.bytes[self.start..], n, &request)
                 } else {
                     None
@@ -162,14 +168,13 @@ impl Inbox {
         alloc: Global,
         source: &mut S,
         recent: &RecentReplies,
-        learns: bool,
     ) -> Next
         ensures fetches { Fetches (S.left source.old) (S.left source.new) self.old self.new result }
         ensures cause { FaultedNext result (S.faults source.old) (S.faults source.new) }
         ensures known { KnowsBy recent.now result }
     {
         'pieces: loop {
-            if let Some(next) = self.take_next(alloc, recent, learns) {
+            if let Some(next) = self.take_next(alloc, recent) {
                 return next;
             }
             match self.read_more(source) {

@@ -91,7 +91,7 @@ pub fn turn<H: House, S: Source, O: Sink, C: Clock, E: Entropy, G: Gate>(
     ensures reads { TurnReads result (S.faults source.old) (S.faults source.new) }
     ensures writes { TurnWrites result (O.faults sink.old) (O.faults sink.new) }
 {
-    let (request, bytes) = match inbox.next_request(alloc, source, recent, index % 8 == 1) {
+    let (request, bytes) = match inbox.next_request(alloc, source, recent) {
         Next::Request(request, bytes) => (request, bytes),
         Next::Known(known) => {
             return turn_known(
