@@ -3,8 +3,8 @@
 use crate::starting::{name, no_text, text};
 use cacheability::Name;
 use content_rows::{
-    Block, BlockKind, Cell, Duplicate, FieldValue, Items, Link, Listing, Menu, Node, Region, Row,
-    Text, User, starter,
+    Block, BlockKind, Cell, Comment, Duplicate, FieldValue, Items, Link, Listing, Menu, Node,
+    Region, Row, Talk, Text, User, starter,
 };
 use std::alloc::{AllocError, Global};
 use std::process::Abort;
@@ -72,7 +72,7 @@ fn stands_at(at: usize, cell: &Cell, cells: &[Cell]) -> bool {
 }
 
 /// Cells in their order.
-fn cells(long: Name, longer: Name) -> [Cell; 16] {
+fn cells(long: Name, longer: Name) -> [Cell; 19] {
     [
         Cell::Site,
         Cell::Seq,
@@ -89,11 +89,14 @@ fn cells(long: Name, longer: Name) -> [Cell; 16] {
         Cell::Block(long),
         Cell::Session(long),
         Cell::Session(longer),
+        Cell::Comment(9),
+        Cell::Comment(10),
+        Cell::Talk,
         Cell::Head,
     ]
 }
 
-const CELL_TEXTS: [&[u8]; 16] = [
+const CELL_TEXTS: [&[u8]; 19] = [
     b"site",
     b"seq",
     b"type:longer",
@@ -109,6 +112,9 @@ const CELL_TEXTS: [&[u8]; 16] = [
     b"block:long",
     b"session:long",
     b"session:longer",
+    b"comment:9",
+    b"comment:10",
+    b"talk",
     b"head",
 ];
 
@@ -266,6 +272,37 @@ fn nodes(rt: HostRuntime) {
 fn users(rt: HostRuntime) {
     assert!(rt; is_right(user(&rt, rt.alloc(), b""), Cell::User(1)));
     assert!(rt; !is_right(user(&rt, rt.alloc(), b"A"), Cell::User(1)));
+}
+
+/// A comment that says this, under another.
+fn comment(rt: &impl Abort, alloc: Global, body: &[u8], parent: Option<u32>) -> Row {
+    Row::Comment(Comment {
+        body: text(rt, alloc, body),
+        created: 1,
+        node: 1,
+        parent,
+        status: true,
+        uid: 0,
+        uuid: text(rt, alloc, b"c-1"),
+    })
+}
+
+#[test]
+fn comments(rt: HostRuntime) {
+    let cases: [(Cell, &[u8], Option<u32>, bool); 5] = [
+        (Cell::Comment(1), b"Yes\nno", None, true),
+        (Cell::Comment(1), b"Yes", Some(2), true),
+        (Cell::Comment(0), b"Yes", None, false),
+        (Cell::Comment(1), b"", None, false),
+        (Cell::Comment(1), b"Yes", Some(0), false),
+    ];
+    for (cell, body, parent, right) in cases {
+        assert!(rt; is_right(comment(&rt, rt.alloc(), body, parent), cell) == right);
+    }
+    assert!(rt; is_right(Row::Talk(Talk { comment: 1 }), Cell::Talk));
+    assert!(rt; !is_right(Row::Talk(Talk { comment: 0 }), Cell::Talk));
+    let copy = comment(&rt, rt.alloc(), b"Yes", Some(2)).duplicate(rt.alloc());
+    assert!(rt; is_right(copy.expect(&rt, "memory"), Cell::Comment(3)));
 }
 
 /// The names of these letters.

@@ -9,6 +9,8 @@ mod counted;
 #[cfg(test)]
 mod counting;
 #[cfg(test)]
+mod failing;
+#[cfg(test)]
 mod keeping;
 #[cfg(test)]
 mod pieces;
@@ -16,6 +18,8 @@ mod pieces;
 mod rooms;
 #[cfg(test)]
 mod site;
+#[cfg(test)]
+mod slow;
 #[cfg(test)]
 mod work;
 #[cfg(test)]

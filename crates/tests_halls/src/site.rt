@@ -1,6 +1,7 @@
 //! A new site with a session, and what is wanted of it.
 ghost use Rattle.std.specs.Prelude.{◌≡◌, IfOk};
 ghost use Rattle.indexed_rows.specs.Rows.{AreValidRows};
+ghost use Rattle.site_keeper.specs.Keeper.{IfTold};
 
 use cache_entries::{Key, Subject};
 use cacheability::Name;
@@ -9,7 +10,7 @@ use content_state::{Fragment, Rows};
 use site_files::{STARTER, read_rows};
 use site_hall::Engine;
 use site_io::MemorySource;
-use site_keeper::{MemoryKeeper, Stored};
+use site_keeper::{Fail, Keeper, MemoryKeeper, Stored};
 use site_turn::Site;
 use std::alloc::{AllocError, Global};
 use tag_counts::Counts;
@@ -39,17 +40,37 @@ pub fn stored(alloc: Global) -> Result<Stored, AllocError>
     })
 }
 
-/// The site, at the number 0, over a keeper in memory. No pass is made yet.
-pub fn site(alloc: Global) -> Result<Site<MemoryKeeper>, AllocError>
+/// The site over a keeper that holds this, where it tells what it holds. No pass is made yet.
+pub fn site_over<K: Keeper + Drop>(
+    alloc: Global,
+    keeper: K,
+    stored: Stored,
+) -> Result<Site<K>, AllocError>
+    requires told { IfTold (K.kept keeper) (λ held. held ≡ stored) }
+    requires rows { AreValidRows stored.rows }
     ensures { IfOk result (λ site. site.founder.made ≡ 0) }
 {
-    let stored = stored(alloc)?;
-    let copy = stored.duplicate(alloc)?;
-    let keeper = MemoryKeeper::new(alloc, copy, Vec::new(alloc));
     let Ok(hall) = Engine::new(alloc, keeper, stored) else {
         return Err(AllocError);
     };
     Site::new(alloc, hall).map_err(|_| AllocError)
+}
+
+/// The site, at the number 0, over a keeper in memory, of whose calls these fail. No pass is made yet.
+pub fn site_that_fails(alloc: Global, fails: Vec<Fail>) -> Result<Site<MemoryKeeper>, AllocError>
+    ensures { IfOk result (λ site. site.founder.made ≡ 0) }
+{
+    let stored = stored(alloc)?;
+    let copy = stored.duplicate(alloc)?;
+    let keeper = MemoryKeeper::new(alloc, copy, fails);
+    site_over(alloc, keeper, stored)
+}
+
+/// The site, at the number 0, over a keeper in memory. No pass is made yet.
+pub fn site(alloc: Global) -> Result<Site<MemoryKeeper>, AllocError>
+    ensures { IfOk result (λ site. site.founder.made ≡ 0) }
+{
+    site_that_fails(alloc, Vec::new(alloc))
 }
 
 /// The key of the block of this name, whose values are none.

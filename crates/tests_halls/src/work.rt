@@ -15,14 +15,25 @@ use std::thread;
 /// A mark that one thread sets and another waits for.
 pub type Mark = Arc<AtomicBool>;
 
-// Waits until a mark is set, for many turns at most: some seconds on a processor that has nothing else to do.
-fn wait_for(mark: &Mark) {
-    for _ in 0..20_000_000u32 {
+/// A mark that isn't set.
+pub fn mark(alloc: Global) -> Result<Mark, AllocError> {
+    Ok(Arc::new(alloc, AtomicBool::new(false))?)
+}
+
+/// Whether a mark is set within so many looks, with a turn for others between two of them.
+pub fn is_set_within(mark: &Mark, looks: u32) -> bool {
+    for _ in 0..looks {
         if mark.load(SeqCst) {
-            return;
+            return true;
         }
         thread::yield_now();
     }
+    false
+}
+
+// Waits until a mark is set, for many turns at most: some seconds on a processor that has nothing else to do.
+fn wait_for(mark: &Mark) {
+    let _set = is_set_within(mark, 20_000_000);
 }
 
 /// A gate that tells that a point is reached; at the first one it waits for a mark, if it waits at all. It counts the replies, and writes
@@ -39,7 +50,7 @@ impl Hold {
     // The gate that isn't held, and where nothing was reached.
     fn new(alloc: Global) -> Result<Hold, AllocError> {
         Ok(Hold {
-            reached: Arc::new(alloc, AtomicBool::new(false))?,
+            reached: mark(alloc)?,
             until: None,
             replies: 0,
             built: [0; 4],
@@ -88,7 +99,7 @@ impl Connection {
         let requests = Vec::from_slice(alloc, requests)?;
         let moments = vec![in alloc; 1_000]?;
         let sink = MemorySink::new(alloc, 4_000)?;
-        let answered = Arc::new(alloc, AtomicBool::new(false))?;
+        let answered = mark(alloc)?;
         let gate = Hold::new(alloc)?;
         Ok(Connection {
             source: MemorySource::new(requests, 64),
@@ -103,9 +114,19 @@ impl Connection {
 
     /// Holds this connection, once its first page's state is taken, until the other one is answered, and lets that one begin only then.
     pub fn hold_for(&mut self, other: &mut Connection) -> Result<(), AllocError> {
-        self.gate.until = Some(Arc::try_clone(&other.answered)?);
-        other.after = Some(Arc::try_clone(&self.gate.reached)?);
+        self.gate.until = Some(other.answered()?);
+        other.begin_after(Arc::try_clone(&self.gate.reached)?);
         Ok(())
+    }
+
+    /// Lets this connection begin only once a mark is set.
+    pub fn begin_after(&mut self, mark: Mark) {
+        self.after = Some(mark);
+    }
+
+    /// The mark that is set once this connection is answered.
+    pub fn answered(&self) -> Result<Mark, AllocError> {
+        Ok(Arc::try_clone(&self.answered)?)
     }
 
     /// What was written.

@@ -5,14 +5,14 @@ use crate::closing::closed;
 use crate::site::site;
 use crate::work::Connection;
 use site_house::House;
-use site_keeper::MemoryKeeper;
+use site_keeper::{Keeper, MemoryKeeper};
 use site_turn::{Guest, Pass, Site, Worker, work_all};
 use std::alloc::{AllocError, Global};
 use std::sync::Wait;
 use std::thread::Threads;
 
 /// To give the first node the title A, in place of its version 1.
-const TITLE: &[u8] =
+pub const TITLE: &[u8] =
     b"PATCH /node/1 HTTP/1.1\r\nHost: a\r\nCookie: SESS=abc\r\nX-CSRF-Token: ba7816bf8f01cfea414140de5dae2223\r\nContent-Type: application/json\r\nContent-Length: 21\r\n\r\n{\"title\":\"A\",\"vid\":1}";
 
 /// The same, and then the title B.
@@ -29,17 +29,17 @@ const NODES: &[u8] =
 
 /// The edit is of the state 1; of the two pages the first is of the state 0 and has the old title, and the second of the state 1 and the
 /// new one.
-const TITLE_REPLY: &[u8] =
+pub const TITLE_REPLY: &[u8] =
     b"HTTP/1.1 200 OK\r\nContent-Type: application/json\r\nContent-Length: 17\r\nX-Site-State: 1\r\n\r\n{\"nid\":1,\"vid\":2}";
 
 const NODES_REPLY: &[u8] =
     b"HTTP/1.1 200 OK\r\nContent-Type: text/html; charset=UTF-8\r\nContent-Length: 258\r\nX-Site-State: 0\r\n\r\n<!DOCTYPE html><html lang=\"en\"><head><title>First | Site</title><meta name=\"library\" content=\"node\"></head><body><header></header><main><h1>First</h1><article><div class=\"field\">Body: Hello</div></article></main><aside></aside><footer></footer></body></html>HTTP/1.1 200 OK\r\nContent-Type: text/html; charset=UTF-8\r\nContent-Length: 250\r\nX-Site-State: 1\r\n\r\n<!DOCTYPE html><html lang=\"en\"><head><title>A | Site</title><meta name=\"library\" content=\"node\"></head><body><header></header><main><h1>A</h1><article><div class=\"field\">Body: Hello</div></article></main><aside></aside><footer></footer></body></html>";
 
-// Two workers with passes of this site are done.
-fn done<R: Threads + Wait + Sync>(
+/// Two workers with passes of this site are done.
+pub fn done<K: Keeper + Send + Drop, R: Threads + Wait + Sync>(
     rt: &R,
     alloc: Global,
-    site: &Site<MemoryKeeper>,
+    site: &Site<K>,
     one: Worker<Connection>,
     two: Worker<Connection>,
 ) -> (Worker<Connection>, Worker<Connection>)

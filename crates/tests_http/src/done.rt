@@ -11,7 +11,7 @@ fn tells(done: &Done, number: u64, closing: bool, wanted: &[u8]) -> bool {
 }
 
 /// What was done, the number of a state, whether the connection closes, and the reply.
-const DONE: [(Done, u64, bool, &[u8]); 7] = [
+const DONE: [(Done, u64, bool, &[u8]); 8] = [
     (
         Done::NodeCreated(9),
         1,
@@ -41,6 +41,12 @@ const DONE: [(Done, u64, bool, &[u8]); 7] = [
         1,
         false,
         b"HTTP/1.1 201 Created\r\nContent-Type: application/json\r\nContent-Length: 9\r\nX-Site-State: 1\r\n\r\n{\"uid\":2}",
+    ),
+    (
+        Done::CommentCreated(12),
+        4,
+        false,
+        b"HTTP/1.1 201 Created\r\nContent-Type: application/json\r\nContent-Length: 10\r\nX-Site-State: 4\r\n\r\n{\"cid\":12}",
     ),
     (
         Done::Saved,

@@ -41,6 +41,16 @@ DELETE /config/type/a remove-type a
 DELETE /config/block/a remove-block a
 DELETE /config/menu/a remove-menu a
 DELETE /config/listing/a remove-listing a
+POST /node/1/comment create-comment 1
+POST /node/4294967294/comment create-comment 4294967294
+POST /node/01/comment create-comment -
+POST /node/comment/comment create-comment -
+POST /node/{n}/comment create-comment -
+PATCH /comment/7 change-comment 7
+PATCH /comment/4294967295 change-comment -
+PATCH /comment/one change-comment -
+DELETE /comment/7 remove-comment 7
+DELETE /comment/+7 remove-comment -
 ";
 
 /// A method and a path that name no edit, a line each.
@@ -68,6 +78,20 @@ DELETE /user/2
 DELETE /user/logout
 DELETE /config/site
 DELETE /cache/rebuild
+POST /comment
+POST /comment/1
+POST /node//comment
+POST /node/1/comment/
+POST /node/1/comments
+POST /node/1/2/comment
+POST /node/comment
+POST node/1/comment
+PATCH /comment
+PATCH /comment/
+PATCH /comment/1/2
+PATCH /node/1/comment
+DELETE /comment/
+DELETE /node/1/comment
 ";
 
 /// The row of this name that is set.
@@ -113,6 +137,9 @@ fn edit_of(word: &str, of: &str) -> Option<Edit> {
         "login" => Some(Edit::Login),
         "logout" => Some(Edit::Logout),
         "rebuild" => Some(Edit::Rebuild),
+        "create-comment" => Some(Edit::CreateComment(number)),
+        "change-comment" => Some(Edit::ChangeComment(number)),
+        "remove-comment" => Some(Edit::RemoveComment(number)),
         _ => edit_of_name(word, of),
     }
 }
@@ -145,7 +172,7 @@ fn methods_and_paths(rt: HostRuntime) {
     assert!(rt; paths.paired(b"PATCH", b"/user/\xff").is_none());
 }
 
-const READ: [(Edit, Reads); 14] = [
+const READ: [(Edit, Reads); 17] = [
     (Edit::CreateNode, Reads::Json),
     (Edit::ChangeNode(None), Reads::Json),
     (Edit::RemoveNode(None), Reads::Nothing),
@@ -160,6 +187,9 @@ const READ: [(Edit, Reads); 14] = [
     (Edit::Login, Reads::Form),
     (Edit::Logout, Reads::Nothing),
     (Edit::Rebuild, Reads::Nothing),
+    (Edit::CreateComment(Some(1)), Reads::Json),
+    (Edit::ChangeComment(None), Reads::Json),
+    (Edit::RemoveComment(Some(1)), Reads::Nothing),
 ];
 
 #[test]

@@ -17,7 +17,7 @@ use std::thread::Threads;
 use std::{fs, io};
 
 /// The files of cases.
-const FILES: [&str; 14] = [
+const FILES: [&str; 16] = [
     "program.cases",
     "jobs.cases",
     "serving.cases",
@@ -28,10 +28,12 @@ const FILES: [&str; 14] = [
     "lists.cases",
     "access.cases",
     "parents.cases",
+    "comments.cases",
     "model_rows.cases",
     "model_pages.cases",
     "model_edits.cases",
     "model_parents.cases",
+    "model_comments.cases",
 ];
 
 /// Runs a case, and tells each section of it that differs, a line each.

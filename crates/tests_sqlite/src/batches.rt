@@ -22,8 +22,8 @@ pub(crate) struct Words {
     head: u64,
 }
 
-/// The rows that a site begins with, and a session.
-const SITE: [&str; 9] = [
+/// The rows that a site begins with, a session and a comment.
+const SITE: [&str; 11] = [
     "{\"cell\":\"site\",\"front\":\"/node\",\"name\":\"Site\"}",
     "{\"cell\":\"seq\",\"node\":2,\"term\":1,\"user\":2}",
     "{\"cell\":\"type:page\",\"fields\":[{\"edit\":null,\"label\":\"Body\",\"name\":\"body\",\"owner\":false,\"teaser\":true,\"view\":null}],\"label\":\"Page\",\"submitted\":false}",
@@ -33,6 +33,8 @@ const SITE: [&str; 9] = [
     "{\"cell\":\"node:1\",\"changed\":100,\"created\":100,\"fields\":{\"body\":\"Hello\"},\"grants\":[],\"path\":null,\"promote\":true,\"refs\":[],\"status\":true,\"sticky\":false,\"terms\":[],\"title\":\"First\",\"type\":\"page\",\"uid\":1,\"uuid\":\"n-1\",\"vid\":1}",
     "{\"age\":null,\"cell\":\"listing:frontpage\",\"path\":\"/node\",\"promoted\":true,\"recent\":null,\"term\":null,\"title\":\"Home\",\"types\":[]}",
     "{\"cell\":\"session:abc\",\"expires\":4000000000,\"uid\":1}",
+    "{\"body\":\"Yes\",\"cell\":\"comment:1\",\"created\":100,\"node\":1,\"parent\":null,\"status\":true,\"uid\":1,\"uuid\":\"c-1\"}",
+    "{\"cell\":\"talk\",\"comment\":2}",
 ];
 
 /// The import of the site into a new store, with a count whose bytes all differ.
@@ -41,6 +43,8 @@ pub(crate) const BEGIN: Words = Words {
     gone: None,
     counts: &[
         ("4xx-response", 1),
+        ("comment:1", 1),
+        ("comment_list:1", 1),
         ("config:node.type.page", 1),
         ("config:system.site", 1),
         ("config:user.role.anonymous", 1),
@@ -144,10 +148,10 @@ pub(crate) const NOTHING: Seen = Seen {
 
 /// After `BEGIN`.
 pub(crate) const BEGUN: Seen = Seen {
-    rows: 9,
+    rows: 11,
     next_node: 2,
     version: 1,
-    tags: 10,
+    tags: 12,
     sum: 72_623_859_790_382_859,
     head: 7,
     told: 7,
@@ -155,10 +159,10 @@ pub(crate) const BEGUN: Seen = Seen {
 
 /// After `EDIT` too.
 pub(crate) const EDITED: Seen = Seen {
-    rows: 8,
+    rows: 10,
     next_node: 3,
     version: 2,
-    tags: 10,
+    tags: 12,
     sum: 72_623_859_790_382_863,
     head: 18_446_744_073_709_551_615,
     told: 18_446_744_073_709_551_615,

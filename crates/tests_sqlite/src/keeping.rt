@@ -13,7 +13,7 @@ const TABLES: &str =
     "CREATE TABLE cell_row(cell TEXT PRIMARY KEY, body TEXT NOT NULL); CREATE TABLE cachetags(tag TEXT PRIMARY KEY, invalidations BLOB NOT NULL)";
 
 /// A store that has these rows too is loaded as that.
-const BROKEN: [(&str, Result<u64, KeeperFault>); 14] = [
+const BROKEN: [(&str, Result<u64, KeeperFault>); 18] = [
     ("INSERT INTO cell_row VALUES ('head', '12')", Ok(12)),
     (
         "INSERT INTO cell_row VALUES ('head', '012')",
@@ -54,6 +54,22 @@ const BROKEN: [(&str, Result<u64, KeeperFault>); 14] = [
     (
         "INSERT INTO cell_row VALUES ('term:1', '{\"cell\":\"term:1\",\"description\":\"\",\"name\":\"T\",\"parent\":0,\"status\":true,\"uuid\":\"t-1\"}')",
         Err(KeeperFault::Failed),
+    ),
+    (
+        "INSERT INTO cell_row VALUES ('comment:1', '{\"body\":\"Yes\",\"cell\":\"comment:1\",\"created\":1,\"node\":1,\"parent\":null,\"status\":true,\"uid\":0,\"uuid\":\"c-1\"}')",
+        Ok(0),
+    ),
+    (
+        "INSERT INTO cell_row VALUES ('comment:1', '{\"body\":\"\",\"cell\":\"comment:1\",\"created\":1,\"node\":1,\"parent\":null,\"status\":true,\"uid\":0,\"uuid\":\"c-1\"}')",
+        Err(KeeperFault::Failed),
+    ),
+    (
+        "INSERT INTO cell_row VALUES ('talk', '{\"cell\":\"talk\",\"comment\":0}')",
+        Err(KeeperFault::Failed),
+    ),
+    (
+        "INSERT INTO cachetags VALUES ('comment_list:7', x'0102030405060708')",
+        Ok(0),
     ),
     (
         "INSERT INTO cachetags VALUES ('node:4294967295', x'0102030405060708')",
