@@ -1,7 +1,7 @@
 """The rows of a site, put together and written in the order of their cells.
 
-A row is one JSON object a line, compact, its keys in the order of their bytes. docs/FORMATS.md has the kinds of rows and
-their keys.
+A row is one JSON object a line, compact, its keys in the order of their bytes. docs/reference/ROWS.md has the kinds of rows
+and their keys.
 """
 import calendar
 import hashlib
@@ -9,8 +9,10 @@ import json
 import time
 import uuid
 
-KINDS = ["site", "seq", "type", "role", "user", "term", "node", "menu", "listing", "block", "session"]
-NUMBERED = ("user", "term", "node")
+KINDS = ["site", "seq", "type", "role", "user", "term", "node", "menu", "listing", "block", "session", "comment",
+         "talk"]
+NUMBERED = ("user", "term", "node", "comment")
+OF_SEQ = ("user", "term", "node")
 
 
 def moment(text):
@@ -59,7 +61,7 @@ def place(cell):
 
 
 class Site:
-    """A site that is being written. Users, terms and nodes are numbered as they come, and named by words until then."""
+    """A site that is being written. Users, terms, nodes and comments are numbered as they come, and named by words until then."""
 
     def __init__(self, host, name, front):
         self.host = host
@@ -108,6 +110,14 @@ class Site:
             "uid": self.ids["user"][by] if by else 0, "vid": vid,
         })
 
+    def comment(self, key, node, at, by, body, under=None, status=True):
+        """A comment on a node by the user `by`, in reply to the one of the word `under`."""
+        self._number("comment", key, {
+            "body": body, "created": moment(at), "node": self.ids["node"][node],
+            "parent": self.ids["comment"][under] if under else None, "status": status,
+            "uid": self.ids["user"][by] if by else 0,
+        })
+
     def menu(self, name, label, links):
         self._put("menu", name, {"label": label, "links": links})
 
@@ -128,7 +138,9 @@ class Site:
         """All rows in the order of their cells, each with the kind of its cell."""
         nodes, terms = self.ids["node"], self.ids["term"]
         rows = dict(self.rows)
-        rows[("seq", "")] = {kind: len(self.ids[kind]) + 1 for kind in NUMBERED}
+        rows[("seq", "")] = {kind: len(self.ids[kind]) + 1 for kind in OF_SEQ}
+        if self.ids["comment"]:
+            rows[("talk", "")] = {"comment": len(self.ids["comment"]) + 1}
         for kind, name in sorted(rows, key=place):
             row = dict(rows[(kind, name)], cell=f"{kind}:{name}" if name else kind)
             if kind == "node":

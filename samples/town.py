@@ -17,6 +17,7 @@ def site():
     news(town)
     events(town)
     papers(town)
+    talk(town)
     chrome(town)
     return town
 
@@ -34,18 +35,19 @@ def settings(town):
         field("body", "Decided"),
         field("note", "The clerk's note", view="view clerk notes", edit="edit clerk notes"),
     ], submitted=True)
-    town.role("anonymous", "Visitor", ["access content"])
+    town.role("anonymous", "Visitor", ["access comments", "access content"])
     town.role("authenticated", "Townsperson", [
-        "access content", "access user profiles", "view own unpublished content",
+        "access comments", "access content", "access user profiles", "edit own comments", "post comments",
+        "view own unpublished content",
     ])
     town.role("editor", "Editor of the pages", [
         "create event content", "create news content", "create page content", "create url aliases",
         "delete own event content", "delete own news content", "edit any event content", "edit any news content",
-        "edit any page content",
+        "edit any page content", "skip comment approval",
     ])
     town.role("clerk", "Town clerk", [
-        "administer blocks", "administer menu", "administer nodes", "administer site configuration", "administer taxonomy",
-        "administer users", "administer views", "create event content", "create news content", "create page content",
+        "administer blocks", "administer comments", "administer menu", "administer nodes", "administer site configuration",
+        "administer taxonomy", "administer users", "administer views", "create event content", "create news content", "create page content",
         "create paper content", "create url aliases", "edit any event content", "edit any news content",
         "edit any page content", "edit clerk notes", "view clerk notes",
     ], grants=[grant("council", 1), grant("council", 2)])
@@ -316,6 +318,19 @@ def papers(town):
     paper(town, "barge", "2026-11-23 10:40", "Whether a barge is a house (draft)",
           "The Hopewell has a chimney, a letter box and a rose.",
           "Not decided. The clerk is looking for the law of 1822 on floating inns.", private=True, status=False)
+
+
+def talk(town):
+    """What is said to the news that there is no bridge. The last of it waits for the clerk."""
+    town.comment("twelfth", "bridge-eleven", "2025-09-30 08:05", "Teodor Quill",
+                 "Twelve is a good number for a bridge.")
+    town.comment("last-boat", "bridge-eleven", "2025-09-30 08:40", "Ines Marchbank",
+                 "It is also the number of the last boat. I will keep you a seat.", under="twelfth")
+    town.comment("seat", "bridge-eleven", "2025-09-30 09:10", "Teodor Quill", "By the window, please.", under="last-boat")
+    town.comment("pencil", "bridge-eleven", "2025-10-01 12:15", "Hester Loom",
+                 "Would whoever drew the duck return the pencil? It belongs to the reading room.")
+    town.comment("drawbridge", "bridge-eleven", "2026-11-27 19:30", "Hester Loom",
+                 "A bridge that can be drawn up at night was never put to the vote. I only ask.", under="twelfth", status=False)
 
 
 def chrome(town):

@@ -5,9 +5,11 @@ from __future__ import annotations
 import re
 from dataclasses import dataclass
 
-KINDS = ("site", "seq", "type", "role", "user", "term", "node", "menu", "listing", "block", "session")
-ALONE = ("site", "seq")
-NUMBERED = ("user", "term", "node")
+KINDS = ("site", "seq", "type", "role", "user", "term", "node", "menu", "listing", "block", "session", "comment", "talk")
+ALONE = ("site", "seq", "talk")
+NUMBERED = ("user", "term", "node", "comment")
+OF_SEQ = ("node", "term", "user")
+"""The kinds of which `seq` has the next number; `talk` has that of comments."""
 GREATEST_ID = 4_294_967_294
 
 _NAME = re.compile(rb"[a-z0-9_]{1,64}")
@@ -16,14 +18,14 @@ _ID = re.compile(rb"[1-9][0-9]{0,9}")
 
 @dataclass(frozen=True)
 class Cell:
-    """A cell: its kind, and its name or its number. `site` and `seq` have neither."""
+    """A cell: its kind, and its name or its number. `site`, `seq` and `talk` have neither."""
 
     kind: str
     name: str = ""
 
     @property
     def number(self) -> int:
-        """The number of a user, a term or a node."""
+        """The number of a user, a term, a node or a comment."""
         return int(self.name)
 
     @property

@@ -27,7 +27,7 @@ RULES = {
     "unknown": "there is no such key, or the type has no such field",
     "missing": "it has to be there",
     "kind": "its value is of another kind",
-    "many": "it has too many members",
+    "many": "it has as many as it may",
     "length": "it is too short or too long",
     "bytes": "it has characters that may not stand there",
     "range": "it is too small or too great",

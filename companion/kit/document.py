@@ -7,10 +7,10 @@ import time
 import uuid
 from typing import Any, Mapping, Optional
 
-from .cells import NUMBERED, Cell
+from .cells import OF_SEQ, Cell
 from .lint import look
 from .rowfile import in_order, read_rows, rows_file
-from .site_rules import MOST_TERMS_DEEP, depth_of, site_faults
+from .site_rules import MOST_DEEP, depth_of, site_faults
 from .tables import OF_KIND
 from .texts import Paths, as_line
 from .trouble import Trouble
@@ -68,8 +68,8 @@ class Document:
         return self._found[kind, key].get(value)
 
     def number(self, kind: str) -> str:
-        """The next id of a kind, which is given away."""
-        assert kind in NUMBERED
+        """The next id of a kind that `seq` numbers, which is given away."""
+        assert kind in OF_SEQ
         seq = self.rows[Cell("seq")]
         given = seq[kind]
         self.rows[Cell("seq")] = {**seq, kind: given + 1}
@@ -96,7 +96,7 @@ class Document:
             return row["parent"] == parent
         self.rows[cell] = {**row, "parent": parent}
         depths = [depth_of(self.rows, it) for it in self.rows if it.kind == "term"]
-        if all(depth is not None and depth <= MOST_TERMS_DEEP for depth in depths):
+        if all(depth is not None and depth <= MOST_DEEP for depth in depths):
             return True
         self.rows[cell] = row
         return False

@@ -3,15 +3,14 @@
 from __future__ import annotations
 
 import argparse
-import re
 import uuid
-from typing import Any, Optional
+from typing import Any
 
-from . import edit_config, passwords, tables
+from . import edit_comments, edit_config, passwords, tables
 from .asks import Ask, Text, Texts
 from .cells import GREATEST_ID, Cell
 from .client import Client, SessionFile, Stale, text_of_page
-from .edit_common import Adder, add_flag, client_of, common_options, told
+from .edit_common import Adder, add_flag, client_of, common_options, number, optional_number, told
 from .rowfile import read_rows, rows_file
 from .texts import moment_of
 from .trouble import Trouble
@@ -228,23 +227,12 @@ def user_end(given: argparse.Namespace) -> int:
     return 0
 
 
-def _number(text: str) -> int:
-    """A number that a row may have, of a word."""
-    if not re.fullmatch("[0-9]{1,10}", text) or int(text) > GREATEST_ID:
-        raise argparse.ArgumentTypeError(f"{text!r} is no number of a row")
-    return int(text)
-
-
-def _optional_number(text: str) -> Optional[int]:
-    return _number(text) if text else None
-
-
 def _add_node_options(it: argparse.ArgumentParser) -> None:
     it.add_argument("--title")
     it.add_argument("--field", action="append", default=[], metavar="NAME=TEXT", help="a field; @FILE reads it from a file; may be repeated")
     it.add_argument("--path", help="where it is found; an empty one takes it away")
-    it.add_argument("--term", type=_optional_number, action="append", metavar="T", help="a term; an empty one: none at all")
-    it.add_argument("--ref", type=_optional_number, action="append", metavar="N", help="a node that it refers to")
+    it.add_argument("--term", type=optional_number, action="append", metavar="T", help="a term; an empty one: none at all")
+    it.add_argument("--ref", type=optional_number, action="append", metavar="N", help="a node that it refers to")
     it.add_argument(
         "--grant", action="append", metavar="REALM:NUMBER:WHAT",
         help="who else may view, update or delete it, as board:1:view,update; with one, nobody else sees it; an empty one: none",
@@ -253,7 +241,7 @@ def _add_node_options(it: argparse.ArgumentParser) -> None:
     add_flag(it, "promote", "promote", "no-promote", ("promoted listings show it", "they don't"))
     add_flag(it, "sticky", "sticky", "no-sticky", ("it stands first in listings", "it doesn't"))
     it.add_argument("--created", metavar="DATE")
-    it.add_argument("--uid", type=_number, metavar="U", help="the user that it belongs to, 0 for nobody")
+    it.add_argument("--uid", type=number, metavar="U", help="the user that it belongs to, 0 for nobody")
 
 
 def _add_nodes(top: Adder) -> None:
@@ -263,7 +251,7 @@ def _add_nodes(top: Adder) -> None:
     it.add_argument("--uuid", help="its universal id (default: one by chance)")
     _add_node_options(it)
     it = nodes.add("set", "change a node; what isn't named stays as it is", node_set)
-    it.add_argument("node", type=_number, metavar="N")
+    it.add_argument("node", type=number, metavar="N")
     it.add_argument("--vid", type=int, metavar="V", help="the version that you looked at (default: the newest there is)")
     it.add_argument("--seen", metavar="EXPORT", help="the export, or the backup, that you looked at: its version is sent")
     it.add_argument("--clear", action="append", default=[], metavar="NAME", help="take the value of a field away")
@@ -272,7 +260,7 @@ def _add_nodes(top: Adder) -> None:
         ("version", "print the version that a node is in", node_version),
         ("delete", "remove a node", node_delete),
     ):
-        nodes.add(name, words, run).add_argument("node", type=_number, metavar="N")
+        nodes.add(name, words, run).add_argument("node", type=number, metavar="N")
 
 
 def _add_terms(top: Adder) -> None:
@@ -280,15 +268,15 @@ def _add_terms(top: Adder) -> None:
     it = terms.add("new", "make a term", term_new)
     it.add_argument("name")
     others = [it, terms.add("set", "change a term", term_set)]
-    others[1].add_argument("term", type=_number, metavar="T")
+    others[1].add_argument("term", type=number, metavar="T")
     others[1].add_argument("--name")
     for it in others:
         it.add_argument("--description", metavar="TEXT", help="what it means; @FILE reads it from a file")
         it.add_argument(
-            "--parent", type=_optional_number, default=argparse.SUPPRESS, metavar="T", help="the term that it stands below; an empty one: none"
+            "--parent", type=optional_number, default=argparse.SUPPRESS, metavar="T", help="the term that it stands below; an empty one: none"
         )
         add_flag(it, "status", "publish", "draft", ("everybody may see it", "who looks after terms alone may see it"))
-    terms.add("delete", "remove a term", term_delete).add_argument("term", type=_number, metavar="T")
+    terms.add("delete", "remove a term", term_delete).add_argument("term", type=number, metavar="T")
 
 
 def _add_users(top: Adder) -> None:
@@ -296,7 +284,7 @@ def _add_users(top: Adder) -> None:
     it = users.add("new", "make a user, who can't log in without a password", user_new)
     it.add_argument("name")
     others = [it, users.add("set", "change a user", user_set)]
-    others[1].add_argument("user", type=_number, metavar="U", help="the number of the user")
+    others[1].add_argument("user", type=number, metavar="U", help="the number of the user")
     others[1].add_argument("--name")
     for it in others:
         it.add_argument("--pass", dest="password", action="store_true", help="give them a password, which is asked for")
@@ -307,7 +295,7 @@ def _add_users(top: Adder) -> None:
 
 
     it = users.add("end-sessions", "end the sessions that somebody has, as a lost telephone's", user_end)
-    it.add_argument("user", type=_number, metavar="U")
+    it.add_argument("user", type=number, metavar="U")
     it.add_argument("--from", dest="source", required=True, metavar="EXPORT", help="a fresh export, or a backup: it has the sessions")
 
 
@@ -328,6 +316,7 @@ def add_to(commands: Any) -> None:
     top.add("logout", "end the session", log_out)
     _add_nodes(top)
     _add_terms(top)
+    edit_comments.add_to(top)
     _add_users(top)
     edit_config.add_to(top)
     top.add("rebuild", "let every kept piece of a page be made again", rebuild)

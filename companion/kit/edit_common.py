@@ -4,8 +4,10 @@ from __future__ import annotations
 
 import argparse
 import os
-from typing import Any, Callable
+import re
+from typing import Any, Callable, Optional
 
+from .cells import GREATEST_ID
 from .client import Client, Reply, SessionFile
 
 DEFAULT_ADDRESS = "http://127.0.0.1:8080"
@@ -22,6 +24,18 @@ def told(what: str, reply: Reply) -> int:
     """Tells that an edit was made, and by which state."""
     print(f"{what} (state {reply.number})")
     return 0
+
+
+def number(text: str) -> int:
+    """A number that a row may have, of a word."""
+    if not re.fullmatch("[0-9]{1,10}", text) or int(text) > GREATEST_ID:
+        raise argparse.ArgumentTypeError(f"{text!r} is no number of a row")
+    return int(text)
+
+
+def optional_number(text: str) -> Optional[int]:
+    """A number that a row may have; none of an empty word."""
+    return number(text) if text else None
 
 
 class Adder:

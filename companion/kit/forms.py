@@ -100,6 +100,13 @@ BODY = Form(
     is_written=lambda text: _NO_TEXT.search(text) is None,
     wrong_byte=lambda byte: not is_text_byte(byte),
 )
+COMMENT = Form(
+    words="a text of 1 to 65,536 bytes, with no control characters but tabs and the ends of lines",
+    lengths="1 to 65,536 bytes",
+    is_long=_between(1, 65_536),
+    is_written=lambda text: _NO_TEXT.search(text) is None,
+    wrong_byte=lambda byte: not is_text_byte(byte),
+)
 UUID = Form(
     words="a universal id: 1 to 64 of a-z, 0-9 and `-`",
     lengths="1 to 64 bytes",

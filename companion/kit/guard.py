@@ -36,12 +36,21 @@ def let_go_on(pid, handle):
         pass
 
 
+def hurry():
+    """Goes before all other processes, where it may, that of who stopped it too: it sleeps, and then has little to do."""
+    try:
+        os.sched_setscheduler(0, os.SCHED_RR, os.sched_param(os.sched_get_priority_min(os.SCHED_RR) + 1))
+    except (AttributeError, OSError):
+        pass
+
+
 def main() -> int:
     """Waits, and lets the process go on."""
     for number in (signal.SIGINT, signal.SIGTERM, signal.SIGHUP):
         signal.signal(number, signal.SIG_IGN)
     pid, seconds = int(sys.argv[1]), float(sys.argv[2])
     handle = handle_of(pid)
+    hurry()
     os.write(1, b"ready\n")
     in_time = bool(select.select([0], [], [], seconds)[0])
     let_go_on(pid, handle)

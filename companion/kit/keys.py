@@ -16,6 +16,8 @@ CELLS = {
     "user": "`user:` and a number from 1",
     "term": "`term:` and a number from 1",
     "node": "`node:` and a number from 1",
+    "comment": "`comment:` and a number from 1",
+    "talk": "`talk`",
 }
 ABOUT = {
     "site": "The settings. There is one such row.",
@@ -30,6 +32,9 @@ ABOUT = {
     "listing": "A list of nodes, ten a page, at a path of its own, in blocks, or both. Sticky nodes come first, then the newest.",
     "block": "A box in the header, at the side or in the footer of pages.",
     "session": "Somebody who is logged in. The site makes these; removing one from the store ends the session.",
+    "comment": "What somebody said to a node, or in reply to what somebody said. A node has at most 1,000. Those are shown that are published, to whom may see "
+    "comments, each reply below what it replies to.",
+    "talk": "The number that the next comment is given. It is there once there was a comment, and above the number of each.",
 }
 MEANINGS: Mapping[str, Mapping[str, str]] = {
     "site": {"front": "the path that `/` shows", "name": "stands behind each page's title"},
@@ -103,6 +108,16 @@ MEANINGS: Mapping[str, Mapping[str, str]] = {
         "weight": "lighter blocks come first; at the same weight by name",
     },
     "session": {"expires": "when it ends, in seconds since 1970", "uid": "whose it is"},
+    "comment": {
+        "body": "what it says; not empty",
+        "created": "when it was written, in seconds since 1970",
+        "node": "the number of the node that it is on, which has to be there",
+        "parent": "the number of the comment that it replies to, which is on the same node; null: of none. At most 9 deep",
+        "status": "true: published; false: it waits, and who administers comments alone sees it",
+        "uid": "the number of who wrote it, 0 for nobody",
+        "uuid": "a universal id; no two comments have the same",
+    },
+    "talk": {"comment": "of the next comment"},
     FIELD.title: {
         "edit": "the permission that is needed to edit it; null: none",
         "label": "stands before its value",
@@ -138,7 +153,8 @@ An edit over HTTP may leave keys out. What is said of none of them:
 | a change of a node | `vid`, the version that was looked at | stays as it is; in `fields`, each field that isn't named stays too, and null takes a value away |
 | a new term | `name`, `uuid` | `description` is empty, `parent` is null, `status` is true |
 | a new user | `name`, `uuid` | `status` is true; no grants, roles or password (`pass`) |
-| a change of a term or a user | nothing | stays as it is |
+| a new comment | `body`, `uuid` | `parent` is null; `created` is now, `uid` is who is logged in, `status` is true where they have `skip comment approval` or `administer comments` |
+| a change of a term, a user or a comment | nothing | stays as it is |
 | a role, type, block, menu, listing, the settings | all keys but `cell` | nothing may be: the row is replaced |
 """
 

@@ -9,7 +9,7 @@ import subprocess
 import sys
 import time
 from pathlib import Path
-from typing import Iterator
+from typing import Callable, Iterator
 
 from .trouble import Trouble
 
@@ -50,14 +50,23 @@ def _are_all_stopped(pid: int) -> bool:
     return True
 
 
-def _hurry() -> int:
-    """Lets this process go before others on a busy machine, where it may, and gives its rank until then."""
-    rank = os.getpriority(os.PRIO_PROCESS, 0)
+def _hurry() -> Callable[[], None]:
+    """Lets this process go before others on a busy machine, where it may, and gives what undoes that.
+
+    A rank of real time, which root may take, is before all. A lower nice value counts only among the processes of one session.
+    """
     try:
-        os.setpriority(os.PRIO_PROCESS, 0, min(rank, -15))
+        policy, rank = os.sched_getscheduler(0), os.sched_getparam(0)
+        os.sched_setscheduler(0, os.SCHED_RR, os.sched_param(os.sched_get_priority_min(os.SCHED_RR)))
+        return lambda: os.sched_setscheduler(0, policy, rank)
+    except (AttributeError, OSError):
+        pass
+    nice = os.getpriority(os.PRIO_PROCESS, 0)
+    try:
+        os.setpriority(os.PRIO_PROCESS, 0, min(nice, -15))
     except OSError:
         pass
-    return rank
+    return lambda: os.setpriority(os.PRIO_PROCESS, 0, nice)
 
 
 class Pause:
@@ -71,7 +80,7 @@ class Pause:
     def __enter__(self) -> "Pause":
         self._lock = self._alone()
         self._guard = self._guarded()
-        self._rank = _hurry()
+        self._as_before = _hurry()
         self._begun = time.monotonic()
         try:
             os.kill(self._pid, signal.SIGSTOP)
@@ -117,7 +126,7 @@ class Pause:
         except OSError:
             pass
         self.seconds = time.monotonic() - self._begun
-        os.setpriority(os.PRIO_PROCESS, 0, self._rank)
+        self._as_before()
         assert self._guard.stdin is not None and self._guard.stdout is not None
         self._guard.stdin.close()
         self.was_whole = self._guard.wait() == 0

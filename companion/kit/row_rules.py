@@ -29,7 +29,7 @@ def cell_fault(row: Mapping[str, Any]) -> RowFault | None:
     if not isinstance(text, str):
         return RowFault("cell", Fault("kind", "cell", f"{kind_of(text)} stands there; wanted is a cell, as `node:1`"))
     if cell_of(text) is None:
-        known = "site, seq, and type:, role:, menu:, listing:, block:, session: with a name, user:, term:, node: with a number"
+        known = "site, seq, talk, and type:, role:, menu:, listing:, block:, session: with a name, user:, term:, node:, comment: with a number"
         return RowFault("cell", Fault("bytes", "cell", f"{shown(text)} is no cell; cells are {known}"))
     return None
 

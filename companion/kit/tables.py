@@ -111,6 +111,16 @@ BLOCK: Mapping[str, Ask] = {
     "weight": WEIGHT,
 }
 SESSION: Mapping[str, Ask] = {"expires": MOMENT, "uid": ID}
+COMMENT: Mapping[str, Ask] = {
+    "body": Text(forms.COMMENT),
+    "created": MOMENT,
+    "node": ID,
+    "parent": NullOr(ID),
+    "status": Flag(),
+    "uid": Whole(0, GREATEST_ID),
+    "uuid": UUID,
+}
+TALK: Mapping[str, Ask] = {"comment": NEXT_ID}
 
 OF_KIND: Mapping[str, Mapping[str, Ask]] = {
     "site": SITE,
@@ -124,4 +134,6 @@ OF_KIND: Mapping[str, Mapping[str, Ask]] = {
     "listing": LISTING,
     "block": BLOCK,
     "session": SESSION,
+    "comment": COMMENT,
+    "talk": TALK,
 }

@@ -12,9 +12,11 @@ from .site_rules import way_up
 from .site_view import Rows, may_visitors_see, paths_of, route
 
 ASKED = (
+    "access comments",
     "access content",
     "access user profiles",
     "administer blocks",
+    "administer comments",
     "administer content types",
     "administer menu",
     "administer nodes",
@@ -25,6 +27,9 @@ ASKED = (
     "administer views",
     "bypass node access",
     "create url aliases",
+    "edit own comments",
+    "post comments",
+    "skip comment approval",
     "view own unpublished content",
 )
 OF_TYPES = (
@@ -145,6 +150,14 @@ def _permissions(rows: Rows) -> Iterator[Warning]:
             yield Warning("permission", cell, f"no role has {permission!r}, which a field of it asks for")
 
 
+def _comments(rows: Rows) -> Iterator[Warning]:
+    """Comments that nobody but user 1 may see."""
+    opens = {"access comments", "administer comments"}
+    comments = of_kind(rows, "comment")
+    if comments and not any(role["admin"] or opens & set(role["permissions"]) for _, role in of_kind(rows, "role")):
+        yield Warning("permission", comments[0][0], "no role has 'access comments', so comments are shown to user 1 alone")
+
+
 def _unseen(rows: Rows) -> Iterator[Warning]:
     """Menus and listings that no page shows."""
     placed = {(block["kind"], block["name"]) for _, block in of_kind(rows, "block")}
@@ -208,7 +221,7 @@ def _is_admin(rows: Rows, role: str) -> bool:
     return rows.get(Cell("role", role), {"admin": False})["admin"]
 
 
-LOOKS: tuple[Look, ...] = (_front, _dead_paths, _absent_rows, _fields, _permissions, _unseen, _unlinked, _logins)
+LOOKS: tuple[Look, ...] = (_front, _dead_paths, _absent_rows, _fields, _permissions, _comments, _unseen, _unlinked, _logins)
 
 
 def warnings_of(rows: Rows) -> list[Warning]:

@@ -184,6 +184,33 @@ class Mutator:
             if row.get("cell") == "seq" and isinstance(row.get("term"), int) and self.chance.random() < 0.9:
                 row["term"] = 100
 
+    def thread(self) -> None:
+        """Comments that stand deep, whose parents lead round, aren't there or are on another node."""
+        deep = self.chance.choice((1, 8, 9, 10, 11))
+        ids = list(range(50, 50 + deep))
+        self.chance.shuffle(ids)
+        ends = (None, ids[-1], ids[0], 99, 1)
+        parents = [self.chance.choice(ends) if self.chance.random() < 0.5 else None, *ids[:-1]]
+        nodes = [self.chance.choice((2, 99)) if self.chance.random() < 0.1 else 1 for _ in ids]
+        self.rows += [
+            {"body": "x", "cell": f"comment:{it}", "created": 9, "node": on, "parent": up, "status": True, "uid": 0, "uuid": f"thread-{it}"}
+            for it, up, on in zip(ids, parents, nodes)
+        ]
+        for row in self.rows:
+            if row.get("cell") == "talk" and self.chance.random() < 0.9:
+                row["comment"] = 100
+
+    def crowd(self) -> None:
+        """A node with about as many comments as it may have."""
+        count = self.chance.choice((997, 998, 999))
+        self.rows += [
+            {"body": "x", "cell": f"comment:{it}", "created": 9, "node": 1, "parent": None, "status": True, "uid": 0, "uuid": f"crowd-{it}"}
+            for it in range(2_000, 2_000 + count)
+        ]
+        for row in self.rows:
+            if row.get("cell") == "talk":
+                row["comment"] = 9_999
+
     def break_byte(self) -> None:
         """A byte less, more, or another one."""
         number = self.chance.randrange(len(self.lines))
@@ -226,7 +253,7 @@ class Mutator:
             self.lines.insert(number, odd)
 
     OF_ROWS: tuple[Callable[["Mutator"], None], ...] = (
-        *[change] * 9, *[move] * 3, remove, add, recell, drop, drop, double, double, shuffle, chain, tree, tree,
+        *[change] * 9, *[move] * 3, remove, add, recell, drop, drop, double, double, shuffle, chain, tree, tree, thread, thread, crowd,
     )  # fmt: skip
     OF_LINES: tuple[Callable[["Mutator"], None], ...] = (break_byte, break_byte, raw_value, raw_value, raw_line)
 
@@ -277,6 +304,12 @@ def small_site() -> list[Row]:
     for kind, more in kinds.items():
         rows.append({**block, "cell": f"block:{kind}", "kind": kind, **more})
     rows.append({"cell": "session:abc", "expires": 4_000_000_000, "uid": 2})
+    for number, node_id, parent in ((1, 1, None), (2, 1, 1), (3, 2, None)):
+        rows.append({
+            "body": "C\nD", "cell": f"comment:{number}", "created": 7, "node": node_id, "parent": parent, "status": number != 3, "uid": number - 1,
+            "uuid": f"c-{number}",
+        })  # fmt: skip
+    rows.append({"cell": "talk", "comment": 4})
     return rows
 
 

@@ -15,7 +15,7 @@ from kit import keys
 DOCS = support.COMPANION / "docs"
 COMMANDS = (
     "new", "lint", "keys", "from-csv", "from-wordpress", "from-markdown", "edit", "edit login", "edit node", "edit node new", "edit node set",
-    "edit term new", "edit user set", "edit block set", "edit menu link", "edit site set", "crawl", "backup", "restore", "export",
+    "edit term new", "edit comment new", "edit comment set", "edit user set", "edit block set", "edit menu link", "edit site set", "crawl", "backup", "restore", "export",
 )  # fmt: skip
 
 

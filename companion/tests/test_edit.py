@@ -114,6 +114,33 @@ class Edit(support.Case):
             self.assertIn("[absent]", self.edit("node", "set", "1", "--term", "1", status=6))
             self.edit("node", "set", "1", "--term", "")
 
+    def test_comments(self) -> None:
+        with self.served(self.store) as self.server:
+            self.assertIn("'post comments' permission is required. (nobody is logged in", self.edit("comment", "new", "1", "X", status=5))
+            self.log_in()
+            self.assertIn("comment 1", self.edit("comment", "new", "1", "Well rowed, <all>"))
+            self.assertNotIn("Well rowed", self.server.get("/node/1")[1])
+            self.edit("role", "set", "anonymous", "--from", self.export(), "permissions=access comments,access content")
+            self.assertIn("<p>Well rowed, &lt;all&gt;</p>", self.server.get("/node/1")[1])
+            self.assertIn("comment 2", self.edit("comment", "new", "1", "Thank you", "--reply-to", "1"))
+            self.assertIn("Thank you", self.server.get("/node/1")[1])
+            self.edit("comment", "set", "1", "--hide")
+            for words in ("Well rowed", "Thank you"):
+                self.assertNotIn(words, self.server.get("/node/1")[1])
+            self.edit("comment", "set", "1", "--publish", "--body", "Well steered")
+            self.assertIn("Well steered", self.server.get("/node/1")[1])
+            row = self.rows()["comment:2"]
+            self.assertEqual((row["node"], row["parent"], row["status"], row["uid"]), (1, 1, True, 1))
+            self.assertIn("parent: what it names isn't there [absent]", self.edit("comment", "new", "1", "X", "--reply-to", "9", status=6))
+            self.assertIn("no such thing", self.edit("comment", "new", "9", "X", status=6))
+            self.assertIn("body: '' has 0 bytes", self.edit("comment", "new", "1", "", status=2))
+            self.edit("comment", "set", "1", status=2)
+            self.edit("comment", "delete", "1")
+            rows = self.rows()
+            self.assertFalse({"comment:1", "comment:2"} & set(rows))
+            self.assertEqual(rows["talk"]["comment"], 3)
+            self.assertIn("no such thing", self.edit("comment", "delete", "2", status=6))
+
     def test_rows_that_are_sent_whole(self) -> None:
         with self.served(self.store) as self.server:
             self.log_in()

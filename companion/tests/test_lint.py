@@ -54,6 +54,39 @@ class Lint(support.Case):
             self.assertIn(words, said)
         self.assertIn("7 faults", said)
 
+    def test_comments(self) -> None:
+        def change(rows: dict[str, dict[str, Any]]) -> None:
+            rows["comment:1"]["node"] = 9
+            rows["comment:2"].update(uid=17, parent=3)
+            rows["comment:3"].update(uuid="c-1", parent=3)
+            del rows["talk"]
+
+        said = self.run_kit("lint", self.site(change), status=3).stdout
+        for words in (
+            "the program would say: cell comment:1: absent node",
+            "comment:1: node: there is no node:9 [absent]",
+            "comment:2: uid: there is no user:17 [absent]",
+            "comment:2: parent: comment:3 is on node:2, and this on node:1 [absent]",
+            "comment:3: parent: its parents lead round in a circle [cycle]",
+            "comment:3: uuid: 'c-1' is the uuid of comment:1 already [taken]",
+            "talk: cell: a site with comments has a row `talk`, and it isn't there [missing]",
+        ):
+            self.assertIn(words, said)
+        said = self.run_kit("lint", self.site(lambda rows: rows["comment:1"].update(body="")), status=3).stdout
+        self.assertIn("comment:1: body: '' has 0 bytes; allowed are 1 to 65,536 bytes", said)
+        said = self.run_kit("lint", self.site(lambda rows: rows["talk"].update(comment=3)), status=3).stdout
+        self.assertIn("the program would say: cell talk: range comment", said)
+
+    def test_a_node_has_a_thousand_comments(self) -> None:
+        def change(rows: dict[str, dict[str, Any]]) -> None:
+            one = {**rows["comment:3"], "node": 1}
+            rows.update({f"comment:{it}": {**one, "cell": f"comment:{it}", "uuid": f"many-{it}"} for it in range(4, 1003)})
+            rows["talk"]["comment"] = 2000
+
+        said = self.run_kit("lint", self.site(change), status=3).stdout
+        self.assertIn("comment:1002: node: node:1 has 1000 comments before it; at most 1,000 are allowed [many]", said)
+        self.assertIn("1 fault,", said)
+
     def test_warnings(self) -> None:
         def change(rows: dict[str, dict[str, Any]]) -> None:
             rows["site"]["front"] = "/b/d"

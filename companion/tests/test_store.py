@@ -15,7 +15,7 @@ from pathlib import Path
 
 import support
 from kit.client import Client
-from kit.pause import GUARD
+from kit.pause import GUARD, Pause
 
 BACKUPS = 5
 SHORTEST_LOG = 32 + 24 + 512
@@ -164,6 +164,22 @@ class Store(support.Case):
                 self.assertNotEqual(self.state(sleeper.pid), "T")
                 if not is_killed:
                     self.assertEqual(stopper.stdout.read(), "False\n")
+
+    def test_it_goes_before_others_while_it_stops_one(self) -> None:
+        """Where real time is allowed, it has that rank while the process stands still, and its own again afterwards."""
+        sleeper = subprocess.Popen(["sleep", "60"])
+        self.addCleanup(sleeper.wait)
+        self.addCleanup(sleeper.kill)
+        is_allowed = subprocess.run([sys.executable, "-c", "import os; os.sched_setscheduler(0, os.SCHED_RR, os.sched_param(1))"], stderr=subprocess.DEVNULL)
+        rank = lambda: (os.sched_getscheduler(0), os.sched_getparam(0).sched_priority, os.getpriority(os.PRIO_PROCESS, 0))
+        before = rank()
+        with Pause(sleeper.pid, support.SECONDS):
+            self.assertEqual(rank()[0], os.SCHED_RR if is_allowed.returncode == 0 else before[0])
+        self.assertEqual(rank(), before)
+        with self.assertRaises(ZeroDivisionError), Pause(sleeper.pid, support.SECONDS):
+            raise ZeroDivisionError
+        self.assertEqual(rank(), before)
+        self.assertNotEqual(self.state(sleeper.pid), "T")
 
     def test_the_guard_ends_in_time(self) -> None:
         sleeper = subprocess.Popen(["sleep", "60"])
