@@ -105,7 +105,7 @@ class Counted:
             self.fail("no reply in time")
         piece = os.read(device.fileno(), 65_536)
         if not piece:
-            self.process.wait(LONGEST)
+            time.sleep(1)
             self.fail("the replies end")
         return piece
 
@@ -133,7 +133,11 @@ class Replayed(Counted):
 
 
 class Served(Counted):
-    """`serve` of a store, with one worker, which is asked on one connection."""
+    """`serve` of a store, with one worker, which is asked on one connection. Where that was idle for so long that the server may let it
+    go, another one takes its place, and what it costs counts with the next request."""
+
+    IDLE = 30
+    """Seconds."""
 
     def __init__(self, program, store, counting=True):
         with socket.socket() as free:
@@ -143,7 +147,11 @@ class Served(Counted):
         line = self.more(self.process.stdout)
         if not line.startswith(b"listening "):
             self.fail(f"the server said {line!r}")
-        self.connection = socket.create_connection((host, port), LONGEST)
+        self.address = host, port
+        self.connect()
+
+    def connect(self):
+        self.connection, self.used = socket.create_connection(self.address, LONGEST), time.monotonic()
         self.connection.setsockopt(socket.IPPROTO_TCP, socket.TCP_NODELAY, 1)
 
     def __exit__(self, *given):
@@ -151,5 +159,10 @@ class Served(Counted):
         super().__exit__(*given)
 
     def ask(self, request):
+        if time.monotonic() - self.used > self.IDLE:
+            self.connection.close()
+            self.connect()
         self.connection.sendall(request.encode())
-        return self.reply(self.connection)
+        reply = self.reply(self.connection)
+        self.used = time.monotonic()
+        return reply
