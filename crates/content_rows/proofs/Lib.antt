@@ -4,4 +4,5 @@ pub mod CellLemmas
 pub mod GrantLemmas
 pub mod Ids
 pub mod MenuWalk
+pub mod Names
 pub mod StarterLemmas

@@ -88,7 +88,7 @@ is_target (first ∷ rest) =
 
 -- the first segments whose paths the site gives out by itself
 abbrev pub reserved_segments : List (List ℕ)
-reserved_segments = codes "node" ∷ codes "taxonomy" ∷ codes "user" ∷ codes "config" ∷ codes "cache" ∷ []
+reserved_segments = codes "node" ∷ codes "taxonomy" ∷ codes "user" ∷ codes "config" ∷ codes "cache" ∷ codes "json" ∷ []
 
 -- whether a path begins with a segment of the site's own
 abbrev pub is_reserved : List ℕ → Bool

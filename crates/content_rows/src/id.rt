@@ -1,6 +1,9 @@
-//! The numbers of nodes, terms, users and comments as texts.
+//! Numbers and machine names that texts are.
 ghost use Rattle.std.specs.Prelude.{◌≡◌};
 ghost use Rattle.content_rows.specs.IdText.{id_of};
+ghost use Rattle.content_rows.specs.LiteralName.{name_of};
+
+use cacheability::Name;
 
 /// The id that a text writes in decimal without a leading zero: from 1 to 4,294,967,294.
 pub fn id_of(text: &[u8]) -> Option<u32>
@@ -22,5 +25,16 @@ pub fn id_of(text: &[u8]) -> Option<u32>
         Some(id)
     } else {
         None
+    }
+}
+
+/// The machine name that a text is, if it is one.
+#[tactic(auto, using(crate::proofs::Names::name_told, crate::proofs::Names::name_none))]
+pub fn name_of(text: &[u8]) -> Option<Name>
+    ensures { result ≡ name_of text.now }
+{
+    match Name::new(text) {
+        Ok(name) => Some(name),
+        Err(_) => None,
     }
 }

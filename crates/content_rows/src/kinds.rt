@@ -268,6 +268,7 @@ fn is_reserved_segment(segment: &[u8]) -> bool
         || segment == b"user".as_slice()
         || segment == b"config".as_slice()
         || segment == b"cache".as_slice()
+        || segment == b"json".as_slice()
 }
 
 /// Whether a node may have the path.

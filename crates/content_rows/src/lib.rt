@@ -14,7 +14,7 @@ mod text;
 
 pub use cell::Cell;
 pub use duplicate::Duplicate;
-pub use id::id_of;
+pub use id::{id_of, name_of};
 pub use kinds::{
     has_hex_digits, has_line_bytes, has_text_bytes, has_uuid_bytes, is_block_path, is_reserved,
     is_target, is_utf8,

@@ -1,6 +1,6 @@
 -- A path that names something by its form is found by that form.
 use Rattle.std.proofs.Common.{ℕ, List, [], ◌∷◌, ◌++◌, ◌≡◌, ◌≢◌, true, false, refl, sym, subst, ap, ◌∙◌, arith, codes, length, drop}
-use Rattle.std.specs.Prelude.{Bool, Option, Some, None, ◌==◌, nat_eq, nat_lt, option_map, if◌then◌else◌}
+use Rattle.std.specs.Prelude.{Bool, Option, Some, None, ◌&&◌, ◌==◌, nat_eq, nat_lt, option_map, if◌then◌else◌}
 use Rattle.std.specs.List.{list_all, starts_with}
 use Rattle.std.specs.Str.{IsUtf8, IsAscii, bytes_eq}
 use Rattle.std.specs.Str.Parse.{AllDigits, IsNumeral}
@@ -21,13 +21,15 @@ use Rattle.content_state.specs.declared.forms.Form.{Form}
 use Rattle.content_state.specs.declared.forms.Form.TheVariants as form
 use Rattle.content_state.specs.declared.forms.Named.{Named}
 use Rattle.content_state.specs.declared.forms.Named.TheVariants as named
-use Rattle.content_state.specs.Forms.{form_rows, form_found, IsFormOf, named_in, named_as, named_by, led_by, named_tags, tags_by}
+use Rattle.content_state.specs.Entities.{id_after, is_json, entity_in, entity_tags}
+use Rattle.content_state.specs.Forms.{form_rows, form_found, IsFormOf, named_in, named_as, named_by, page_named_by, led_by, named_tags, tags_by}
+use Rattle.cacheability.specs.declared.tag.Tag.{Tag}
 use Rattle.cacheability.specs.declared.tag.Tag.TheVariants as tag
 use Rattle.content_rows.specs.declared.cell.Cell.{Cell}
 use Rattle.content_rows.specs.declared.row.Row.{Row}
 use Rattle.content_state.specs.declared.route.Route.{Route}
 use Rattle.content_state.specs.declared.route.Route.TheVariants as route
-use Rattle.content_state.specs.Route.{found_route, led_to, numbered_tags, route_tags, tag_of_id, id_after, login_path, node_front, term_front, user_front}
+use Rattle.content_state.specs.Route.{found_route, led_to, numbered_tags, route_tags, tag_of_id, json_route, front_path, fronts_json, meant, root_path, route_of, login_path, node_front, term_front, user_front}
 use Rattle.content_state.proofs.Literal.{OnlyAt, seek_only}
 use Rattle.content_state.proofs.Matched.{steps, is_literal, param_found}
 
@@ -209,7 +211,7 @@ same_reading (Some form.Term) path = refl
 same_reading (Some form.User) path = refl
 same_reading (Some form.Login) path = refl
 
-pub named_as_found : (path : List ℕ) (found : Option Form) → IsFormOf path found → named_as found path ≡ named_by path
+pub named_as_found : (path : List ℕ) (found : Option Form) → IsFormOf path found → named_as found path ≡ page_named_by path
 named_as_found path found is =
     let read = read_is found (bytes_eq path login_path) (id_after node_front path) (id_after term_front path) (id_after user_front path)
     (λ h. is.login ((bytes_eq-Decides path login_path).0 h)) (λ h. (bytes_eq-Decides path login_path).1 (is.login_alone h)) is.node is.term is.user in
@@ -225,9 +227,16 @@ led_in rows path false None (Some t) u = refl
 led_in rows path false None None (Some u) = refl
 led_in rows path false None None None = refl
 
+either_led : (rows : List (Cell × Row)) (path : List ℕ) (json : Bool) (page : Option Named) (to : Route)
+    → led_by rows path page ≡ to
+    → led_by rows path (if json then Some (named.Json (entity_in path)) else page) ≡ (if json then json_route rows (entity_in path) else to)
+either_led rows path true page to led = refl
+either_led rows path false page to led = led
+
 pub led_as_named : (rows : List (Cell × Row)) (path : List ℕ) → led_by rows path (named_by path) ≡ led_to rows path
 led_as_named rows path =
-    led_in rows path (bytes_eq path login_path) (id_after node_front path) (id_after term_front path) (id_after user_front path)
+    either_led rows path (is_json path) (page_named_by path) _
+    (led_in rows path (bytes_eq path login_path) (id_after node_front path) (id_after term_front path) (id_after user_front path))
 
 -- a path names one row at most
 tags_in : (found : Option Form) (login : Bool) (n t u : Option ℕ)
@@ -248,16 +257,37 @@ tags_in found false None (Some x) None l a b d = refl
 tags_in found false None None (Some x) l a b d = refl
 tags_in found false None None None l a b d = refl
 
+either_tags : (path : List ℕ) (json : Bool) (page : Option Named) (tags : List Tag) → named_tags page ≡ tags
+    → named_tags (if json then Some (named.Json (entity_in path)) else page) ≡ (if json then entity_tags (entity_in path) else tags)
+either_tags path true page tags is = refl
+either_tags path false page tags is = is
+
 numbered_as_named : (path : List ℕ) → named_tags (named_by path) ≡ numbered_tags path
 numbered_as_named path =
     let is = is_found path in
-    tags_in (form_found path) (bytes_eq path login_path) (id_after node_front path) (id_after term_front path) (id_after user_front path)
-    (λ h. is.login ((bytes_eq-Decides path login_path).0 h)) is.node is.term is.user
+    either_tags path (is_json path) (page_named_by path) _
+    (tags_in (form_found path) (bytes_eq path login_path) (id_after node_front path) (id_after term_front path) (id_after user_front path)
+    (λ h. is.login ((bytes_eq-Decides path login_path).0 h)) is.node is.term is.user)
 
 pub tags_as_named : (to : Route) (path : List ℕ) → tags_by to (named_by path) ≡ route_tags to path
 tags_as_named (route.Node n) path = refl
 tags_as_named (route.Term t) path = refl
 tags_as_named (route.User u) path = refl
 tags_as_named (route.Listing name) path = refl
+tags_as_named (route.Json it) path = refl
 tags_as_named route.Login path = refl
 tags_as_named route.Nothing path = ap (λ tags. tag.NotFound ∷ tags) (numbered_as_named path)
+
+-- ---- where a path leads, by the path that it stands for
+
+json_front_meant : (rows : List (Cell × Row)) (path : List ℕ) (is_root : Bool)
+    → (is_root && is_json (if is_root then front_path rows else path)) ≡ (is_root && is_json (front_path rows))
+json_front_meant rows path true = refl
+json_front_meant rows path false = refl
+
+pub routed : (rows : List (Cell × Row)) (path : List ℕ)
+    → (if bytes_eq path root_path && is_json (meant rows path) then route.Nothing else led_by rows (meant rows path) (named_by (meant rows path))) ≡ route_of rows path
+unfolding route_of
+routed rows path =
+    ap (λ b. if b then route.Nothing else led_by rows (meant rows path) (named_by (meant rows path))) (json_front_meant rows path (bytes_eq path root_path))
+    ∙ ap (λ to. if fronts_json rows path then route.Nothing else to) (led_as_named rows (meant rows path))

@@ -5,10 +5,13 @@ use Rattle.std.specs.Str.{bytes_eq}
 use Rattle.content_rows.specs.declared.cell.Cell.{Cell}
 use Rattle.content_rows.specs.declared.cell.Cell.TheVariants as cell
 use Rattle.content_rows.specs.declared.row.Row.{Row}
+use Rattle.content_state.specs.declared.entity.Entity.{Entity}
+use Rattle.content_state.specs.declared.entity.Entity.TheVariants as entity
 use Rattle.content_state.specs.declared.route.Route.{Route}
 use Rattle.content_state.specs.declared.route.Route.TheVariants as route
 use Rattle.indexed_rows.specs.Rows.{node_of, term_of, user_of, listing_of}
-use Rattle.content_state.specs.Route.{id_after, node_front, term_front, user_front, login_path, meant, node_route, term_route, user_route, listing_route, cell_route, cell_with, found_route, led_to, route_of}
+use Rattle.content_state.specs.Entities.{id_after, is_json, entity_in, is_entity_there}
+use Rattle.content_state.specs.Route.{fronts_json, json_route, node_front, term_front, user_front, login_path, meant, node_route, term_route, user_route, listing_route, cell_route, cell_with, found_route, led_to, route_of}
 use Rattle.content_state.specs.There.{IsThere}
 
 -- a route that is taken only where what it leads to is there
@@ -48,17 +51,32 @@ login_or : (b : Bool) (rows : List (Cell × Row)) (to : Route)
 login_or true rows to there leads = tt
 login_or false rows to there leads = there leads
 
+json_there : (rows : List (Cell × Row)) (named : Option Entity) → json_route rows named ≢ route.Nothing → IsThere rows (json_route rows named)
+json_there rows None leads = absurd (leads refl)
+json_there rows (Some (entity.Node n)) leads = if_there (is_entity_there rows (entity.Node n)) rows (route.Json (entity.Node n)) (λ is. is) leads
+json_there rows (Some (entity.Term t)) leads = if_there (is_entity_there rows (entity.Term t)) rows (route.Json (entity.Term t)) (λ is. is) leads
+json_there rows (Some (entity.User u)) leads = if_there (is_entity_there rows (entity.User u)) rows (route.Json (entity.User u)) (λ is. is) leads
+json_there rows (Some (entity.Listing name)) leads = if_there (is_entity_there rows (entity.Listing name)) rows (route.Json (entity.Listing name)) (λ is. is) leads
+
+json_or : (b : Bool) (rows : List (Cell × Row)) (json to : Route)
+    → (json ≢ route.Nothing → IsThere rows json) → (to ≢ route.Nothing → IsThere rows to)
+    → (if b then json else to) ≢ route.Nothing → IsThere rows (if b then json else to)
+json_or true rows json to json_there there leads = json_there leads
+json_or false rows json to json_there there leads = there leads
+
 led_there : (rows : List (Cell × Row)) (path : List ℕ) → led_to rows path ≢ route.Nothing → IsThere rows (led_to rows path)
 led_there rows path =
-    login_or (bytes_eq path login_path) rows _
-    (found_there rows path (id_after node_front path) (id_after term_front path) (id_after user_front path))
+    json_or (is_json path) rows (json_route rows (entity_in path)) _ (json_there rows (entity_in path))
+    (login_or (bytes_eq path login_path) rows _
+    (found_there rows path (id_after node_front path) (id_after term_front path) (id_after user_front path)))
 
 pub leads_there : (rows : List (Cell × Row)) (path : List ℕ) → route_of rows path ≢ route.Nothing → IsThere rows (route_of rows path)
 unfolding route_of
-leads_there rows path = led_there rows (meant rows path)
+leads_there rows path =
+    json_or (fronts_json rows path) rows route.Nothing _ (λ leads. absurd (leads refl)) (led_there rows (meant rows path))
 
--- the same of a route that was found for a path that is meant as it stands
+-- the same of a route that was found
 pub is_led_there : (rows : List (Cell × Row)) (path : List ℕ) (to : Route)
-    → to ≡ led_to rows path → to ≢ route.Nothing → IsThere rows to
+    → to ≡ route_of rows path → to ≢ route.Nothing → IsThere rows to
 is_led_there rows path to is leads =
-    subst (λ r. IsThere rows r) (sym is) (led_there rows path (subst (λ r. r ≢ route.Nothing) is leads))
+    subst (λ r. IsThere rows r) (sym is) (leads_there rows path (subst (λ r. r ≢ route.Nothing) is leads))

@@ -17,7 +17,8 @@ use Rattle.cacheability.specs.declared.tag.Tag.{Tag}
 use Rattle.cacheability.specs.declared.tag.Tag.TheVariants as tag
 use Rattle.content_rows.specs.declared.cell.Cell.{Cell}
 use Rattle.content_rows.specs.declared.row.Row.{Row}
-use Rattle.content_state.specs.Route.{cell_route, cell_with, id_after, login_path, node_front, node_route, term_front, term_route, user_front, user_route}
+use Rattle.content_state.specs.Entities.{id_after, is_json, entity_in, entity_tag, entity_tags}
+use Rattle.content_state.specs.Route.{cell_route, cell_with, json_route, login_path, node_front, node_route, term_front, term_route, user_front, user_route}
 
 abbrev pub placed_if : Result Scan InsertError → Form → RowsOf (RouteOf Form) → RowsOf (RouteOf Form)
 placed_if (Ok scan) value rows = placed (scan.pattern, route_from scan value) rows
@@ -45,11 +46,15 @@ named_in None (Some t) u = Some (named.Term t)
 named_in None None (Some u) = Some (named.User u)
 named_in None None None = None
 
--- what a path names by its form: the login form, or by its number a node, a term or a user
-abbrev pub named_by : List ℕ → Option Named
-named_by path =
+-- what a path names by its form, that is none of JSON: the login form, or by its number a node, a term or a user
+abbrev pub page_named_by : List ℕ → Option Named
+page_named_by path =
     if bytes_eq path login_path then Some named.Login
     else named_in (id_after node_front path) (id_after term_front path) (id_after user_front path)
+
+-- what a path names by its form
+abbrev pub named_by : List ℕ → Option Named
+named_by path = if is_json path then Some (named.Json (entity_in path)) else page_named_by path
 
 -- the form of a path: a path that names something by a form has that one, and the login form has one path alone
 pub record IsFormOf (path : List ℕ) (found : Option Form) : Type 0 where
@@ -72,6 +77,7 @@ abbrev pub led_by : List (Cell × Row) → List ℕ → Option Named → Route
 led_by rows path (Some (named.Node n)) = node_route rows n
 led_by rows path (Some (named.Term t)) = term_route rows t
 led_by rows path (Some (named.User u)) = user_route rows u
+led_by rows path (Some (named.Json it)) = json_route rows it
 led_by rows path (Some named.Login) = route.Login
 led_by rows path None = cell_route rows (cell_with rows path)
 
@@ -80,6 +86,7 @@ abbrev pub named_tags : Option Named → List Tag
 named_tags (Some (named.Node n)) = tag.Node n ∷ []
 named_tags (Some (named.Term t)) = tag.Term t ∷ []
 named_tags (Some (named.User u)) = tag.User u ∷ []
+named_tags (Some (named.Json it)) = entity_tags it
 named_tags (Some named.Login) = []
 named_tags None = []
 
@@ -89,5 +96,6 @@ tags_by (route.Node n) name = tag.Node n ∷ []
 tags_by (route.Term t) name = tag.Term t ∷ []
 tags_by (route.User u) name = tag.User u ∷ []
 tags_by (route.Listing list) name = tag.Listing list ∷ []
+tags_by (route.Json it) name = entity_tag it ∷ []
 tags_by route.Login name = []
 tags_by route.Nothing name = tag.NotFound ∷ named_tags name

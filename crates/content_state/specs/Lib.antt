@@ -1,5 +1,6 @@
 pub mod State
 pub mod Ask
+pub mod Entities
 pub mod Route
 pub mod Forms
 pub mod There

@@ -3,6 +3,7 @@ use Rattle.std.specs.Prelude.{ℕ, List, ◌≢◌}
 use Rattle.std.specs.Option.{IsSome}
 use Rattle.content_rows.specs.declared.cell.Cell.{Cell}
 use Rattle.content_rows.specs.declared.row.Row.{Row}
+use Rattle.content_state.specs.declared.entity.Entity.TheVariants as entity
 use Rattle.content_state.specs.declared.route.Route.{Route}
 use Rattle.content_state.specs.declared.route.Route.TheVariants as route
 use Rattle.indexed_rows.specs.Rows.{node_of, term_of, user_of, listing_of}
@@ -14,6 +15,10 @@ IsThere rows (route.Node n) = IsSome (node_of rows n)
 IsThere rows (route.Term t) = IsSome (term_of rows t)
 IsThere rows (route.User u) = IsSome (user_of rows u)
 IsThere rows (route.Listing name) = IsSome (listing_of rows name)
+IsThere rows (route.Json (entity.Node n)) = IsSome (node_of rows n)
+IsThere rows (route.Json (entity.Term t)) = IsSome (term_of rows t)
+IsThere rows (route.Json (entity.User u)) = IsSome (user_of rows u)
+IsThere rows (route.Json (entity.Listing name)) = IsSome (listing_of rows name)
 IsThere rows route.Login = Unit {0}
 IsThere rows route.Nothing = ⊥
 

@@ -3,10 +3,11 @@ ghost use Rattle.std.specs.Prelude.{◌≡◌, IfOk, Some, None};
 ghost use Rattle.std.specs.Str.{bytes_eq};
 ghost use Rattle.matchit.specs.Router.{RouteOf};
 ghost use Rattle.matchit.specs.Rows.{RowsOf};
-ghost use Rattle.content_state.specs.Forms.{form_rows, form_found, named_as, named_by, with_route, IsFormOf};
+ghost use Rattle.content_state.specs.Entities.{id_after};
+ghost use Rattle.content_state.specs.Forms.{form_rows, form_found, named_as, named_by, page_named_by, with_route, IsFormOf};
 ghost use Rattle.content_state.specs.declared.forms.Form.{Form as FormValue};
-ghost use Rattle.content_state.specs.Route.{id_after};
 
+use crate::entity::{Entity, entity_in, is_json};
 use content_rows::id_of;
 use matchit::{InsertError, Router};
 use std::alloc::{AllocError, Global};
@@ -35,6 +36,8 @@ pub enum Named {
     Term(u32),
     /// The user of this number.
     User(u32),
+    /// As JSON what this names, if anything.
+    Json(Option<Entity>),
     /// The login form.
     Login,
 }
@@ -82,9 +85,20 @@ impl Forms {
     }
 
     /// What a path names by its form, if it has one of the fixed forms, and a number where its form has one.
-    #[tactic(auto, using(crate::proofs::Named::named_as_found))]
     pub fn named_by(&self, path: &[u8]) -> Option<Named>
         ensures { result ≡ named_by path.now }
+    {
+        if is_json(path) {
+            Some(Named::Json(entity_in(path)))
+        } else {
+            self.page_named_by(path)
+        }
+    }
+
+    /// The same of a path that is none of JSON.
+    #[tactic(auto, using(crate::proofs::Named::named_as_found))]
+    fn page_named_by(&self, path: &[u8]) -> Option<Named>
+        ensures { result ≡ page_named_by path.now }
     {
         match self.form_of(path) {
             Some(form) => named_as(form, path),
@@ -154,7 +168,7 @@ fn with_form(
 }
 
 /// The id that follows a front.
-fn id_after(front: &[u8], path: &[u8]) -> Option<u32>
+pub(crate) fn id_after(front: &[u8], path: &[u8]) -> Option<u32>
     ensures { result ≡ id_after front.now path.now }
 {
     if path.starts_with(front) {

@@ -1,9 +1,13 @@
 //! Where a path leads.
-ghost use Rattle.std.specs.Prelude.{◌≡◌, ◌≢◌, IfOk};
+ghost use Rattle.std.specs.Prelude.{◌≡◌, ◌≢◌, ◌++◌, ◌&&◌, Some, IfOk, OnOk, if◌then◌else◌};
 ghost use Rattle.std.specs.Option.{option_copied};
-ghost use Rattle.content_state.specs.Forms.{led_by, tags_by};
+ghost use Rattle.std.specs.Str.{bytes_eq};
+ghost use Rattle.content_state.specs.Entities.{entity_tags, is_entity_there, is_json};
+ghost use Rattle.content_state.specs.Forms.{led_by, named_tags, tags_by};
 ghost use Rattle.content_state.specs.Route.{
   meant,
+  json_route,
+  root_path,
   node_route,
   term_route,
   user_route,
@@ -15,6 +19,7 @@ ghost use Rattle.content_state.specs.Route.{
 };
 ghost use Rattle.content_state.specs.There.{IsThere};
 
+use crate::entity::{Entity, is_json};
 use crate::forms::Named;
 use crate::state::State;
 use cacheability::{Name, Tag};
@@ -33,6 +38,8 @@ pub enum Route {
     User(u32),
     /// A listing's page.
     Listing(Name),
+    /// What is told of this as JSON.
+    Json(Entity),
     /// The login form.
     Login,
     /// Nothing: the page is not found.
@@ -55,8 +62,8 @@ pub fn route_of(
 {
     let meant = meant(state, path);
     let named = state.named_by(meant);
-    let route = led_by(state, meant, named);
-    let mut tags = tags_by(alloc, &route, named)?;
+    let route = led_from(state, path, meant, &named);
+    let mut tags = tags_by(alloc, &route, &named)?;
     if path == b"/".as_slice() {
         tags.push(Tag::Site)?;
     }
@@ -77,14 +84,26 @@ fn meant<'a>(state: &'a State, path: &'a [u8]) -> &'a [u8]
     }
 }
 
+/// Where a path leads that stands for this one: `/` leads nowhere where the front path is one of JSON.
+#[tactic(auto, unfolding(crate::specs::Route::root_path))]
+fn led_from(state: &State, path: &[u8], meant: &[u8], named: &Option<Named>) -> Route
+    ensures { result ≡ (if bytes_eq path.now root_path && is_json meant.now then Route.Nothing else led_by state.now.rows meant.now named.now) }
+{
+    if path == b"/".as_slice() && is_json(meant) {
+        return Route::Nothing;
+    }
+    led_by(state, meant, named)
+}
+
 /// Where a path leads that is meant as it stands and names this: to what it names, else to what has that path.
-fn led_by(state: &State, path: &[u8], named: Option<Named>) -> Route
-    ensures { result ≡ led_by state.now.rows path.now named }
+fn led_by(state: &State, path: &[u8], named: &Option<Named>) -> Route
+    ensures { result ≡ led_by state.now.rows path.now named.now }
 {
     match named {
-        Some(Named::Node(nid)) => node_route(state, nid),
-        Some(Named::Term(tid)) => term_route(state, tid),
-        Some(Named::User(uid)) => user_route(state, uid),
+        Some(Named::Node(nid)) => node_route(state, *nid),
+        Some(Named::Term(tid)) => term_route(state, *tid),
+        Some(Named::User(uid)) => user_route(state, *uid),
+        Some(Named::Json(it)) => json_route(state, it),
         Some(Named::Login) => Route::Login,
         None => cell_route(state, cell_with(state, path)),
     }
@@ -130,6 +149,28 @@ fn listing_route(state: &State, name: Name) -> Route
     }
 }
 
+/// What is told as JSON of what a path names, where it is there.
+fn json_route(state: &State, named: &Option<Entity>) -> Route
+    ensures { result ≡ json_route state.now.rows named.now }
+{
+    match named {
+        Some(entity) if is_there(state, entity) => Route::Json(*entity),
+        _ => Route::Nothing,
+    }
+}
+
+/// Whether the row is there of what is told of as JSON.
+fn is_there(state: &State, entity: &Entity) -> bool
+    ensures { result ≡ is_entity_there state.now.rows entity.now }
+{
+    match *entity {
+        Entity::Node(nid) => state.node(nid).0.is_some(),
+        Entity::Term(tid) => state.term(tid).0.is_some(),
+        Entity::User(uid) => state.user(uid).0.is_some(),
+        Entity::Listing(name) => state.listing(name).0.is_some(),
+    }
+}
+
 /// The page of a cell's row: nodes and listings alone have paths of their own.
 fn cell_route(state: &State, cell: Option<&Cell>) -> Route
     ensures { result ≡ cell_route state.now.rows (option_copied cell.entry) }
@@ -152,14 +193,15 @@ fn cell_with<'a>(state: &'a State, path: &[u8]) -> Option<&'a Cell>
 }
 
 /// The tags of where a path leads that names this.
-fn tags_by(alloc: Global, route: &Route, named: Option<Named>) -> Result<Vec<Tag>, AllocError>
-    ensures { IfOk result (λ tags. tags.items ≡ tags_by route.now named) }
+fn tags_by(alloc: Global, route: &Route, named: &Option<Named>) -> Result<Vec<Tag>, AllocError>
+    ensures { IfOk result (λ tags. tags.items ≡ tags_by route.now named.now) }
 {
     match route {
         Route::Node(nid) => Vec::from_slice(alloc, &[Tag::Node(*nid)]),
         Route::Term(tid) => Vec::from_slice(alloc, &[Tag::Term(*tid)]),
         Route::User(uid) => Vec::from_slice(alloc, &[Tag::User(*uid)]),
         Route::Listing(name) => Vec::from_slice(alloc, &[Tag::Listing(*name)]),
+        Route::Json(entity) => Vec::from_slice(alloc, &[entity.tag()]),
         Route::Login => Ok(Vec::new(alloc)),
         Route::Nothing => nothing_tags(alloc, named),
     }
@@ -167,16 +209,28 @@ fn tags_by(alloc: Global, route: &Route, named: Option<Named>) -> Result<Vec<Tag
 
 /// The tags of a path that leads nowhere: `4xx-response`, and that of the row that it names by its
 /// number.
-fn nothing_tags(alloc: Global, named: Option<Named>) -> Result<Vec<Tag>, AllocError>
-    ensures { IfOk result (λ tags. tags.items ≡ tags_by Route.Nothing named) }
+fn nothing_tags(alloc: Global, named: &Option<Named>) -> Result<Vec<Tag>, AllocError>
+    ensures { IfOk result (λ tags. tags.items ≡ tags_by Route.Nothing named.now) }
 {
     let mut tags = Vec::with_capacity(alloc, 3)?;
     tags.push(Tag::NotFound)?;
     match named {
-        Some(Named::Node(nid)) => tags.push(Tag::Node(nid))?,
-        Some(Named::Term(tid)) => tags.push(Tag::Term(tid))?,
-        Some(Named::User(uid)) => tags.push(Tag::User(uid))?,
-        Some(Named::Login) | None => {}
+        Some(Named::Node(nid)) => tags.push(Tag::Node(*nid))?,
+        Some(Named::Term(tid)) => tags.push(Tag::Term(*tid))?,
+        Some(Named::User(uid)) => tags.push(Tag::User(*uid))?,
+        Some(Named::Json(Some(entity))) => push_number(&mut tags, entity)?,
+        Some(Named::Json(None)) | Some(Named::Login) | None => {}
     }
     Ok(tags)
+}
+
+/// The tag of what is told of as JSON and has a number: a listing has none.
+fn push_number(tags: &mut Vec<Tag>, entity: &Entity) -> Result<(), AllocError>
+    ensures { OnOk result (tags.new.items ≡ tags.old.items ++ entity_tags (Some entity.now)) }
+{
+    match entity {
+        Entity::Listing(_) => {}
+        _ => tags.push(entity.tag())?,
+    }
+    Ok(())
 }

@@ -10,7 +10,8 @@ use Rattle.edit_paths.specs.declared.edit.Edit.{Edit}
 use Rattle.edit_paths.specs.declared.edit.Edit.TheVariants as edit
 use Rattle.edit_paths.specs.declared.paths.Subject.{Subject}
 use Rattle.edit_paths.specs.declared.paths.Subject.TheVariants as subject
-use Rattle.edit_paths.specs.Paired.{name_of, posts, patches, deletes, first_edit}
+use Rattle.content_rows.specs.LiteralName.{name_of}
+use Rattle.edit_paths.specs.Paired.{posts, patches, deletes, first_edit}
 use Rattle.edit_paths.specs.Routes.{Rows, with_route, post_rows, patch_rows, delete_rows, about_of, post_of, patch_of, delete_of}
 use Rattle.edit_paths.proofs.Routed.{AreBytes, found_by, found_between, found_as}
 

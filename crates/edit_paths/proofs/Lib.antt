@@ -1,6 +1,5 @@
 pub mod Added
 pub mod Alone
 pub mod Found
-pub mod Names
 pub mod Routed
 pub mod Texts

@@ -5,7 +5,7 @@ use Rattle.std.specs.Option.{option_map, option_or}
 use Rattle.std.specs.Str.{bytes_eq, is_utf8}
 use Rattle.content_rows.specs.IdText.{id_of}
 use Rattle.content_rows.specs.Kinds.{is_slash}
-use Rattle.content_rows.specs.LiteralName.{is_name}
+use Rattle.content_rows.specs.LiteralName.{name_of}
 use Rattle.site_commands.specs.declared.command.ConfigKind.TheVariants as kind
 use Rattle.edit_paths.specs.declared.edit.Edit.{Edit}
 use Rattle.edit_paths.specs.declared.edit.Edit.TheVariants as edit
@@ -25,10 +25,6 @@ abbrev pub segment_between : List ℕ → List ℕ → List ℕ → Option (List
 segment_between front end path =
     let cut = length path - length end in
     if bytes_eq (drop cut path) end then segment_after front (take cut path) else None
-
--- the machine name that a segment is, if it is one
-abbrev pub name_of : List ℕ → Option (List ℕ)
-name_of segment = if is_name segment then Some segment else None
 
 -- ---- forms of paths, each with its edit
 

@@ -3,14 +3,15 @@ ghost use Rattle.std.specs.Prelude.{◌≡◌, [], if◌then◌else◌, OnOk, co
 ghost use Rattle.std.specs.List.{list_any};
 ghost use Rattle.std.specs.Option.{option_map};
 ghost use Rattle.content_rows.specs.IdText.{id_of};
+ghost use Rattle.content_rows.specs.LiteralName.{name_of};
 ghost use Rattle.content_rows.specs.Kinds.{is_slash};
 ghost use Rattle.edit_paths.specs.declared.paths.Subject.TheVariants as subject;
-ghost use Rattle.edit_paths.specs.Paired.{is_segment, segment_after, segment_between, name_of, fixed, posts, patches, deletes, first_edit, forms_of, paired};
+ghost use Rattle.edit_paths.specs.Paired.{is_segment, segment_after, segment_between, fixed, posts, patches, deletes, first_edit, forms_of, paired};
 ghost use Rattle.edit_paths.specs.Routes.{post_rows, patch_rows, delete_rows, with_config, with_route, about_of, config_front, post_of, patch_of, delete_of};
 
 use crate::edit::Edit;
 use cacheability::Name;
-use content_rows::id_of;
+use content_rows::{id_of, name_of};
 use matchit::Router;
 use site_commands::ConfigKind;
 use std::alloc::{AllocError, Global};
@@ -226,16 +227,6 @@ fn name_in(front: &[u8], path: &[u8]) -> Option<Option<Name>>
     ensures { result ≡ option_map name_of (segment_after front.now path.now) }
 {
     Some(name_of(segment_after(front, path)?))
-}
-
-/// The name that a segment is.
-fn name_of(segment: &[u8]) -> Option<Name>
-    ensures { result ≡ name_of segment.now }
-{
-    match Name::new(segment) {
-        Ok(name) => Some(name),
-        Err(_) => None,
-    }
 }
 
 /// The segment that follows a front and ends the path.

@@ -5,8 +5,7 @@ use Rattle.std.specs.List.{list_all}
 use Rattle.std.proofs.lemmas.Bool.{and_parts, le-leb, leb-true}
 use Rattle.std.proofs.lemmas.List.Sums.{list_all-from_AllPass, AllPass-from_list_all}
 use Rattle.cacheability.specs.Name.{IsName, is_name_byte}
-use Rattle.content_rows.specs.LiteralName.{is_name}
-use Rattle.edit_paths.specs.Paired.{name_of}
+use Rattle.content_rows.specs.LiteralName.{is_name, name_of}
 
 pub name_passes : (t : List ℕ) → IsName t → is_name t ≡ true
 name_passes t h =

@@ -1,7 +1,7 @@
 use Rattle.std.proofs.Common.{Some, subst, ◌∙◌}
 use Rattle.content_state.specs.Forms.{IsFormOf}
 use Rattle.content_state.proofs.Named.{named_as_found}
-use Rattle.content_state.proofs.forms.Forms.named_by.Goals as goal
+use Rattle.content_state.proofs.forms.Forms.page_named_by.Goals as goal
 
 pub returns-in-Some : goal.returns-in-Some
 returns-in-Some c =
