@@ -4,6 +4,7 @@ use Rattle.cacheability.specs.declared.op.Op.TheVariants as op
 use Rattle.cacheability.specs.declared.tag.Tag.TheVariants as tag
 use Rattle.cacheability.specs.declared.context.Context.TheVariants as context
 use Rattle.cacheability.specs.Cacheability.{always_same}
+use Rattle.content_state.specs.declared.entity.Entity.TheVariants as entity
 use Rattle.content_state.specs.declared.route.Route.{Route}
 use Rattle.content_state.specs.declared.route.Route.TheVariants as route
 use Rattle.indexed_rows.specs.Rows.{term_of, user_of}
@@ -58,5 +59,9 @@ route_read (route.Node n) v = node_read op.View n v
 route_read (route.Term t) v = term_read t v
 route_read (route.User u) v = user_read u v
 route_read (route.Listing name) v = listing_read v
+route_read (route.Json (entity.Node n)) v = node_read op.View n v
+route_read (route.Json (entity.Term t)) v = term_read t v
+route_read (route.Json (entity.User u)) v = user_read u v
+route_read (route.Json (entity.Listing name)) v = listing_read v
 route_read route.Login v = reads_done v always_same _ _ refl
 route_read route.Nothing v = reads_done v always_same _ _ refl

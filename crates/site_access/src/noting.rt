@@ -23,7 +23,7 @@ use crate::user::{access_user_profiles, administer_users};
 use access_result::{PermissionText, Reason};
 use cacheability::{Cacheability, Context, Name, Op, Tag};
 use content_rows::{FieldRow, Node};
-use content_state::{Route, State};
+use content_state::{Entity, Route, State};
 use std::alloc::{AllocError, Global};
 
 impl Account {
@@ -211,10 +211,16 @@ impl Account {
         ensures depends { OnOk result (noted.new ≡ merged noted.old (route_depends state.now.rows self.now.viewer to.now)) }
     {
         match *to {
-            Route::Node(n) => self.note_node(alloc, state, Op::View, n, noted),
-            Route::Term(t) => self.note_term(alloc, state, t, noted),
-            Route::User(u) => self.note_user(alloc, state, u, noted),
-            Route::Listing(_) => self.note_listing(alloc, noted),
+            Route::Node(n) | Route::Json(Entity::Node(n)) => {
+                self.note_node(alloc, state, Op::View, n, noted)
+            }
+            Route::Term(t) | Route::Json(Entity::Term(t)) => {
+                self.note_term(alloc, state, t, noted)
+            }
+            Route::User(u) | Route::Json(Entity::User(u)) => {
+                self.note_user(alloc, state, u, noted)
+            }
+            Route::Listing(_) | Route::Json(Entity::Listing(_)) => self.note_listing(alloc, noted),
             Route::Login => Ok(Ok(())),
             Route::Nothing => unreachable!(),
         }

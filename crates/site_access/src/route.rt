@@ -11,7 +11,7 @@ use crate::depends::{allowed_by, by_permissions, lacking};
 use crate::permission;
 use access_result::AccessResult;
 use cacheability::{Cacheability, Op};
-use content_state::{Route, State, Viewer};
+use content_state::{Entity, Route, State, Viewer};
 use std::alloc::{AllocError, Global};
 
 /// Whether a viewer may view what a route leads to, which is there, as `Account::route_access` says.
@@ -33,8 +33,8 @@ pub fn route_access(
 
 impl Account {
     /// Whether the viewer may view what a route leads to, which is there: a node, a term or a user as
-    /// the access to them says; a listing with `access content`; the login page in any case. `Err`
-    /// only where memory is wanting.
+    /// the access to them says; a listing with `access content`; what is told as JSON as the page that
+    /// shows the same; the login page in any case. `Err` only where memory is wanting.
     /// <https://www.drupal.org/docs/drupal-apis/routing-system/access-checking-on-routes>
     pub fn route_access(
         &self,
@@ -63,10 +63,12 @@ impl Account {
         ensures { IfOk result (λ r. r ≡ told (access_to_route state.now.rows self.now.viewer to.now) (route_depends state.now.rows self.now.viewer to.now)) }
     {
         match *to {
-            Route::Node(n) => self.decide_node(alloc, state, Op::View, n),
-            Route::Term(t) => self.decide_term(alloc, state, t),
-            Route::User(u) => self.decide_user(alloc, state, u),
-            Route::Listing(_) => self.decide_listing(alloc),
+            Route::Node(n) | Route::Json(Entity::Node(n)) => {
+                self.decide_node(alloc, state, Op::View, n)
+            }
+            Route::Term(t) | Route::Json(Entity::Term(t)) => self.decide_term(alloc, state, t),
+            Route::User(u) | Route::Json(Entity::User(u)) => self.decide_user(alloc, state, u),
+            Route::Listing(_) | Route::Json(Entity::Listing(_)) => self.decide_listing(alloc),
             Route::Login => Ok(allowed_by(Cacheability::new(alloc))),
             Route::Nothing => unreachable!(),
         }

@@ -18,7 +18,7 @@ mod visible;
 pub use blocks::blocks_of;
 pub use laws::plans_answer;
 pub use listed::{candidates, candidates_counted, list_tags, term_listing};
-pub use paging::{Page, page_asked, page_at, page_of};
+pub use paging::{Page, last_page, page_asked, page_at, page_of};
 pub use query::query_value;
 pub use row_keys::{BlockRank, NodeRank};
 pub use trail::active_trail;

@@ -115,8 +115,8 @@ pub fn page_at(len: usize, asked: usize) -> Page
     }
 }
 
-/// The number of the last page of so many rows.
-fn last_page(len: usize) -> usize
+/// The number of the last page of so many rows, counted from 0; no rows fill one page.
+pub fn last_page(len: usize) -> usize
     ensures { result ≡ last_page len }
 {
     len.saturating_sub(1) / ROWS

@@ -1,5 +1,5 @@
 -- A read is the same on two states of one log where no tag that covers it was invalidated in between.
-use Rattle.std.proofs.Common.{ℕ, List, [], ◌∷◌, ◌++◌, ◌≡◌, ◌⊎◌, refl, sym, ◌∙◌, ap, subst, arith, inl, inr, Bool, true, false, cond, ◌==◌, Option, Some, None, Contains, is_some}
+use Rattle.std.proofs.Common.{ℕ, List, [], ◌∷◌, ◌++◌, ◌≡◌, ◌⊎◌, refl, sym, ◌∙◌, ap, subst, arith, inl, inr, Bool, true, false, cond, ◌==◌, ◌&&◌, Option, Some, None, Contains, is_some}
 use Rattle.std.specs.Prelude.{if◌then◌else◌, option_and_then}
 use Rattle.std.specs.List.{cons_option, filter, filter_map}
 use Rattle.std.specs.Str.{bytes_eq}
@@ -15,11 +15,14 @@ use Rattle.content_rows.specs.declared.row.Row.{Row}
 use Rattle.content_rows.specs.declared.row.Row.TheVariants as row
 use Rattle.content_rows.specs.declared.row.Node.{Node}
 use Rattle.content_rows.specs.declared.row.Comment.{Comment}
+use Rattle.content_state.specs.declared.entity.Entity.{Entity}
+use Rattle.content_state.specs.declared.entity.Entity.TheVariants as entity
 use Rattle.content_state.specs.declared.route.Route.{Route}
 use Rattle.content_state.specs.declared.route.Route.TheVariants as route
 use Rattle.content_state.specs.State.{State}
-use Rattle.indexed_rows.specs.Rows.{InOrder, row_at, as_site, as_type, as_role, as_user, as_term, as_node, as_menu, as_listing, as_block, as_comment, node_entry, term_entry, block_entry, comment_entry, node_of, term_of, user_of}
-use Rattle.content_state.specs.Route.{id_after, node_front, term_front, user_front, login_path, root_path, front_in, front_path, meant, found_route, led_to, route_of, cell_with, cell_route, tag_of_id, numbered_tags, route_tags, front_tags, path_tags}
+use Rattle.indexed_rows.specs.Rows.{InOrder, row_at, as_site, as_type, as_role, as_user, as_term, as_node, as_menu, as_listing, as_block, as_comment, node_entry, term_entry, block_entry, comment_entry, node_of, term_of, user_of, listing_of}
+use Rattle.content_state.specs.Entities.{id_after, is_json, entity_in, entity_tags}
+use Rattle.content_state.specs.Route.{fronts_json, json_route, node_front, term_front, user_front, login_path, root_path, front_in, front_path, meant, found_route, led_to, route_of, cell_with, cell_route, tag_of_id, numbered_tags, route_tags, front_tags, path_tags}
 use Rattle.content_state.specs.Read.{Read, SiteRow, TypeRow, RoleRow, UserRow, TermRow, NodeRow, MenuRow, ListingRow, BlockRow, AllNodes, NodesOfType, AllTerms, AllBlocks, CommentRow, CommentsOf, PathRoute, cover}
 use Rattle.content_state.specs.Replay.{list_of_type, list_of_node, bumps}
 use Rattle.content_state.specs.SiteRules.{IsValidState}
@@ -114,6 +117,7 @@ by_numbers (route.Node n) path = refl
 by_numbers (route.Term t) path = refl
 by_numbers (route.User u) path = refl
 by_numbers (route.Listing l) path = refl
+by_numbers (route.Json it) path = refl
 by_numbers route.Login path = refl
 by_numbers route.Nothing path = refl
 
@@ -173,29 +177,69 @@ module _ (s t : State) (same : Kin s t) (sorted : InOrder s.rows) (sorted' : InO
     login_or true path n k u stay = refl
     login_or false path n k u stay = by_ids path n k u stay
 
+    -- a listing that is missing is covered by the tag of what is not found, which its coming invalidates
+    listing_stays : (name : List ℕ) (b : Bool) → AllStay (tags_of (if b then route.Json (entity.Listing name) else route.Nothing) []) → row_at s.rows (cell.Listing name) ≡ row_at t.rows (cell.Listing name)
+    listing_stays name true stay = at (cell.Listing name) (tag.Listing name) (λ old new. (0, omega arith, refl)) (stay (tag.Listing name) (0, omega arith, refl))
+    listing_stays name false stay = at (cell.Listing name) tag.NotFound (λ old new. (1, omega arith, refl)) (stay tag.NotFound (0, omega arith, refl))
+
+    by_entity : (it : Option Entity) → AllStay (tags_of (json_route s.rows it) (entity_tags it)) → json_route s.rows it ≡ json_route t.rows it
+    by_entity None stay = refl
+    by_entity (Some (entity.Node n)) stay =
+        ap (λ o. if is_some (option_and_then as_node o) then route.Json (entity.Node n) else route.Nothing)
+        (at (cell.Node n) (tag.Node n) (λ old new. (0, omega arith, refl)) (own_stays (tag.Node n) (route.Json (entity.Node n)) (tag.Node n ∷ []) (is_some (node_of s.rows n)) (0, omega arith, refl) (1, omega arith, refl) stay))
+    by_entity (Some (entity.Term k)) stay =
+        ap (λ o. if is_some (option_and_then as_term o) then route.Json (entity.Term k) else route.Nothing)
+        (at (cell.Term k) (tag.Term k) (λ old new. (0, omega arith, refl)) (own_stays (tag.Term k) (route.Json (entity.Term k)) (tag.Term k ∷ []) (is_some (term_of s.rows k)) (0, omega arith, refl) (1, omega arith, refl) stay))
+    by_entity (Some (entity.User u)) stay =
+        ap (λ o. if is_some (option_and_then as_user o) then route.Json (entity.User u) else route.Nothing)
+        (at (cell.User u) (tag.User u) (λ old new. (0, omega arith, refl)) (own_stays (tag.User u) (route.Json (entity.User u)) (tag.User u ∷ []) (is_some (user_of s.rows u)) (0, omega arith, refl) (1, omega arith, refl) stay))
+    by_entity (Some (entity.Listing name)) stay =
+        ap (λ o. if is_some (option_and_then as_listing o) then route.Json (entity.Listing name) else route.Nothing)
+        (listing_stays name (is_some (listing_of s.rows name)) stay)
+
+    json_or : (b login : Bool) (path : List ℕ) (it : Option Entity) (n k u : Option ℕ)
+        → AllStay (tags_of (if b then json_route s.rows it else (if login then route.Login else found_route s.rows path n k u)) (if b then entity_tags it else numbers_of n k u))
+        → (if b then json_route s.rows it else (if login then route.Login else found_route s.rows path n k u)) ≡ (if b then json_route t.rows it else (if login then route.Login else found_route t.rows path n k u))
+    json_or true login path it n k u stay = by_entity it stay
+    json_or false login path it n k u stay = login_or login path n k u stay
+
     led_same : (path : List ℕ) → AllStay (route_tags (led_to s.rows path) path) → led_to s.rows path ≡ led_to t.rows path
     led_same path stay =
-        login_or (bytes_eq path login_path) path (id_after node_front path) (id_after term_front path) (id_after user_front path)
+        json_or (is_json path) (bytes_eq path login_path) path (entity_in path) (id_after node_front path) (id_after term_front path) (id_after user_front path)
         (subst AllStay (by_numbers (led_to s.rows path) path) stay)
 
+    -- `/` leads nowhere, or where the path does that it stands for
+    fronts_or : (b : Bool) (path : List ℕ) → AllStay (route_tags (if b then route.Nothing else led_to s.rows path) path) → (if b then route.Nothing else led_to s.rows path) ≡ (if b then route.Nothing else led_to t.rows path)
+    fronts_or true path stay = refl
+    fronts_or false path stay = led_same path stay
+
     -- `/` stands for the same path
-    stands_for_same : (path : List ℕ) (b : Bool) (others : List Tag) → AllStay (others ++ (if b then tag.Site ∷ [] else [])) → (if b then front_path s.rows else path) ≡ (if b then front_path t.rows else path)
-    stands_for_same path true others stay =
+    front_same : (others : List Tag) → AllStay (others ++ tag.Site ∷ []) → front_path s.rows ≡ front_path t.rows
+    front_same others stay =
         ap (λ o. front_in (option_and_then as_site o))
         (at cell.Site tag.Site (λ old new. (0, omega arith, refl)) (stay tag.Site (Contains-append_right others (tag.Site ∷ []) tag.Site (0, omega arith, refl))))
+
+    stands_for_same : (path : List ℕ) (b : Bool) (others : List Tag) → AllStay (others ++ (if b then tag.Site ∷ [] else [])) → (if b then front_path s.rows else path) ≡ (if b then front_path t.rows else path)
+    stands_for_same path true others stay = front_same others stay
     stands_for_same path false others stay = refl
+
+    fronts_same : (b : Bool) (others : List Tag) → AllStay (others ++ (if b then tag.Site ∷ [] else [])) → (b && is_json (front_path s.rows)) ≡ (b && is_json (front_path t.rows))
+    fronts_same true others stay = ap is_json (front_same others stay)
+    fronts_same false others stay = refl
 
     path_same : (path : List ℕ) → AllStay (path_tags s.rows path) → SameRead (PathRoute path) s t
     unfolding route_of path_tags
     path_same path stay =
         let here : List ℕ = meant s.rows path in
-        let own : List Tag = route_tags (led_to s.rows here) here in
+        let own : List Tag = route_tags (route_of s.rows path) here in
         let stands : here ≡ meant t.rows path = stands_for_same path (bytes_eq path root_path) own stay in
-        let leads : led_to s.rows here ≡ led_to t.rows (meant t.rows path) =
-        led_same here (λ g held. stay g (Contains-append_left own (front_tags path) g held)) ∙ ap (led_to t.rows) stands in
+        let leads : route_of s.rows path ≡ route_of t.rows path =
+        fronts_or (fronts_json s.rows path) here (λ g held. stay g (Contains-append_left own (front_tags path) g held))
+        ∙ ap (λ b. if b then route.Nothing else led_to t.rows here) (fronts_same (bytes_eq path root_path) own stay)
+        ∙ ap (λ p. if fronts_json t.rows path then route.Nothing else led_to t.rows p) stands in
         record {
           answers = leads;
-          covers = ap (λ (x : Route). route_tags x here ++ front_tags path) leads ∙ ap (λ p. route_tags (led_to t.rows (meant t.rows path)) p ++ front_tags path) stands;
+          covers = ap (λ (x : Route). route_tags x here ++ front_tags path) leads ∙ ap (λ p. route_tags (route_of t.rows path) p ++ front_tags path) stands;
         }
 
   one : (g : Tag) → AllStay (g ∷ []) → Stays g

@@ -20,6 +20,7 @@ use Rattle.content_rows.specs.declared.cell.Cell.{Cell}
 use Rattle.content_rows.specs.declared.cell.Cell.TheVariants as cell
 use Rattle.content_rows.specs.declared.row.Row.{Row}
 use Rattle.content_rows.specs.declared.row.Row.TheVariants as row
+use Rattle.content_state.specs.Entities.{entity_tag}
 use Rattle.content_state.specs.declared.route.Route.{Route}
 use Rattle.content_state.specs.declared.route.Route.TheVariants as route
 use Rattle.content_state.specs.declared.site_rules.SiteRule.{SiteRule}
@@ -48,6 +49,7 @@ tags_of (route.Node n) numbers = tag.Node n ∷ []
 tags_of (route.Term t) numbers = tag.Term t ∷ []
 tags_of (route.User u) numbers = tag.User u ∷ []
 tags_of (route.Listing name) numbers = tag.Listing name ∷ []
+tags_of (route.Json it) numbers = entity_tag it ∷ []
 tags_of route.Login numbers = []
 tags_of route.Nothing numbers = tag.NotFound ∷ numbers
 
