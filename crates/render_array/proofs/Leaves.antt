@@ -1,12 +1,14 @@
 -- The places that plans leave open, on a visit.
-use Rattle.std.proofs.Common.{ℕ, zero, suc, List, [], ◌∷◌, ◌++◌, ◌≡◌, ◌<◌, sym, subst, refl, arith, Bool, true, false, length, Option, Some, None}
+use Rattle.std.proofs.Common.{ℕ, zero, suc, List, [], ◌∷◌, ◌++◌, ◌≡◌, ◌<◌, sym, ◌∙◌, ap, subst, refl, arith, Bool, true, false, length, Option, Some, None}
 use Rattle.std.proofs.lemmas.Bool.{eqb-true, eqb-false}
+use Rattle.std.proofs.lemmas.List.{map-append}
 use Rattle.std.specs.List.{list_any}
-use Rattle.std.specs.Prelude.{◌==◌, ◌&&◌, nat_le, nat_lt, ◌-◌, slice_get, if◌then◌else◌, take, drop, unwrap_or}
+use Rattle.std.specs.Prelude.{◌==◌, ◌&&◌, ◌+◌, nat_le, nat_lt, ◌-◌, slice_get, if◌then◌else◌, take, drop, unwrap_or}
 use Rattle.access_result.specs.declared.reason.Reason.{Reason}
 use Rattle.content_rows.specs.declared.row.Node.{Node}
 use Rattle.content_rows.specs.declared.row.NodeType.{NodeType}
 use Rattle.content_rows.specs.declared.row.FieldRow.{FieldRow}
+use Rattle.content_rows.specs.declared.row.FieldValue.{FieldValue}
 use Rattle.content_rows.specs.declared.row.Term.{Term}
 use Rattle.content_rows.specs.declared.row.Comment.{Comment}
 use Rattle.content_rows.specs.declared.row.User.{User}
@@ -31,12 +33,15 @@ use Rattle.content_state.specs.declared.element.Depth.TheVariants as depth
 use Rattle.content_state.specs.declared.element.Placing.{Placing}
 use Rattle.content_state.specs.declared.element.Placing.TheVariants as placing
 use Rattle.content_state.specs.declared.element.Library.{Library}
+use Rattle.content_state.specs.declared.entity.Entity.{Entity}
+use Rattle.content_state.specs.declared.entity.Entity.TheVariants as entity
 use Rattle.content_state.specs.declared.route.Route.{Route}
 use Rattle.content_state.specs.declared.route.Route.TheVariants as route
+use Rattle.content_state.specs.Entities.{is_json}
 use Rattle.content_state.specs.Read.{answer, TypeRow, NodeRow, TermRow, UserRow, MenuRow, ListingRow, BlockRow, PathRoute, CommentsOf}
 use Rattle.content_state.specs.Viewer.{access_content}
 use Rattle.content_state.specs.Context.{Visit, value}
-use Rattle.content_state.specs.Plan.{Piece, Place, bytes, Plan, Done, Write, Attach, Reading, Asking, Clock, Part, ◌>>=◌, ◌>>◌, Needs, Made, reading, asking, clock, write, escaped, attach, part, each, folded}
+use Rattle.content_state.specs.Plan.{Piece, Byte, Place, bytes, Plan, Done, Write, Attach, Reading, Asking, Clock, Part, ◌>>=◌, ◌>>◌, Needs, Made, reading, asking, clock, write, escaped, attach, part, each, folded}
 use Rattle.content_state.specs.Places.{Filling, at_place, filled_in}
 use Rattle.site_access.specs.Access.{Access, Allowed, Denied}
 use Rattle.site_access.specs.Plans.{holds, node_access, field_access}
@@ -54,7 +59,7 @@ use Rattle.site_lists.specs.declared.paging.Page.{Page}
 use Rattle.site_lists.specs.Listed.{term_listing}
 use Rattle.site_lists.specs.ListingPlan.{of_types, among, terms_for, candidate_rows, moment_within, with_viewable, listing_rows, asked_page}
 use Rattle.site_lists.specs.MenuPlaces.{places_of}
-use Rattle.site_lists.specs.Paging.{page_at as page_of_rows}
+use Rattle.site_lists.specs.Paging.{page_at as page_of_rows, last_page}
 use Rattle.site_lists.specs.Visible.{for_viewer, names_front, at_front, on_path, visible}
 use Rattle.render_canvas.specs.Decision.{is_allowed}
 use Rattle.render_array.specs.Pieces as pieces
@@ -63,14 +68,16 @@ use Rattle.render_array.specs.Nodes.{may_view_node, may_view_field, may_view_ter
 use Rattle.render_array.specs.Listings.{page_number, listed_node, listed_nodes, nodes_or_none, previous_link, next_link, pager_shown, pager, pager_in, page_of_nodes, listing_view, listing_or_nothing, listing_shown, term_listing_shown}
 use Rattle.render_array.specs.Menus.{may_follow_to, may_follow, may_follow_link, Shown, none_shown, with_shown, link_shown, link_at, lists_end, link_closed, depth_after, links_shown, menu_view, menu_or_nothing, menu_shown}
 use Rattle.render_array.specs.Blocks.{text_body, menu_there, menu_body, listing_there, listing_body, hello, greeting_body, csrf_of_session, csrf_body, clock_body, body_of_kind, block_label, block_view, block_or_nothing, block_shown, block_if_visible, block_place, region}
-use Rattle.render_array.specs.Page.{page_top, page_bottom, framed, denied_content, denied, not_found, node_answer, node_found, node_page, described, term_content, term_answer, term_found, term_page, member_since, user_answer, user_found, user_page, listing_answer, listing_found, listing_page, login_content, login_page, page_at, page}
+use Rattle.json_out.specs.Told.{node_json, term_json, user_json, listing_json, denied_json, no_target_json}
+use Rattle.render_array.specs.Json.{told, json_denied, json_not_found, with_shown_field, shown_fields, json_node_answer, json_node_found, json_node, json_term_answer, json_term_found, json_term, json_user_answer, json_user_found, json_user, with_row, with_listed, json_listing_page, json_listing_view, json_listing_answer, json_listing_found, json_listing, json_page}
+use Rattle.render_array.specs.Page.{page_top, page_bottom, framed, denied_content, denied, not_found, node_answer, node_found, node_page, described, term_content, term_answer, term_found, term_page, member_since, user_answer, user_found, user_page, listing_answer, listing_found, listing_page, login_content, login_page, nothing_found, page_at, page}
 use Rattle.render_array.specs.Built.{fragment_shown}
 use Rattle.render_array.specs.declared.element.Element.TheVariants as element
 use Rattle.render_array.specs.Whole.{fragment_level, level, shown_below, whole}
 use Rattle.render_array.specs.Shown.{OnlyMeta}
 
 -- each place that the plan leaves open on the visit, whenever the clock is looked at, has the property
-abbrev Leaves : {A : Type 0} → (Hole → Type 0) → Visit → Plan A → Type 0
+abbrev pub Leaves : {A : Type 0} → (Hole → Type 0) → Visit → Plan A → Type 0
 Leaves P v (Done a) = Unit {0}
 Leaves P v (Write bs k) = Leaves P v k
 Leaves P v (Attach l k) = Leaves P v k
@@ -79,7 +86,7 @@ Leaves P v (Asking c k) = Leaves P v (k (value v c))
 Leaves P v (Clock age k) = (t : ℕ) → Leaves P v (k t)
 Leaves P v (Part h k) = P h × Leaves P v k
 
-leaves_bind : {A B : Type 0} (P : Hole → Type 0) (v : Visit) (p : Plan A) (f : A → Plan B) → Leaves P v p → ((a : A) → Leaves P v (f a)) → Leaves P v (p >>= f)
+pub leaves_bind : {A B : Type 0} (P : Hole → Type 0) (v : Visit) (p : Plan A) (f : A → Plan B) → Leaves P v p → ((a : A) → Leaves P v (f a)) → Leaves P v (p >>= f)
 leaves_bind P v (Done a) f first then_each = then_each a
 leaves_bind P v (Write bs k) f first then_each = leaves_bind P v k f first then_each
 leaves_bind P v (Attach l k) f first then_each = leaves_bind P v k f first then_each
@@ -414,6 +421,7 @@ module _ (P : Hole → Type 0) (v : Visit) where
   follow_to_leaves (route.Term t) = allowed_leaves (route_access (route.Term t)) (route_read (route.Term t) v).silent
   follow_to_leaves (route.User u) = allowed_leaves (route_access (route.User u)) (route_read (route.User u) v).silent
   follow_to_leaves (route.Listing name) = allowed_leaves (route_access (route.Listing name)) (route_read (route.Listing name) v).silent
+  follow_to_leaves (route.Json it) = allowed_leaves (route_access (route.Json it)) (route_read (route.Json it) v).silent
   follow_to_leaves route.Login = tt
   follow_to_leaves route.Nothing = tt
 
@@ -559,6 +567,108 @@ module _ (P : Hole → Type 0) (v : Visit) where
     unfolding block_shown reading
     block_leaves name = block_or_leaves (answer v.rows (BlockRow name))
 
+  -- ---- what is told as JSON leaves no place open
+
+  told_leaves : (status : ℕ) (text : List ℕ) → Leaves P v (told status text)
+  unfolding told write
+  told_leaves status text = tt
+
+  json_denied_leaves : (why : Reason) → Leaves P v (json_denied why)
+  unfolding json_denied
+  json_denied_leaves why = told_leaves 403 (denied_json why)
+
+  json_not_found_leaves : Leaves P v json_not_found
+  unfolding json_not_found
+  json_not_found_leaves = told_leaves 404 no_target_json
+
+  shown_field_leaves : (n : ℕ) (node : Node) (found : List FieldValue) (row : FieldRow) → Leaves P v (with_shown_field n node found row)
+  unfolding with_shown_field
+  shown_field_leaves n node found row =
+      either (length (field_value node row.name) == 0) _ _ tt
+      (both (may_view_field n node.node_type row.name) _ (view_field_leaves n node.node_type row.name) (λ allowed. tt))
+
+  shown_fields_leaves : (n : ℕ) (node : Node) (o : Option NodeType) → Leaves P v (shown_fields n node o)
+  shown_fields_leaves n node None = tt
+  shown_fields_leaves n node (Some type) = folded_leaves (with_shown_field n node) [] type.fields (shown_field_leaves n node)
+
+  json_node_answer_leaves : (n : ℕ) (node : Node) (access : Access) → Leaves P v (json_node_answer n node access)
+  unfolding reading
+  json_node_answer_leaves n node Allowed =
+      let type = answer v.rows (TypeRow node.node_type) in
+      both (shown_fields n node type) _ (shown_fields_leaves n node type)
+      (λ fields. both (folded with_viewable_term [] node.terms) _ (folded_leaves with_viewable_term [] node.terms with_viewable_term_leaves)
+      (λ terms. told_leaves 200 (node_json n node fields terms)))
+  json_node_answer_leaves n node (Denied why) = json_denied_leaves why
+
+  json_node_found_leaves : (n : ℕ) (o : Option Node) → Leaves P v (json_node_found n o)
+  json_node_found_leaves n None = json_not_found_leaves
+  json_node_found_leaves n (Some node) =
+      both (node_access op.View n) (json_node_answer n node) (silent_leaves (node_access op.View n) (node_read op.View n v).silent) (json_node_answer_leaves n node)
+
+  json_term_answer_leaves : (t : ℕ) (term : Term) (access : Access) → Leaves P v (json_term_answer t term access)
+  json_term_answer_leaves t term Allowed = told_leaves 200 (term_json t term)
+  json_term_answer_leaves t term (Denied why) = json_denied_leaves why
+
+  json_term_found_leaves : (t : ℕ) (o : Option Term) → Leaves P v (json_term_found t o)
+  json_term_found_leaves t None = json_not_found_leaves
+  json_term_found_leaves t (Some term) =
+      both (term_access t) (json_term_answer t term) (silent_leaves (term_access t) (term_read t v).silent) (json_term_answer_leaves t term)
+
+  json_user_answer_leaves : (u : ℕ) (user : User) (access : Access) → Leaves P v (json_user_answer u user access)
+  json_user_answer_leaves u user Allowed = told_leaves 200 (user_json u user)
+  json_user_answer_leaves u user (Denied why) = json_denied_leaves why
+
+  json_user_found_leaves : (u : ℕ) (o : Option User) → Leaves P v (json_user_found u o)
+  json_user_found_leaves u None = json_not_found_leaves
+  json_user_found_leaves u (Some user) =
+      both (user_access u) (json_user_answer u user) (silent_leaves (user_access u) (user_read u v).silent) (json_user_answer_leaves u user)
+
+  with_row_leaves : (found : List (ℕ × Node)) (n : ℕ) (o : Option Node) → Leaves P v (with_row found n o)
+  with_row_leaves found n None = tt
+  with_row_leaves found n (Some node) = tt
+
+  with_listed_leaves : (found : List (ℕ × Node)) (n : ℕ) → Leaves P v (with_listed found n)
+  unfolding with_listed reading
+  with_listed_leaves found n = with_row_leaves found n (answer v.rows (NodeRow n))
+
+  json_listing_page_leaves : (ids : List ℕ) (page : Page) → Leaves P v (json_listing_page ids page)
+  unfolding json_listing_page
+  json_listing_page_leaves ids page =
+      both (folded with_listed [] (take (page.end - page.start) (drop page.start ids))) _
+      (folded_leaves with_listed [] (take (page.end - page.start) (drop page.start ids)) with_listed_leaves)
+      (λ nodes. told_leaves 200 (listing_json nodes page.number (last_page (length ids) + 1)))
+
+  asked_leaves : Leaves P v asked_page
+  unfolding asked_page asking
+  asked_leaves = tt
+
+  json_listing_view_leaves : (listing : Listing) → Leaves P v (json_listing_view listing)
+  unfolding json_listing_view
+  json_listing_view_leaves listing =
+      both by_viewer _ by_viewer_leaves
+      (λ a. both (listing_rows may_view_node listing) _ (rows_leaves listing)
+      (λ ids. both asked_page _ asked_leaves
+      (λ asked. json_listing_page_leaves ids (page_of_rows (length ids) asked))))
+
+  listing_access_leaves : Leaves P v listing_access
+  unfolding listing_access
+  listing_access_leaves = both (holds access_content) _ (holds_leaves access_content) (λ a. tt)
+
+  json_listing_answer_leaves : (listing : Listing) (access : Access) → Leaves P v (json_listing_answer listing access)
+  json_listing_answer_leaves listing Allowed = json_listing_view_leaves listing
+  json_listing_answer_leaves listing (Denied why) = json_denied_leaves why
+
+  json_listing_found_leaves : (o : Option Listing) → Leaves P v (json_listing_found o)
+  json_listing_found_leaves None = json_not_found_leaves
+  json_listing_found_leaves (Some listing) = both listing_access (json_listing_answer listing) listing_access_leaves (json_listing_answer_leaves listing)
+
+  pub json_leaves : (it : Entity) → Leaves P v (json_page it)
+  unfolding json_node json_term json_user json_listing reading
+  json_leaves (entity.Node n) = json_node_found_leaves n (answer v.rows (NodeRow n))
+  json_leaves (entity.Term t) = json_term_found_leaves t (answer v.rows (TermRow t))
+  json_leaves (entity.User u) = json_user_found_leaves u (answer v.rows (UserRow u))
+  json_leaves (entity.Listing name) = json_listing_found_leaves (answer v.rows (ListingRow name))
+
   -- ---- a page leaves open the place of the libraries, and those of blocks, of a node in full and of listings
   module _ (meta : P hole.Meta) (block : (name : List ℕ) → P (hole.Fragment (fragment.Block name))) (full : (n : ℕ) → P (hole.Fragment (fragment.Node n mode.Full))) (of_term : (t : ℕ) → P (hole.Fragment (fragment.TermListing t))) (listing : (name : List ℕ) → P (hole.Fragment (fragment.Listing name placing.OnPage))) where
     if_visible_leaves : (name : List ℕ) (o : Option Block) → Leaves P v (block_if_visible name o)
@@ -642,10 +752,6 @@ module _ (P : Hole → Type 0) (v : Visit) where
     listing_answer_leaves name row Allowed = framed_leaves 200 row.title (part (hole.Fragment (fragment.Listing name placing.OnPage))) (listing name, tt)
     listing_answer_leaves name row (Denied why) = denied_leaves why
 
-    listing_access_leaves : Leaves P v listing_access
-    unfolding listing_access
-    listing_access_leaves = both (holds access_content) _ (holds_leaves access_content) (λ a. tt)
-
     listing_found_leaves : (name : List ℕ) (o : Option Listing) → Leaves P v (listing_found name o)
     listing_found_leaves name None = not_found_leaves
     listing_found_leaves name (Some row) = both listing_access (listing_answer name row) listing_access_leaves (listing_answer_leaves name row)
@@ -654,22 +760,27 @@ module _ (P : Hole → Type 0) (v : Visit) where
     unfolding login_page login_content attach write
     login_leaves = framed_leaves 200 pieces.login_title login_content tt
 
-    at_leaves : (r : Route) → Leaves P v (page_at r)
+    nothing_found_leaves : (json : Bool) → Leaves P v (nothing_found json)
+    unfolding nothing_found
+    nothing_found_leaves json = either json _ _ json_not_found_leaves not_found_leaves
+
+    at_leaves : (json : Bool) (r : Route) → Leaves P v (page_at json r)
     unfolding node_page term_page user_page listing_page reading
-    at_leaves (route.Node n) = node_found_leaves n (answer v.rows (NodeRow n))
-    at_leaves (route.Term t) = term_found_leaves t (answer v.rows (TermRow t))
-    at_leaves (route.User u) = user_found_leaves u (answer v.rows (UserRow u))
-    at_leaves (route.Listing name) = listing_found_leaves name (answer v.rows (ListingRow name))
-    at_leaves route.Login = login_leaves
-    at_leaves route.Nothing = not_found_leaves
+    at_leaves json (route.Node n) = node_found_leaves n (answer v.rows (NodeRow n))
+    at_leaves json (route.Term t) = term_found_leaves t (answer v.rows (TermRow t))
+    at_leaves json (route.User u) = user_found_leaves u (answer v.rows (UserRow u))
+    at_leaves json (route.Listing name) = listing_found_leaves name (answer v.rows (ListingRow name))
+    at_leaves json (route.Json it) = json_leaves it
+    at_leaves json route.Login = login_leaves
+    at_leaves json route.Nothing = nothing_found_leaves json
 
     page_leaves : (path : List ℕ) → Leaves P v (page path)
     unfolding page reading
-    page_leaves path = at_leaves (answer v.rows (PathRoute path))
+    page_leaves path = at_leaves (is_json path) (answer v.rows (PathRoute path))
 
--- the places that stand in an element of a level: the libraries', and those of fragments of lower levels
+-- the places that stand in a fragment of a level: those of fragments of lower levels
 abbrev IsBelow : ℕ → Hole → Type 0
-IsBelow k hole.Meta = Unit {0}
+IsBelow k hole.Meta = ⊥
 IsBelow k (hole.Fragment f) = fragment_level f < k
 
 -- a fragment leaves open places of lower levels
@@ -698,48 +809,54 @@ module _ (P : Hole → Type 0) (v : Visit) where
       term_listing_leaves P v (λ n. lower (hole.Fragment (fragment.Node n mode.Teaser)) (omega arith)) t
   fragment_leaves (fragment.Node n m) lower = node_leaves P v n m (mode_leaves m n lower)
 
--- a place is the libraries', or what is filled in there leaves open the libraries' alone
+-- Which places stay open once all others are filled in: `Open` says it of each.
+module _ (Open : Hole → Type 0) where
+  -- a place is such a one, or what is filled in there leaves such places open alone
+  abbrev ClosedAt : Visit → Option (Plan (Option ℕ)) → Hole → Type 0
+  ClosedAt v None h = Open h
+  ClosedAt v (Some child) h = Leaves Open v child
+
+  closed_at : {A : Type 0} (v : Visit) (o : Option (Plan (Option ℕ))) (h : Hole) (k : Plan A) → ClosedAt v o h → Leaves Open v k → Leaves Open v (at_place o h k)
+  closed_at v None h k closed rest = (closed, rest)
+  closed_at v (Some child) h k closed rest = leaves_bind Open v child (λ _. k) closed (λ _. rest)
+
+  closed : {A : Type 0} (v : Visit) (fill : Filling) (p : Plan A) → Leaves (λ h. ClosedAt v (fill h) h) v p → Leaves Open v (filled_in fill p)
+  closed v fill (Done a) leaves = tt
+  closed v fill (Write bs k) leaves = closed v fill k leaves
+  closed v fill (Attach l k) leaves = closed v fill k leaves
+  closed v fill (Reading r k) leaves = closed v fill (k (answer v.rows r)) leaves
+  closed v fill (Asking c k) leaves = closed v fill (k (value v c)) leaves
+  closed v fill (Clock age k) leaves = λ t. closed v fill (k t) (leaves t)
+  closed v fill (Part h k) leaves = closed_at v (fill h) h (filled_in fill k) leaves.0 (closed v fill k leaves.1)
+
+  -- a fragment whose places are closed is closed
+  closed_fragment : (v : Visit) (fill : Filling) (f : Fragment) → ((h : Hole) → IsBelow (fragment_level f) h → ClosedAt v (fill h) h) → Leaves Open v (filled_in {A = Option ℕ} fill (fragment_shown f >> Done None))
+  closed_fragment v fill f lower =
+      closed v fill (fragment_shown f >> Done None)
+      (leaves_bind (λ h. ClosedAt v (fill h) h) v (fragment_shown f) (λ _. Done None) (fragment_leaves (λ h. ClosedAt v (fill h) h) v f lower) (λ a. tt))
+
+  -- a place of a lower level is closed
+  choice_closed : (v : Visit) (b : Bool) (h : Hole) (here there : Option (Plan (Option ℕ))) → (b ≡ true → ClosedAt v here h) → (b ≡ false → ClosedAt v there h) → ClosedAt v (if b then here else there) h
+  choice_closed v true h here there if_here if_there = if_here refl
+  choice_closed v false h here there if_here if_there = if_there refl
+
+  closed_below : (v : Visit) (k : ℕ) (h : Hole) → IsBelow k h → ClosedAt v (shown_below k h) h
+  closed_below v zero hole.Meta below = absurd below
+  closed_below v zero (hole.Fragment f) below = absurd (omega arith)
+  closed_below v (suc k) hole.Meta below = absurd below
+  closed_below v (suc k) (hole.Fragment f) below =
+      choice_closed v (fragment_level f == k) (hole.Fragment f) (Some (filled_in (shown_below k) (fragment_shown f >> Done None))) (shown_below k (hole.Fragment f))
+      (λ is. closed_fragment v (shown_below k) f (λ h lower. closed_below v k h (subst (λ l. IsBelow l h) (eqb-true (fragment_level f) k is) lower)))
+      (λ is. let other = eqb-false (fragment_level f) k is in closed_below v k (hole.Fragment f) (omega arith))
+
+  -- whatever the path, a whole fragment leaves such places open alone
+  whole_fragment : (path : List ℕ) (f : Fragment) (v : Visit) → Leaves Open v (whole path (element.Fragment f))
+  whole_fragment path f v = closed_fragment v (shown_below (fragment_level f)) f (λ h lower. closed_below v (fragment_level f) h lower)
+
+-- the place of the libraries
 abbrev IsMeta : Hole → Type 0
 IsMeta hole.Meta = Unit {0}
 IsMeta (hole.Fragment f) = ⊥
-
-abbrev ClosedAt : Visit → Option (Plan (Option ℕ)) → Hole → Type 0
-ClosedAt v None h = IsMeta h
-ClosedAt v (Some child) h = Leaves IsMeta v child
-
-closed_at : {A : Type 0} (v : Visit) (o : Option (Plan (Option ℕ))) (h : Hole) (k : Plan A) → ClosedAt v o h → Leaves IsMeta v k → Leaves IsMeta v (at_place o h k)
-closed_at v None h k closed rest = (closed, rest)
-closed_at v (Some child) h k closed rest = leaves_bind IsMeta v child (λ _. k) closed (λ _. rest)
-
-closed : {A : Type 0} (v : Visit) (fill : Filling) (p : Plan A) → Leaves (λ h. ClosedAt v (fill h) h) v p → Leaves IsMeta v (filled_in fill p)
-closed v fill (Done a) leaves = tt
-closed v fill (Write bs k) leaves = closed v fill k leaves
-closed v fill (Attach l k) leaves = closed v fill k leaves
-closed v fill (Reading r k) leaves = closed v fill (k (answer v.rows r)) leaves
-closed v fill (Asking c k) leaves = closed v fill (k (value v c)) leaves
-closed v fill (Clock age k) leaves = λ t. closed v fill (k t) (leaves t)
-closed v fill (Part h k) leaves = closed_at v (fill h) h (filled_in fill k) leaves.0 (closed v fill k leaves.1)
-
--- a fragment whose places are closed is closed
-closed_fragment : (v : Visit) (fill : Filling) (f : Fragment) → ((h : Hole) → IsBelow (fragment_level f) h → ClosedAt v (fill h) h) → Leaves IsMeta v (filled_in {A = Option ℕ} fill (fragment_shown f >> Done None))
-closed_fragment v fill f lower =
-    closed v fill (fragment_shown f >> Done None)
-    (leaves_bind (λ h. ClosedAt v (fill h) h) v (fragment_shown f) (λ _. Done None) (fragment_leaves (λ h. ClosedAt v (fill h) h) v f lower) (λ a. tt))
-
--- a place of a lower level is closed
-choice_closed : (v : Visit) (b : Bool) (h : Hole) (here there : Option (Plan (Option ℕ))) → (b ≡ true → ClosedAt v here h) → (b ≡ false → ClosedAt v there h) → ClosedAt v (if b then here else there) h
-choice_closed v true h here there if_here if_there = if_here refl
-choice_closed v false h here there if_here if_there = if_there refl
-
-closed_below : (v : Visit) (k : ℕ) (h : Hole) → IsBelow k h → ClosedAt v (shown_below k h) h
-closed_below v zero hole.Meta below = tt
-closed_below v zero (hole.Fragment f) below = absurd (omega arith)
-closed_below v (suc k) hole.Meta below =
-    choice_closed v (level hole.Meta == k) hole.Meta None (shown_below k hole.Meta) (λ is. tt) (λ is. closed_below v k hole.Meta tt)
-closed_below v (suc k) (hole.Fragment f) below =
-    choice_closed v (fragment_level f == k) (hole.Fragment f) (Some (filled_in (shown_below k) (fragment_shown f >> Done None))) (shown_below k (hole.Fragment f))
-    (λ is. closed_fragment v (shown_below k) f (λ h lower. closed_below v k h (subst (λ l. IsBelow l h) (eqb-true (fragment_level f) k is) lower)))
-    (λ is. let other = eqb-false (fragment_level f) k is in closed_below v k (hole.Fragment f) (omega arith))
 
 only_bytes : (bs : List ℕ) (ps : List Piece) → OnlyMeta ps → OnlyMeta (bytes bs ++ ps)
 only_bytes [] ps only = only
@@ -762,13 +879,13 @@ only_made (Part h k) v x shown libraries needs leaves made = subst OnlyMeta (sym
 pub page_closed : (path : List ℕ) (v : Visit) (x : Option ℕ) (shown : List Piece) (libraries : List Library) (needs : Needs) → Made (whole path element.Page) v x shown libraries needs → OnlyMeta shown
 page_closed path v x shown libraries needs made =
     only_made (whole path element.Page) v x shown libraries needs
-    (closed v (shown_below 5) (page path >>= λ s. Done (Some s))
-    (leaves_bind (λ h. ClosedAt v (shown_below 5 h) h) v (page path) (λ s. Done (Some s))
-    (page_leaves (λ h. ClosedAt v (shown_below 5 h) h) v (closed_below v 5 hole.Meta tt)
-    (λ name. closed_below v 5 (hole.Fragment (fragment.Block name)) (omega arith))
-    (λ n. closed_below v 5 (hole.Fragment (fragment.Node n mode.Full)) (omega arith))
-    (λ t. closed_below v 5 (hole.Fragment (fragment.TermListing t)) (omega arith))
-    (λ name. closed_below v 5 (hole.Fragment (fragment.Listing name placing.OnPage)) (omega arith))
+    (closed IsMeta v (shown_below 5) (page path >>= λ s. Done (Some s))
+    (leaves_bind (λ h. ClosedAt IsMeta v (shown_below 5 h) h) v (page path) (λ s. Done (Some s))
+    (page_leaves (λ h. ClosedAt IsMeta v (shown_below 5 h) h) v tt
+    (λ name. closed_below IsMeta v 5 (hole.Fragment (fragment.Block name)) (omega arith))
+    (λ n. closed_below IsMeta v 5 (hole.Fragment (fragment.Node n mode.Full)) (omega arith))
+    (λ t. closed_below IsMeta v 5 (hole.Fragment (fragment.TermListing t)) (omega arith))
+    (λ name. closed_below IsMeta v 5 (hole.Fragment (fragment.Listing name placing.OnPage)) (omega arith))
     path)
     (λ s. tt)))
     made
@@ -776,5 +893,21 @@ page_closed path v x shown libraries needs made =
 -- nor does one of a whole fragment
 pub fragment_closed : (path : List ℕ) (f : Fragment) (v : Visit) (x : Option ℕ) (shown : List Piece) (libraries : List Library) (needs : Needs) → Made (whole path (element.Fragment f)) v x shown libraries needs → OnlyMeta shown
 fragment_closed path f v x shown libraries needs made =
-    only_made (whole path (element.Fragment f)) v x shown libraries needs
-    (closed_fragment v (shown_below (fragment_level f)) f (λ h lower. closed_below v (fragment_level f) h lower)) made
+    only_made (whole path (element.Fragment f)) v x shown libraries needs (whole_fragment IsMeta path f v) made
+
+-- what leaves no place open shows bytes
+only_written : {A : Type 0} (p : Plan A) (v : Visit) (x : A) (shown : List Piece) (libraries : List Library) (needs : Needs) → Leaves (λ h. ⊥) v p → Made p v x shown libraries needs → (text : List ℕ) × (shown ≡ bytes text)
+only_written (Done a) v x shown libraries needs leaves made = ([], made.1)
+only_written (Write bs k) v x shown libraries needs leaves made =
+    let rest = only_written k v x made.0 libraries needs leaves made.2 in
+    (bs ++ rest.0, made.1 ∙ ap (λ ps. bytes bs ++ ps) rest.1 ∙ sym (map-append Byte bs rest.0))
+only_written (Attach l k) v x shown libraries needs leaves made = only_written k v x shown made.0 needs leaves made.2
+only_written (Reading r k) v x shown libraries needs leaves made = only_written (k (answer v.rows r)) v x shown libraries needs leaves made.1
+only_written (Asking c k) v x shown libraries needs leaves made = only_written (k (value v c)) v x shown libraries needs leaves made.1
+only_written (Clock age k) v x shown libraries needs leaves made = only_written (k made.0) v x shown libraries needs (leaves made.0) made.3
+only_written (Part h k) v x shown libraries needs leaves made = absurd leaves.0
+
+-- no place at all of a whole fragment stays open
+pub fragment_written : (path : List ℕ) (f : Fragment) (v : Visit) (x : Option ℕ) (shown : List Piece) (libraries : List Library) (needs : Needs) → Made (whole path (element.Fragment f)) v x shown libraries needs → (text : List ℕ) × (shown ≡ bytes text)
+fragment_written path f v x shown libraries needs made =
+    only_written (whole path (element.Fragment f)) v x shown libraries needs (whole_fragment (λ h. ⊥) path f v) made

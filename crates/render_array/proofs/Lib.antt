@@ -1,4 +1,5 @@
 pub mod Deeper
+pub mod Gathered
 pub mod Leaves
 pub mod Lists
 pub mod MenuLaws

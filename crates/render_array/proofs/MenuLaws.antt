@@ -22,6 +22,7 @@ followed (route.Node n) b there run = run
 followed (route.Term t) b there run = run
 followed (route.User u) b there run = run
 followed (route.Listing name) b there run = run
+followed (route.Json it) b there run = run
 followed route.Login b there run = run
 followed route.Nothing b there run = absurd (there refl)
 

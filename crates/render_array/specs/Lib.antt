@@ -3,6 +3,7 @@ pub mod Nodes
 pub mod Listings
 pub mod Menus
 pub mod Blocks
+pub mod Json
 pub mod Page
 pub mod Built
 pub mod Whole

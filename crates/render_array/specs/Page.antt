@@ -1,6 +1,6 @@
 -- What a page shows, as plans of reads.
 -- https://www.drupal.org/docs/drupal-apis/render-api/render-arrays
-use Rattle.std.specs.Prelude.{ℕ, List, [], length, ◌==◌, Option, Some, None, if◌then◌else◌}
+use Rattle.std.specs.Prelude.{ℕ, Bool, List, [], length, ◌==◌, Option, Some, None, if◌then◌else◌}
 use Rattle.cacheability.specs.declared.op.Op.TheVariants as op
 use Rattle.access_result.specs.declared.reason.Reason.{Reason}
 use Rattle.access_result.specs.Reason.{reason_text}
@@ -17,6 +17,7 @@ use Rattle.content_state.specs.declared.element.Fragment.TheVariants as fragment
 use Rattle.content_state.specs.declared.element.Mode.TheVariants as mode
 use Rattle.content_state.specs.declared.element.Placing.TheVariants as placing
 use Rattle.content_state.specs.declared.element.Library.TheVariants as library
+use Rattle.content_state.specs.Entities.{is_json}
 use Rattle.content_state.specs.Read.{SiteRow, NodeRow, TermRow, UserRow, ListingRow, PathRoute}
 use Rattle.content_state.specs.Viewer.{access_content}
 use Rattle.content_state.specs.Plan.{Plan, Done, write, escaped, attach, part, reading, ◌>>=◌, ◌>>◌}
@@ -27,6 +28,7 @@ use Rattle.site_access.specs.Users.{user_access}
 use Rattle.site_access.specs.Routes.{listing_access}
 use Rattle.site_dates.specs.Dates.{date_text_of}
 use Rattle.render_array.specs.Blocks.{region}
+use Rattle.render_array.specs.Json.{json_not_found, json_page}
 use Rattle.render_array.specs.Pieces as pieces
 
 abbrev pub site_name : Option Site → List ℕ
@@ -154,14 +156,20 @@ login_content = do
 unfoldable pub login_page : Plan ℕ
 login_page = framed 200 pieces.login_title login_content
 
-abbrev pub page_at : Route → Plan ℕ
-page_at (route.Node n) = node_page n
-page_at (route.Term t) = term_page t
-page_at (route.User u) = user_page u
-page_at (route.Listing name) = listing_page name
-page_at route.Login = login_page
-page_at route.Nothing = not_found
+-- what isn't found is told as JSON or shown as HTML
+unfoldable pub nothing_found : Bool → Plan ℕ
+nothing_found json = if json then json_not_found else not_found
 
--- the page of a path, which gives its status
+-- what stands at a path of JSON or at another one, by where the path leads
+abbrev pub page_at : Bool → Route → Plan ℕ
+page_at json (route.Node n) = node_page n
+page_at json (route.Term t) = term_page t
+page_at json (route.User u) = user_page u
+page_at json (route.Listing name) = listing_page name
+page_at json (route.Json it) = json_page it
+page_at json route.Login = login_page
+page_at json route.Nothing = nothing_found json
+
+-- the page of a path, which gives its status: HTML, or JSON where the path is one of JSON
 unfoldable pub page : List ℕ → Plan ℕ
-page path = reading (PathRoute path) >>= page_at
+page path = reading (PathRoute path) >>= page_at (is_json path)

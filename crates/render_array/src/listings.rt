@@ -139,7 +139,7 @@ fn page_of_nodes(canvas: &mut Canvas, placing: Placing, ids: &[u32], page: &Page
 }
 
 /// The nodes that a listing shows the viewer on all its pages.
-fn listing_rows(canvas: &mut Canvas, listing: &Listing) -> Vec<u32>
+pub(crate) fn listing_rows(canvas: &mut Canvas, listing: &Listing) -> Vec<u32>
     ensures { Renders (listing_rows may_view_node listing.now) canvas.old result.items canvas.new }
 {
     let moment = canvas.moment_within(listing.age);

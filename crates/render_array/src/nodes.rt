@@ -37,7 +37,7 @@ use content_state::{Depth, Fragment, Hole, Library, Mode};
 use render_canvas::Canvas;
 
 /// The first value of that name.
-fn value_named<'a>(values: &'a [FieldValue], name: &Name) -> Option<&'a FieldValue>
+pub(crate) fn value_named<'a>(values: &'a [FieldValue], name: &Name) -> Option<&'a FieldValue>
     ensures { option_copied result ≡ find (λ value. bytes_eq value.name name.now) values.now }
 {
     for value in values {
@@ -78,7 +78,7 @@ fn may_view_node(canvas: &mut Canvas, n: u32) -> bool
 }
 
 /// Whether the viewer may view a field of a node.
-fn may_view_field(canvas: &mut Canvas, n: u32, node: &Node, field: &Name) -> bool
+pub(crate) fn may_view_field(canvas: &mut Canvas, n: u32, node: &Node, field: &Name) -> bool
     requires node_is { node_of canvas.old.visit.rows n ≡ Some node.now }
     requires has_field { HasField (type_of canvas.old.visit.rows node.now.node_type) field.now }
     ensures { Renders (may_view_field n node.now.node_type field.now) canvas.old result canvas.new }

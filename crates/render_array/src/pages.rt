@@ -26,14 +26,16 @@ ghost use Rattle.render_array.specs.Page.{
   listing_page,
   login_content,
   login_page,
+  nothing_found,
   page,
 };
 
 use crate::blocks::region;
+use crate::json::{json_not_found, json_page};
 use access_result::{PermissionText, Reason};
 use cacheability::{Name, Op};
 use content_rows::{Listing, Node, Region, Site, Term, User};
-use content_state::{Fragment, Hole, Library, Mode, Placing, Route};
+use content_state::{Fragment, Hole, Library, Mode, Placing, Route, is_json};
 use render_canvas::Canvas;
 
 /// The name of the site; empty where there are no settings.
@@ -205,7 +207,7 @@ fn user_page(canvas: &mut Canvas, u: u32) -> u16
 }
 
 /// Whether the viewer may view listings, or else why not. Where memory is wanting it is denied in vain.
-fn listing_access(canvas: &mut Canvas) -> Result<(), Reason>
+pub(crate) fn listing_access(canvas: &mut Canvas) -> Result<(), Reason>
     ensures { Renders listing_access canvas.old (decision_of result) canvas.new }
 {
     if canvas.holds(b"access content") {
@@ -263,7 +265,18 @@ fn login_page(canvas: &mut Canvas) -> u16
     200
 }
 
-/// The page of a path, and its status: 200, or 403 where it may not be viewed, or 404 where it leads nowhere.
+/// What isn't found, told as JSON or shown as HTML, and its status.
+fn nothing_found(canvas: &mut Canvas, json: bool) -> u16
+    ensures { Renders (nothing_found json) canvas.old result canvas.new }
+{
+    if json {
+        json_not_found(canvas)
+    } else {
+        not_found(canvas)
+    }
+}
+
+/// The page of a path, as HTML or as JSON, and its status: 200, or 403 where it may not be viewed, or 404 where it leads nowhere.
 pub fn page(canvas: &mut Canvas, path: &[u8]) -> u16
     ensures { Renders (page path.now) canvas.old result canvas.new }
 {
@@ -272,7 +285,8 @@ pub fn page(canvas: &mut Canvas, path: &[u8]) -> u16
         Route::Term(t) => term_page(canvas, t),
         Route::User(u) => user_page(canvas, u),
         Route::Listing(name) => listing_page(canvas, name),
+        Route::Json(it) => json_page(canvas, it),
         Route::Login => login_page(canvas),
-        Route::Nothing => not_found(canvas),
+        Route::Nothing => nothing_found(canvas, is_json(path)),
     }
 }

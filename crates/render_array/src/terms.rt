@@ -37,7 +37,7 @@ fn with_viewable_term(canvas: &mut Canvas, found: &mut Vec<u32>, t: u32)
 }
 
 /// Those of the terms that are there and may be viewed.
-fn viewable_terms(canvas: &mut Canvas, ts: &[u32]) -> Vec<u32>
+pub(crate) fn viewable_terms(canvas: &mut Canvas, ts: &[u32]) -> Vec<u32>
     ensures { Renders (folded with_viewable_term [] ts.now) canvas.old result.items canvas.new }
 {
     let mut found = Vec::new(canvas.allocator());

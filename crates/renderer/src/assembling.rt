@@ -107,7 +107,7 @@ fn add_meta(text: &mut Vec<u8>, attached: &[Library], library: Library) -> Resul
 }
 
 /// Whether a library was attached.
-fn is_attached(attached: &[Library], library: Library) -> bool
+pub fn is_attached(attached: &[Library], library: Library) -> bool
     ensures { result ≡ list_any (same_library library) attached.now }
 {
     attached
@@ -128,7 +128,7 @@ fn add_line(text: &mut Vec<u8>, library: Library) -> Result<(), AllocError>
 
 /// The name of a library.
 #[tactic(auto, unfolding(render_array::specs::Shown::library_name))]
-fn library_name(library: Library) -> &'static [u8]
+pub fn library_name(library: Library) -> &'static [u8]
     ensures { result.now ≡ library_name library }
 {
     match library {

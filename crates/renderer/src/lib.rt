@@ -8,7 +8,7 @@ mod levels;
 mod page;
 mod parts;
 
-pub use assembling::{assembled, meta_text};
+pub use assembling::{assembled, is_attached, library_name, meta_text};
 pub use filled::{Filled, add_bytes, add_child, add_parts, fill, leave_open};
 pub use levels::element_level;
 pub use page::{Page, page_on};

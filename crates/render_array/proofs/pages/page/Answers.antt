@@ -1,4 +1,5 @@
-use Rattle.render_array.specs.Page.{page}
+use Rattle.render_array.specs.Page.{nothing_found, page}
+use Rattle.render_array.proofs.Lists.{over}
 use Rattle.render_canvas.proofs.Run.{next}
 use Rattle.render_array.proofs.pages.page.Goals as goal
 
@@ -18,10 +19,14 @@ pub returns-in-Listing : goal.returns-in-Listing
 unfolding page
 returns-in-Listing c = next _ c.in-Listing.ensures.shows c.listing_page.ensures
 
+pub returns-in-Json : goal.returns-in-Json
+unfolding page
+returns-in-Json c = next _ c.in-Json.ensures.shows c.json_page.ensures
+
 pub returns-in-Login : goal.returns-in-Login
 unfolding page
 returns-in-Login c = next _ c.in-Login.ensures.shows c.login_page.ensures
 
 pub returns-in-Nothing : goal.returns-in-Nothing
 unfolding page
-returns-in-Nothing c = next _ c.in-Nothing.ensures.shows c.not_found.ensures
+returns-in-Nothing c = next _ c.in-Nothing.ensures.shows (over nothing_found c.nothing_found.ensures c.is_json.ensures)
