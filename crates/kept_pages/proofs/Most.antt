@@ -1,5 +1,5 @@
 -- No more are built for a page than it has elements.
-use Rattle.std.proofs.Common.{ℕ, zero, suc, List, [], ◌∷◌, ◌++◌, ◌≡◌, ◌≤◌, ◌+◌, min, Bool, true, false, refl, ◌∙◌, ap, subst, arith, Option, Some, None, inl, inr}
+use Rattle.std.proofs.Common.{ℕ, zero, suc, List, [], ◌∷◌, ◌++◌, ◌≡◌, ◌≤◌, ◌+◌, ◌⊎◌, min, Bool, true, false, refl, ◌∙◌, ap, subst, arith, Option, Some, None, inl, inr}
 use Rattle.std.specs.Prelude.{◌==◌, sum_by, if◌then◌else◌}
 use Rattle.std.proofs.lemmas.List.Sums.{sum_by-cons}
 use Rattle.content_rows.specs.declared.cell.Cell.{Cell}
@@ -36,7 +36,7 @@ use Rattle.kept_pages.specs.Held.{Tells}
 use Rattle.kept_pages.proofs.Parts.{same_pieces}
 use Rattle.kept_pages.proofs.Counting.{number_then, needed_lower}
 use Rattle.kept_pages.proofs.OfFrames.{below_page, stands, OfRows, lazy_of_rows}
-use Rattle.kept_pages.proofs.Timeless.{Timeless, plan_timeless}
+use Rattle.kept_pages.proofs.Timeless.{Timeless, HasNoPlace, plan_either}
 
 -- counts alone: where a visit is known too, `omega` reads it through
 none_most : {u : Went} (t : Went) (count : ℕ) → t ≡ u → number_built u ≡ 0 → number_built t ≤ count
@@ -209,10 +209,24 @@ module _ (v : Visit) where
         let sum = sum_by-cons (count_open v) h (met k v).places in
         omega arith
 
+    -- where the plan leaves no place open
+    closed_frame : {A : Type 0} (p : Plan A) (x : A) (shown : List Piece) (libraries : List Library) → HasNoPlace v p → Made (filled_in (for_everybody (shown_below 5)) p) v x shown libraries needs → open_count shown ≡ 0
+    closed_frame (Gives a) x shown libraries closed made = ap open_count made.1
+    closed_frame (Write bs k) x shown libraries closed made = ap open_count made.1 ∙ count_bytes bs made.0 ∙ closed_frame k x made.0 libraries closed made.2
+    closed_frame (Attach l k) x shown libraries closed made = closed_frame k x shown made.0 closed made.2
+    closed_frame (Reading r k) x shown libraries closed made = closed_frame (k (answer v.rows r)) x shown libraries closed made.1
+    closed_frame (Asking c k) x shown libraries closed made = closed_frame (k (value v c)) x shown libraries closed made.1
+    closed_frame (Clock age k) x shown libraries closed made = closed_frame (k made.0) x shown libraries (closed made.0) made.3
+    closed_frame (Part h k) x shown libraries closed made = absurd closed.0
+
+    either_frame : {A : Type 0} (p : Plan A) (x : A) (shown : List Piece) (libraries : List Library) → Timeless v p ⊎ HasNoPlace v p → Made (filled_in (for_everybody (shown_below 5)) p) v x shown libraries needs → open_count shown ≤ sum_by (count_open v) (met p v).places
+    either_frame p x shown libraries (inl timeless) made = frame_count p x shown libraries timeless made
+    either_frame p x shown libraries (inr closed) made = let none = closed_frame p x shown libraries closed made in omega arith
+
   page_count_open : (path : List ℕ) (page : Entry) → IsHere meaning (subject.Page path) v page → open_count (pieces_of page.segments) ≤ sum_by (count_open v) (met (plan_of path element.Page) v).places
   page_count_open path page here =
       subst (λ ps. open_count ps ≤ sum_by (count_open v) (met (plan_of path element.Page) v).places) (same_pieces page.segments)
-      (frame_count (needs_of page) (plan_of path element.Page) page.status _ here.has.makes.attached (plan_timeless v path) here.has.makes.made)
+      (either_frame (needs_of page) (plan_of path element.Page) page.status _ here.has.makes.attached (plan_either v path) here.has.makes.made)
 
 -- ---- a page
 
@@ -221,6 +235,13 @@ found_or_built path v page t (inl is) = none_most t _ is refl
 found_or_built path v page t (inr b) =
     let all = ap number_built b.is in
     let inner = visits_most (NeededInFrame v) (count_kept v) (frame_most v) (met (plan_of path element.Page) v).places b.inner b.of_places in
+    omega arith
+
+-- no more are built for what is kept of it than the page has
+pub frame_at_most : (path : List ℕ) (v : Visit) (page : Entry) (t : Went) → OfFrame path v page t → number_built t ≤ element_count path v element.Page
+frame_at_most path v page t of =
+    let frame = found_or_built path v page t of in
+    let all = all_count v (met (plan_of path element.Page) v).places in
     omega arith
 
 whole_most : (path : List ℕ) (v : Visit) (t : Went) → OfWhole path v t → number_built t ≤ element_count path v element.Page

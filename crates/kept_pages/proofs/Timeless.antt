@@ -1,5 +1,5 @@
--- The plan of a page, its places left open, reads no clock.
-use Rattle.std.proofs.Common.{ℕ, List, [], ◌∷◌, Bool, true, false, length, Option, Some, None}
+-- The plan of a page of HTML, its places left open, reads no clock, and one of JSON leaves no place open.
+use Rattle.std.proofs.Common.{ℕ, List, [], ◌∷◌, ◌⊎◌, inl, inr, Bool, true, false, length, Option, Some, None}
 use Rattle.std.specs.Prelude.{◌==◌, if◌then◌else◌}
 use Rattle.access_result.specs.declared.reason.Reason.{Reason}
 use Rattle.cacheability.specs.declared.op.Op.TheVariants as op
@@ -10,10 +10,12 @@ use Rattle.content_rows.specs.declared.row.Listing.{Listing}
 use Rattle.content_rows.specs.declared.row.Block.{Block}
 use Rattle.content_rows.specs.declared.row.Region.{Region}
 use Rattle.content_rows.specs.declared.row.Region.TheVariants as at
+use Rattle.content_state.specs.declared.element.Hole.{Hole}
 use Rattle.content_state.specs.declared.element.Hole.TheVariants as hole
 use Rattle.content_state.specs.declared.element.Fragment.TheVariants as fragment
 use Rattle.content_state.specs.declared.element.Mode.TheVariants as mode
 use Rattle.content_state.specs.declared.element.Placing.TheVariants as placing
+use Rattle.content_state.specs.Entities.{is_json}
 use Rattle.content_state.specs.declared.route.Route.{Route}
 use Rattle.content_state.specs.declared.route.Route.TheVariants as route
 use Rattle.content_state.specs.Read.{answer, NodeRow, TermRow, UserRow, ListingRow, BlockRow, PathRoute}
@@ -32,9 +34,15 @@ use Rattle.site_lists.specs.Visible.{for_viewer, names_front, at_front, on_path,
 use Rattle.render_array.specs.Pieces as pieces
 use Rattle.render_canvas.specs.Reads.{region_names}
 use Rattle.render_array.specs.Blocks.{block_if_visible, block_place, region}
-use Rattle.render_array.specs.Page.{page_top, page_bottom, framed, denied_content, denied, not_found, node_answer, node_found, node_page, described, term_content, term_answer, term_found, term_page, member_since, user_answer, user_found, user_page, listing_answer, listing_found, listing_page, login_content, login_page, page_at, page}
+use Rattle.render_array.specs.Page.{page_top, page_bottom, framed, denied_content, denied, not_found, node_answer, node_found, node_page, described, term_content, term_answer, term_found, term_page, member_since, user_answer, user_found, user_page, listing_answer, listing_found, listing_page, login_content, login_page, nothing_found, page_at, page}
+use Rattle.render_array.specs.Json.{told, json_not_found}
+use Rattle.render_array.proofs.Leaves.{Leaves, leaves_bind, json_leaves}
 use Rattle.render_array.specs.declared.element.Element.TheVariants as element
 use Rattle.render_array.specs.Built.{plan_of}
+
+-- on the visit the plan leaves no place open, whenever the clock is looked at
+abbrev pub HasNoPlace : {A : Type 0} → Visit → Plan A → Type 0
+HasNoPlace v p = Leaves (λ (h : Hole). ⊥) v p
 
 -- on the visit the plan reads no clock
 abbrev pub Timeless : {A : Type 0} → Visit → Plan A → Type 0
@@ -187,18 +195,32 @@ module _ (v : Visit) where
   unfolding login_page login_content attach write
   login_timeless = framed_timeless 200 pieces.login_title login_content tt
 
-  at_timeless : (r : Route) → Timeless v (page_at r)
+  -- what is true of each page: where a clock is read, no place is left open
+  abbrev IsEither : {A : Type 0} → Plan A → Type 0
+  IsEither p = Timeless v p ⊎ HasNoPlace v p
+
+  nothing_either : (json : Bool) → IsEither (nothing_found json)
+  unfolding nothing_found json_not_found told write
+  nothing_either true = inr tt
+  nothing_either false = inl not_found_timeless
+
+  at_either : (json : Bool) (r : Route) → IsEither (page_at json r)
   unfolding node_page term_page user_page listing_page reading
-  at_timeless (route.Node n) = node_found_timeless n (answer v.rows (NodeRow n))
-  at_timeless (route.Term t) = term_found_timeless t (answer v.rows (TermRow t))
-  at_timeless (route.User u) = user_found_timeless u (answer v.rows (UserRow u))
-  at_timeless (route.Listing name) = listing_found_timeless name (answer v.rows (ListingRow name))
-  at_timeless route.Login = login_timeless
-  at_timeless route.Nothing = not_found_timeless
+  at_either json (route.Node n) = inl (node_found_timeless n (answer v.rows (NodeRow n)))
+  at_either json (route.Term t) = inl (term_found_timeless t (answer v.rows (TermRow t)))
+  at_either json (route.User u) = inl (user_found_timeless u (answer v.rows (UserRow u)))
+  at_either json (route.Listing name) = inl (listing_found_timeless name (answer v.rows (ListingRow name)))
+  at_either json (route.Json it) = inr (json_leaves (λ h. ⊥) v it)
+  at_either json route.Login = inl login_timeless
+  at_either json route.Nothing = nothing_either json
 
-  page_timeless : (path : List ℕ) → Timeless v (page path)
+  page_either : (path : List ℕ) → IsEither (page path)
   unfolding page reading
-  page_timeless path = at_timeless (answer v.rows (PathRoute path))
+  page_either path = at_either (is_json path) (answer v.rows (PathRoute path))
 
-  pub plan_timeless : (path : List ℕ) → Timeless v (plan_of path element.Page)
-  plan_timeless path = both (page path) _ (page_timeless path) (λ status. tt)
+  then_either : {A B : Type 0} (p : Plan A) (f : A → Plan B) → ((a : A) → Timeless v (f a)) → ((a : A) → HasNoPlace v (f a)) → IsEither p → IsEither (p >>= f)
+  then_either p f timeless closed (inl first) = inl (both p f first timeless)
+  then_either p f timeless closed (inr first) = inr (leaves_bind (λ h. ⊥) v p f first closed)
+
+  pub plan_either : (path : List ℕ) → IsEither (plan_of path element.Page)
+  plan_either path = then_either (page path) _ (λ status. tt) (λ status. tt) (page_either path)

@@ -12,4 +12,10 @@ mod pieces;
 mod places;
 mod whole;
 
-pub use page::{Page, render_page};
+pub use filling::some_fragment;
+pub use frames::some_frame;
+pub use joining::Child;
+pub use looking::Seen;
+pub use page::{Page, page_of, render_page};
+pub use pieces::Pieces;
+pub use whole::look_for_target;

@@ -169,7 +169,7 @@ fn own_page<H: House>(alloc: Global, house: &mut H, reader: &Reader<'_>) -> Resu
 }
 
 /// The page that a whole one gives: the lines of its libraries are made last.
-fn page_of(
+pub fn page_of(
     alloc: Global,
     reader: &Reader<'_>,
     pieces: Pieces<'_>,

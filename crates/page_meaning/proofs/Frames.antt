@@ -29,18 +29,18 @@ use Rattle.page_meaning.specs.Meaning.{open_if, in_frame, for_everybody, framed}
 -- ---- one plan after another
 
 -- what two plans make, one after the other
-record Splits {A B : Type 0} (p : Plan A) (f : A → Plan B) (v : Visit) (x : B) (shown : List Piece) (libraries : List Library) (needs : Needs) : Type 0 where
-  given : A
-  own : List Piece
-  rest : List Piece
-  attached : List Library
-  others : List Library
-  shown_is : shown ≡ own ++ rest
-  libraries_is : libraries ≡ attached ++ others
-  made : Made p v given own attached needs
-  follows : Made (f given) v x rest others needs
+pub record Splits {A B : Type 0} (p : Plan A) (f : A → Plan B) (v : Visit) (x : B) (shown : List Piece) (libraries : List Library) (needs : Needs) : Type 0 where
+  pub given : A
+  pub own : List Piece
+  pub rest : List Piece
+  pub attached : List Library
+  pub others : List Library
+  pub shown_is : shown ≡ own ++ rest
+  pub libraries_is : libraries ≡ attached ++ others
+  pub made : Made p v given own attached needs
+  pub follows : Made (f given) v x rest others needs
 
-split : {A B : Type 0} (p : Plan A) (f : A → Plan B) (v : Visit) (x : B) (shown : List Piece) (libraries : List Library) (needs : Needs) → Made (p >>= f) v x shown libraries needs → Splits p f v x shown libraries needs
+pub split : {A B : Type 0} (p : Plan A) (f : A → Plan B) (v : Visit) (x : B) (shown : List Piece) (libraries : List Library) (needs : Needs) → Made (p >>= f) v x shown libraries needs → Splits p f v x shown libraries needs
 split (Done a) f v x shown libraries needs made = record {
   given = a;
   own = [];
@@ -136,7 +136,7 @@ at_then : {A B : Type 0} (o : Option (Plan (Option ℕ))) (h : Hole) (p : Plan A
 at_then None h p f = refl
 at_then (Some child) h p f = sym (bind_assoc child (λ _. p) f)
 
-filled_then : {A B : Type 0} (fill : Filling) (p : Plan A) (f : A → Plan B) → filled_in fill (p >>= f) ≡ (filled_in fill p >>= λ a. filled_in fill (f a))
+pub filled_then : {A B : Type 0} (fill : Filling) (p : Plan A) (f : A → Plan B) → filled_in fill (p >>= f) ≡ (filled_in fill p >>= λ a. filled_in fill (f a))
 filled_then fill (Done a) f = refl
 filled_then fill (Write bs k) f = ap (Write bs) (filled_then fill k f)
 filled_then fill (Attach l k) f = ap (Attach l) (filled_then fill k f)
@@ -329,7 +329,7 @@ below_page (fragment.Node n (mode.Embed depth.One)) = omega arith
 below_page (fragment.Node n (mode.Embed depth.Two)) = omega arith
 below_page (fragment.Node n (mode.Embed depth.Three)) = omega arith
 
-stands : (f : Fragment) → shown_below 5 (hole.Fragment f) ≡ Some (whole [] (element.Fragment f))
+pub stands : (f : Fragment) → shown_below 5 (hole.Fragment f) ≡ Some (whole [] (element.Fragment f))
 stands f = some_below 5 (fragment_level f) (hole.Fragment f) refl (below_page f)
 
 page_closing : IsClosing (shown_below 5)

@@ -1,5 +1,6 @@
 //! Laws of the definitions, which the contract of an empty function states.
 ghost use Rattle.page_meaning.specs.Meaning.{FragmentsAreWhole, TargetsAreWhole, FramesAreFilled, PagesAreClosed};
+ghost use Rattle.page_meaning.specs.Total.{EveryPlanShows};
 
 /// What is kept of a fragment is the whole fragment, whatever path is asked for, and what is kept of a target that is asked
 /// for is the whole page of the path that is asked for.
@@ -13,4 +14,9 @@ pub fn kept_is_whole()
 pub fn frames_are_filled()
     ensures filled { FramesAreFilled }
     ensures closed { PagesAreClosed }
+{}
+
+/// Every plan shows something on each visit: there is a page of each path at each moment, and a text of each fragment.
+pub fn every_plan_shows()
+    ensures { EveryPlanShows }
 {}

@@ -4,5 +4,5 @@
 mod laws;
 mod lazy;
 
-pub use laws::{frames_are_filled, kept_is_whole};
+pub use laws::{every_plan_shows, frames_are_filled, kept_is_whole};
 pub use lazy::is_lazy;

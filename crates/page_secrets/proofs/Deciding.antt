@@ -5,6 +5,7 @@ use Rattle.cacheability.specs.declared.op.Op.TheVariants as op
 use Rattle.cacheability.specs.declared.context.Context.TheVariants as context
 use Rattle.content_rows.specs.Permission.{has}
 use Rattle.content_rows.specs.declared.row.User.{User}
+use Rattle.content_state.specs.declared.entity.Entity.TheVariants as entity
 use Rattle.content_state.specs.declared.route.Route.{Route}
 use Rattle.content_state.specs.declared.route.Route.TheVariants as route
 use Rattle.indexed_rows.specs.Rows.{node_of}
@@ -15,11 +16,12 @@ use Rattle.content_state.specs.Plan.{Plan, Done, Write, Attach, Reading, Asking,
 use Rattle.content_state.specs.Met.{result_of}
 use Rattle.site_access.specs.Access.{Access, Allowed, owns, access_to_node, access_to_found_field, owner_in, field_of}
 use Rattle.site_access.specs.Plans.{holds, is_owner, node_access, field_access}
-use Rattle.site_access.specs.Terms.{administer_taxonomy, is_published, term_decision, term_access}
+use Rattle.site_access.specs.Terms.{administer_taxonomy, is_published, term_decision, access_to_term, term_access}
 use Rattle.site_access.specs.Users.{access_user_profiles, administer_users, is_active, permitted_profile, own_decision, user_access}
 use Rattle.site_access.specs.Routes.{listing_access, route_access}
 use Rattle.site_access.proofs.SilentPlans.{IsSilent}
 use Rattle.site_access.proofs.PlansDecide.{node_read, field_read}
+use Rattle.site_access.proofs.RoutePlans.{term_read}
 use Rattle.render_canvas.specs.Decision.{is_allowed}
 use Rattle.render_array.specs.Nodes.{may_view_node, may_view_field, may_view_term, may_view_user}
 use Rattle.page_secrets.proofs.Settled.{settled, settled_bind, Alike, alike_bind, alike_done, alike_if}
@@ -70,6 +72,12 @@ field_left v n type name =
 
 -- ---- terms, users, listings
 
+pub term_view_left : (v : Visit) (t : ℕ) → settled v (may_view_term t) ≡ Done (is_allowed (access_to_term v.rows v.viewer t))
+unfolding may_view_term
+term_view_left v t =
+    let r = term_read t v in
+    allows_left (term_access t) v (access_to_term v.rows v.viewer t) (silent_left (term_access t) v r.silent ∙ ap Done r.result)
+
 pub same_holds : {v v' : Visit} → AlikeVisits v v' → (permission : List ℕ) → Alike v v' (holds permission) (holds permission)
 unfolding holds
 same_holds alike permission =
@@ -117,6 +125,10 @@ same_route_access alike (route.Node n) = same_node_access alike n
 same_route_access alike (route.Term t) = same_term_access alike t
 same_route_access alike (route.User u) = same_user_access alike u
 same_route_access alike (route.Listing name) = same_listing_access alike
+same_route_access alike (route.Json (entity.Node n)) = same_node_access alike n
+same_route_access alike (route.Json (entity.Term t)) = same_term_access alike t
+same_route_access alike (route.Json (entity.User u)) = same_user_access alike u
+same_route_access alike (route.Json (entity.Listing name)) = same_listing_access alike
 same_route_access alike route.Login = alike_done _
 same_route_access alike route.Nothing = alike_done _
 

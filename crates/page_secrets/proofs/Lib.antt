@@ -8,7 +8,9 @@ pub mod SameComments
 pub mod SameNodes
 pub mod SameListings
 pub mod SameBlocks
+pub mod SameJson
 pub mod SamePages
+pub mod NodeTold
 pub mod SameCells
 pub mod Decided
 pub mod SameReads

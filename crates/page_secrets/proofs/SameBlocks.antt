@@ -46,6 +46,7 @@ module _ (v v' : Visit) (alike : AlikeVisits v v') where
   same_follow_to (route.Term t) = alike_bind _ _ (same_route_access alike (route.Term t)) (λ access. alike_done (is_allowed access))
   same_follow_to (route.User u) = alike_bind _ _ (same_route_access alike (route.User u)) (λ access. alike_done (is_allowed access))
   same_follow_to (route.Listing name) = alike_bind _ _ (same_route_access alike (route.Listing name)) (λ access. alike_done (is_allowed access))
+  same_follow_to (route.Json it) = alike_bind _ _ (same_route_access alike (route.Json it)) (λ access. alike_done (is_allowed access))
   same_follow_to route.Login = alike_bind _ _ (same_route_access alike route.Login) (λ access. alike_done (is_allowed access))
 
   same_follow : (path : List ℕ) → Alike v v' (may_follow path) (may_follow path)

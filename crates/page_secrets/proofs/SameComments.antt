@@ -9,9 +9,8 @@ use Rattle.content_rows.specs.declared.row.Comment.{Comment}
 use Rattle.content_state.specs.declared.element.Library.TheVariants as library
 use Rattle.indexed_rows.specs.Rows.{comments_on}
 use Rattle.content_state.specs.Viewer.{may}
-use Rattle.content_state.specs.Read.{CommentsOf}
 use Rattle.content_state.specs.Context.{Visit}
-use Rattle.content_state.specs.Plan.{Plan, Done, write, attach, each, reading, asking, ◌>>=◌, ◌>>◌}
+use Rattle.content_state.specs.Plan.{Plan, Done, write, attach, each, reading, asking, ◌>>◌}
 use Rattle.site_access.specs.Plans.{holds}
 use Rattle.site_access.specs.Comments.{access_comments, administer_comments}
 use Rattle.site_comments.specs.declared.reader.CommentReader.{CommentReader}

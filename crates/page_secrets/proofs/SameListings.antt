@@ -76,7 +76,7 @@ module _ (v : Visit) where
         | false ↦ refl
       ])
 
-  rows_left : (listing : Listing) (moment : ℕ)
+  pub rows_left : (listing : Listing) (moment : ℕ)
       → settled v (candidate_rows listing moment >>= λ ids. folded (with_viewable may_view_node) [] ids) ≡ Done (listed v listing moment)
   rows_left listing moment =
       settled_bind v (candidate_rows listing moment) (λ ids. folded (with_viewable may_view_node) [] ids)
@@ -97,7 +97,7 @@ module _ (v v' : Visit) (alike : AlikeVisits v v') where
       alike_bind _ _ (same_moment listing.age) (λ moment.
       record { same = rows_left v listing moment ∙ ap Done (alike.listings listing moment) ∙ sym (rows_left v' listing moment) })
 
-  same_by_viewer : Alike v v' by_viewer by_viewer
+  pub same_by_viewer : Alike v v' by_viewer by_viewer
   unfolding by_viewer
   same_by_viewer =
       alike_bind _ _ (alike_asking alike context.UserPermissions) (λ permissions.

@@ -32,7 +32,7 @@ module _ (v v' : Visit) (alike : AlikeVisits v v') where
   same_with_term found t None = alike_done found
   same_with_term found t (Some term) = alike_bind _ _ (same_term_view alike t) (λ allowed. alike_done _)
 
-  same_viewable_term : (found : List ℕ) (t : ℕ) → Alike v v' (with_viewable_term found t) (with_viewable_term found t)
+  pub same_viewable_term : (found : List ℕ) (t : ℕ) → Alike v v' (with_viewable_term found t) (with_viewable_term found t)
   unfolding with_viewable_term
   same_viewable_term found t = alike_bind _ _ (alike_reading alike (TermRow t) tt) (same_with_term found t)
 
@@ -77,13 +77,13 @@ module _ (v v' : Visit) (alike : AlikeVisits v v') (n : ℕ) (node : Node) (valu
 
   module _ (found : node_of v.rows n ≡ Some node) (found' : node_of v'.rows n ≡ Some other)
       (differs : (name : List ℕ) → (field_value node name ≡ field_value other name) ⊎ IsHiddenField v.viewer v.rows v'.rows n name) where
-    same_answer : (name : List ℕ) → field_answer v n node.node_type name ≡ field_answer v' n node.node_type name
+    pub same_answer : (name : List ℕ) → field_answer v n node.node_type name ≡ field_answer v' n node.node_type name
     same_answer name =
         ap (λ o. access_to_found_field v.rows v.viewer op.View (owner_in o) name (field_of v.rows node.node_type name)) found
         ∙ alike.fields node.uid node.node_type name
         ∙ ap (λ o. access_to_found_field v'.rows v'.viewer op.View (owner_in o) name (field_of v'.rows node.node_type name)) (sym found')
 
-    same_may_view : (name : List ℕ) → Alike v v' (may_view_field n node.node_type name) (may_view_field n node.node_type name)
+    pub same_may_view : (name : List ℕ) → Alike v v' (may_view_field n node.node_type name) (may_view_field n node.node_type name)
     same_may_view name = record {
       same = field_left v n node.node_type name ∙ ap (λ a. Done (is_allowed a)) (same_answer name) ∙ sym (field_left v' n node.node_type name);
     }
@@ -93,7 +93,7 @@ module _ (v v' : Visit) (alike : AlikeVisits v v') (n : ℕ) (node : Node) (valu
         alike_if (length text == 0) (alike_done tt)
         (alike_bind _ _ (same_may_view row.name) (λ allowed. alike_if allowed (same_field_shown v v' alike row.label text) (alike_done tt)))
 
-    is_hidden : (name : List ℕ) → IsHiddenField v.viewer v.rows v'.rows n name → is_allowed (field_answer v n node.node_type name) ≡ false
+    pub is_hidden : (name : List ℕ) → IsHiddenField v.viewer v.rows v'.rows n name → is_allowed (field_answer v n node.node_type name) ≡ false
     is_hidden name hidden =
         ap (λ o. is_allowed (access_to_found_field v.rows v.viewer op.View (owner_in (node_of v.rows n)) name (field_of v.rows (type_in o) name))) (sym found)
         ∙ hidden.denied

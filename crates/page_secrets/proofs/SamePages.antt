@@ -1,6 +1,6 @@
 -- A page, with what stands in its places, is the same on alike visits.
 use Rattle.std.proofs.Common.{◌≡◌, ◌∙◌, ℕ, zero, suc, List, true, false, refl, sym, ap, subst, inl, inr}
-use Rattle.std.specs.Prelude.{◌==◌, length, Option, Some, None, option_map, if◌then◌else◌}
+use Rattle.std.specs.Prelude.{Bool, ◌==◌, length, Option, Some, None, option_map, if◌then◌else◌}
 use Rattle.cacheability.specs.declared.op.Op.TheVariants as op
 use Rattle.access_result.specs.declared.reason.Reason.{Reason}
 use Rattle.content_rows.specs.declared.row.Node.{Node}
@@ -15,6 +15,7 @@ use Rattle.content_state.specs.declared.element.Fragment.TheVariants as fragment
 use Rattle.content_state.specs.declared.element.Hole.{Hole}
 use Rattle.content_state.specs.declared.element.Hole.TheVariants as hole
 use Rattle.indexed_rows.specs.Rows.{node_of}
+use Rattle.content_state.specs.Entities.{is_json}
 use Rattle.content_state.specs.Read.{SiteRow, TermRow, ListingRow, PathRoute}
 use Rattle.content_state.specs.Context.{Visit}
 use Rattle.content_state.specs.Viewer.{access_content}
@@ -24,7 +25,7 @@ use Rattle.site_access.specs.Access.{Access, Allowed, Denied, access_to_node}
 use Rattle.site_access.specs.Plans.{node_access}
 use Rattle.render_canvas.specs.Decision.{is_allowed}
 use Rattle.render_array.specs.declared.element.Element.TheVariants as element
-use Rattle.render_array.specs.Page.{page_top, page_bottom, framed, denied_content, denied, not_found, node_answer, node_found, node_page, described, term_content, term_answer, term_found, term_page, member_since, user_answer, user_found, user_page, listing_answer, listing_found, listing_page, login_content, login_page, page_at, page}
+use Rattle.render_array.specs.Page.{page_top, page_bottom, framed, denied_content, denied, not_found, node_answer, node_found, node_page, described, term_content, term_answer, term_found, term_page, member_since, user_answer, user_found, user_page, listing_answer, listing_found, listing_page, login_content, login_page, nothing_found, page_at, page}
 use Rattle.render_array.specs.Built.{fragment_shown, plan_of}
 use Rattle.render_array.specs.Whole.{plan_at, level, shown_below, whole}
 use Rattle.page_secrets.specs.Alike.{with_fields}
@@ -34,6 +35,7 @@ use Rattle.page_secrets.proofs.Deciding.{node_left, same_node_access, same_holds
 use Rattle.page_secrets.proofs.SameNodes.{same_node_shown}
 use Rattle.page_secrets.proofs.SameListings.{same_listing_shown, same_term_listing}
 use Rattle.page_secrets.proofs.SameBlocks.{same_menu_shown, same_block_shown, same_region}
+use Rattle.page_secrets.proofs.SameJson.{same_json_not_found, same_json_page}
 
 -- ---- an answer that denies is the same whatever is behind it
 
@@ -158,17 +160,22 @@ module _ (v v' : Visit) (alike : AlikeVisits v v') where
 
   -- ---- the page of a path
 
-  same_page_at : (to : Route) → Alike v v' (page_at to) (page_at to)
-  same_page_at (route.Node n) = same_node_page n
-  same_page_at (route.Term t) = same_term_page t
-  same_page_at (route.User u) = same_user_page u
-  same_page_at (route.Listing name) = same_listing_page name
-  same_page_at route.Login = same_login_page
-  same_page_at route.Nothing = same_not_found
+  same_nothing_found : (json : Bool) → Alike v v' (nothing_found json) (nothing_found json)
+  unfolding nothing_found
+  same_nothing_found json = alike_if json (same_json_not_found v v' alike) same_not_found
+
+  same_page_at : (json : Bool) (to : Route) → Alike v v' (page_at json to) (page_at json to)
+  same_page_at json (route.Node n) = same_node_page n
+  same_page_at json (route.Term t) = same_term_page t
+  same_page_at json (route.User u) = same_user_page u
+  same_page_at json (route.Listing name) = same_listing_page name
+  same_page_at json (route.Json it) = same_json_page v v' alike it
+  same_page_at json route.Login = same_login_page
+  same_page_at json route.Nothing = same_nothing_found json
 
   same_page : (path : List ℕ) → Alike v v' (page path) (page path)
   unfolding page
-  same_page path = alike_bind _ _ (alike_reading alike (PathRoute path) tt) same_page_at
+  same_page path = alike_bind _ _ (alike_reading alike (PathRoute path) tt) (same_page_at (is_json path))
 
   -- ---- what stands in its places
 

@@ -19,9 +19,12 @@ use Rattle.content_rows.specs.declared.row.Listing.{Listing}
 use Rattle.content_rows.specs.declared.permission.ViewGrants.TheVariants as view_grants
 use Rattle.content_state.specs.declared.ask.Ask.{Ask}
 use Rattle.content_state.specs.declared.ask.Viewer.{Viewer}
+use Rattle.content_state.specs.declared.entity.Entity.{Entity}
+use Rattle.content_state.specs.declared.entity.Entity.TheVariants as entity
 use Rattle.content_state.specs.declared.route.Route.TheVariants as route
+use Rattle.content_state.specs.Entities.{id_after, is_json, entity_in, is_entity_there}
 use Rattle.indexed_rows.specs.Rows.{row_at, as_site, as_type, as_role, as_user, as_term, as_node, as_menu, as_listing, as_block, as_session, site_of, type_of, role_of, user_of, term_of, node_of, menu_of, listing_of, block_of, session_of, nodes_of, terms_of, InOrder}
-use Rattle.content_state.specs.Route.{id_after, node_front, term_front, user_front, root_path, login_path, front_in, front_path, meant, node_route, listing_route, cell_route, cell_with, found_route, led_to, route_of}
+use Rattle.content_state.specs.Route.{node_front, term_front, user_front, root_path, login_path, front_in, front_path, meant, node_route, listing_route, cell_route, cell_with, found_route, json_route, led_to, fronts_json, route_of}
 use Rattle.content_state.specs.Read.{Read, SiteRow, TypeRow, RoleRow, UserRow, TermRow, NodeRow, MenuRow, ListingRow, BlockRow, AllNodes, NodesOfType, AllTerms, AllBlocks, CommentRow, CommentsOf, PathRoute, answer}
 use Rattle.content_state.specs.Context.{Visit, trail_in, value, upward, preorder}
 use Rattle.content_state.specs.Viewer.{viewer_by, viewer_with, viewer_of, roles_of, present_roles, viewer_permissions, view_grants_of, bypass_node_access}
@@ -261,14 +264,31 @@ module _ (viewer : Viewer) (rows rows' : List (Cell × Row)) (alike : (c : Cell)
     same_found_route path None None None =
         same_cell_route (cell_with rows path) ∙ ap (cell_route rows') (same_cell_with viewer rows rows' path rows rows' lists)
 
+    same_entity_there : (it : Entity) → is_entity_there rows it ≡ is_entity_there rows' it
+    same_entity_there (entity.Node n) = there_same n (node_of rows n) (node_of rows' n) (same_found n)
+    same_entity_there (entity.Term t) = ap (λ o. is_some o) (same_term t)
+    same_entity_there (entity.User u) = of_user (λ o. is_some o) u (λ user digest salt. refl)
+    same_entity_there (entity.Listing name) = ap (λ o. is_some o) (same_listing name)
+
+    same_json_route : (it : Option Entity) → json_route rows it ≡ json_route rows' it
+    same_json_route None = refl
+    same_json_route (Some it) = ap (λ b. if b then route.Json it else route.Nothing) (same_entity_there it)
+
     same_led : (path : List ℕ) → led_to rows path ≡ led_to rows' path
     same_led path =
-        ap (λ r. if bytes_eq path login_path then route.Login else r)
-        (same_found_route path (id_after node_front path) (id_after term_front path) (id_after user_front path))
+        let json = same_json_route (entity_in path) in
+        let found = same_found_route path (id_after node_front path) (id_after term_front path) (id_after user_front path) in
+        λ i. if is_json path then json i else (if bytes_eq path login_path then route.Login else found i)
+
+    same_fronts : (path : List ℕ) → fronts_json rows path ≡ fronts_json rows' path
+    same_fronts path = ap (λ front. bytes_eq path root_path && is_json front) same_front
 
     same_route : (path : List ℕ) → route_of rows path ≡ route_of rows' path
     unfolding route_of
-    same_route path = same_led (meant rows path) ∙ ap (led_to rows') (same_meant path)
+    same_route path =
+        let fronts = same_fronts path in
+        let led = same_led (meant rows path) ∙ ap (led_to rows') (same_meant path) in
+        λ i. if fronts i then route.Nothing else led i
 
     module _ (ask : Ask) (moment : ℕ) where
       abbrev here : Visit

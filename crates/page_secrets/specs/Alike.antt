@@ -119,7 +119,7 @@ pub record AlikeFor (viewer : Viewer) (s s' : State) : Type 0 where
   pub rows : (c : Cell) → AreAlikeAt viewer s.rows s'.rows c (row_at s.rows c) (row_at s'.rows c)
 
 -- Whatever is asked, and whenever: where two states are alike for the viewer that the request's cookie names, a status and
--- a body are those of a page on the one exactly where they are on the other.
+-- a body are those of a page on the one exactly where they are on the other. What is told at a path of JSON is its page.
 abbrev pub NothingLeaks : Type 0
 NothingLeaks =
     (s s' : State) (ask : Ask) (now : ℕ)

@@ -39,7 +39,7 @@ abbrev pub AreSameButPasswords : List (Cell × Row) → List (Cell × Row) → T
 AreSameButPasswords rows rows' = (c : Cell) → (row_at rows c ≡ row_at rows' c) ⊎ HaveOneUser c (row_at rows c) (row_at rows' c)
 
 -- Whoever asks, whatever and whenever: where two states are the same but for passwords, a status and a body are those of a
--- page on the one exactly where they are on the other.
+-- page on the one exactly where they are on the other, and so of what is told as JSON of a user.
 abbrev pub NoPasswordShows : Type 0
 NoPasswordShows =
     (s s' : State) (ask : Ask) (now : ℕ)

@@ -3,4 +3,4 @@
 
 mod laws;
 
-pub use laws::{no_password_shows, nothing_leaks};
+pub use laws::{hidden_is_untold, no_password_shows, nothing_leaks};

@@ -66,6 +66,7 @@ somewhere rows viewer (route.Node n) leads = refl
 somewhere rows viewer (route.Term t) leads = refl
 somewhere rows viewer (route.User u) leads = refl
 somewhere rows viewer (route.Listing name) leads = refl
+somewhere rows viewer (route.Json it) leads = refl
 somewhere rows viewer route.Login leads = refl
 somewhere rows viewer route.Nothing leads = absurd (leads refl)
 

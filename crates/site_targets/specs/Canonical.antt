@@ -1,4 +1,4 @@
--- The canonical targets of a site: each page that it has stands under one of these, and a node or a listing that has a path
+-- The canonical targets of a site: each page of HTML that it has stands under one of these, and a node or a listing that has a path
 -- stands under it.
 -- https://api.drupal.org/api/drupal/core!modules!path_alias!src!AliasManager.php/class/AliasManager/10
 use Rattle.std.specs.Prelude.{ℕ, List, [], ◌∷◌, ◌++◌, Option, Some, None, decimal}
