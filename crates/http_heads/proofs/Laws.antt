@@ -1,5 +1,7 @@
 -- The laws of what bytes begin with, and of the requests of a text.
 use Rattle.std.proofs.Common.{◌≡◌, ◌∙◌, ◌++◌, ◌+◌, ◌-◌, ◌<◌, ◌≤◌, ◌⊎◌, List, [], ◌∷◌, ℕ, zero, suc, Bool, true, false, Option, Some, None, Result, Ok, Err, nat_lt, if◌then◌else◌, take, drop, length, ap, sym, refl, subst, arith, length-append, append_assoc, inl, inr}
+use Rattle.std.specs.Prelude.{◌==◌, ◌&&◌, ◌||◌}
+use Rattle.std.specs.Str.{bytes_eq}
 use Rattle.std.proofs.lemmas.List.{take-append-le, drop-append-le, take_all, append-nil}
 use Rattle.std.proofs.Math.Seq.{take-append-add, take-append_seam}
 use Rattle.std.proofs.lemmas.Bool.{cases_lt, ltb-false}
@@ -8,14 +10,14 @@ use Rattle.httparse.proofs.GrammarLemmas.{request_unique, ReadsRequest-append}
 use Rattle.http_heads.specs.declared.request.Request.{Request}
 use Rattle.http_heads.specs.declared.parsed.Parsed.{Parsed}
 use Rattle.http_heads.specs.declared.parsed.Parsed.TheVariants.{Whole, More, Refused}
-use Rattle.http_heads.specs.Fields.{fields_of, stands, transfer_encoding}
+use Rattle.http_heads.specs.Fields.{fields_of, stands, transfer_encoding, asks_close, asks_late}
 use Rattle.http_heads.specs.Cookies.{token_of, NamesSession}
 use Rattle.http_heads.specs.Framing.{head_limit, field_limit, body_limit, body_length, begins_slash, sized, judged}
-use Rattle.http_heads.specs.Head.{IsRequestOf}
+use Rattle.http_heads.specs.Head.{IsRequestOf, get, late_by}
 use Rattle.http_heads.specs.Parses.{HasHead, IsHeadBegun, IsHeadTooLarge, IsNoHead, IsHeadRefused, Parses}
 use Rattle.http_heads.specs.Found.{Holds, Lacks, AtHead}
 use Rattle.http_heads.specs.Requests.{End, Asks, Code, ending, ReadsAfter, ReadsOn, Reads}
-use Rattle.http_heads.specs.Laws.{Takes, pending_limit, SameReading}
+use Rattle.http_heads.specs.Laws.{Takes, pending_limit, SameReading, AsksLate}
 use Rattle.http_heads.proofs.Room.{head_length}
 use Rattle.http_heads.proofs.Begins.{not_in_target_more, never_more}
 
@@ -157,6 +159,7 @@ request_once h r q a b body = λ i. record {
   query = (a.query ∙ sym b.query) i;
   version = (a.version ∙ sym b.version) i;
   closes = (a.closes ∙ sym b.closes) i;
+  late = (a.late ∙ sym b.late) i;
   content_type = (a.content_type ∙ sym b.content_type) i;
   csrf = (a.csrf ∙ sym b.csrf) i;
   session = names_once (token_of (fields_of h)) r.session q.session a.session b.session i;
@@ -333,3 +336,22 @@ reads_refused k bytes more code parses = (Refused code, refused_stays bytes more
 -- a part of a request, or nothing, ends the reading where the bytes end
 pub reads_part : (k : ℕ) (bytes : List ℕ) → Parses bytes More → Reads (suc k) bytes [] (ending bytes)
 reads_part k bytes parses = (More, parses, (refl, refl))
+
+-- ---- requests for pages whose parts are sent late
+
+both_true : (a b : Bool) → (a && b) ≡ true → a ≡ true
+both_true true b is = refl
+both_true false b is = absurd (let no = is in cc)
+
+last_true : (a b c : Bool) → c ≡ true → (a || (b || c)) ≡ true
+last_true true b c is = refl
+last_true false true c is = refl
+last_true false false c is = is
+
+pub late_closes : (bytes : List ℕ) (request : Request) (size : ℕ) → Parses bytes (Whole request size) → request.late ≡ true → AsksLate request
+late_closes bytes request size whole late =
+    let is_late : late_by whole.head.method (fields_of whole.head) ≡ true = sym whole.is.late ∙ late in
+    record {
+      reads = ap (λ m. bytes_eq m get) whole.is.method ∙ both_true (bytes_eq whole.head.method get) (asks_late (fields_of whole.head)) is_late;
+      closes = whole.is.closes ∙ last_true (whole.head.minor == 0) (asks_close (fields_of whole.head)) (late_by whole.head.method (fields_of whole.head)) is_late;
+    }

@@ -15,7 +15,7 @@ use Rattle.http_heads.specs.InTarget.{accepts}
 use Rattle.http_heads.specs.Fields.{fields_of, first_value, content_type, csrf_token}
 use Rattle.http_heads.specs.Cookies.{token_of, NamesSession}
 use Rattle.http_heads.specs.Framing.{head_limit, judged}
-use Rattle.http_heads.specs.Head.{version_of, closes_by}
+use Rattle.http_heads.specs.Head.{version_of, closes_by, late_by}
 use Rattle.http_heads.specs.Target.{path_of, query_of}
 use Rattle.http_heads.specs.Found.{AtHead}
 use Rattle.http_heads.specs.Parses.{HasHead, Parses}
@@ -72,7 +72,8 @@ at_head h after = elim (by_result (judged h)) [
           path = path_of h.target;
           query = query_of h.target;
           version = version_of h.minor;
-          closes = closes_by h.minor (fields_of h);
+          closes = closes_by h.minor h.method (fields_of h);
+          late = late_by h.method (fields_of h);
           content_type = first_value content_type (fields_of h);
           csrf = first_value csrf_token (fields_of h);
           session = session;
@@ -84,7 +85,7 @@ at_head h after = elim (by_result (judged h)) [
             rest = drop n after;
             body = sym (take-append-drop n after);
             served = served ∙ ap Ok (sym size);
-            is = record { method = refl; target = refl; path = refl; query = refl; version = refl; closes = refl; content_type = refl; csrf = refl; session = names };
+            is = record { method = refl; target = refl; path = refl; query = refl; version = refl; closes = refl; late = refl; content_type = refl; csrf = refl; session = names };
             size_is = refl;
           },
         )

@@ -2,7 +2,7 @@
 use Rattle.std.specs.Prelude.{ℕ, List, Bool, ◌==◌, ◌&&◌, codes, map, find, Option}
 use Rattle.std.specs.List.{list_any, slice_split}
 use Rattle.std.specs.Option.{option_map}
-use Rattle.std.specs.Str.{str_eq_ignore_ascii_case}
+use Rattle.std.specs.Str.{bytes_eq, str_eq_ignore_ascii_case}
 use Rattle.httparse.specs.Grammar.{RequestHead, trim_ows}
 use Rattle.httparse.specs.Spans.{name_and_value}
 
@@ -23,6 +23,12 @@ csrf_token = codes "X-CSRF-Token"
 
 unfoldable pub cookie : List ℕ
 cookie = codes "Cookie"
+
+unfoldable pub late : List ℕ
+late = codes "X-Late"
+
+unfoldable pub late_value : List ℕ
+late_value = codes "1"
 
 unfoldable pub close : List ℕ
 close = codes "close"
@@ -58,3 +64,11 @@ is_closing field = is_named connection field && lists_close field.1
 -- some Connection field lists `close`
 abbrev pub asks_close : List (List ℕ × List ℕ) → Bool
 asks_close fields = list_any is_closing fields
+
+-- an X-Late field whose value is `1`
+abbrev pub is_late : List ℕ × List ℕ → Bool
+is_late field = is_named late field && bytes_eq field.1 late_value
+
+-- the value of some X-Late field is `1`
+abbrev pub asks_late : List (List ℕ × List ℕ) → Bool
+asks_late fields = list_any is_late fields

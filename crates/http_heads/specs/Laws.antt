@@ -1,9 +1,11 @@
 -- The laws of what bytes begin with, and of the requests of a text.
-use Rattle.std.specs.Prelude.{ℕ, List, ◌++◌, ◌≡◌, ◌<◌, ◌≤◌, ◌+◌, length}
+use Rattle.std.specs.Prelude.{ℕ, List, ◌++◌, ◌≡◌, ◌<◌, ◌≤◌, ◌+◌, length, true}
+use Rattle.std.specs.Str.{bytes_eq}
 use Rattle.http_heads.specs.declared.request.Request.{Request}
 use Rattle.http_heads.specs.declared.parsed.Parsed.{Parsed}
 use Rattle.http_heads.specs.declared.parsed.Parsed.TheVariants.{Whole, More, Refused}
 use Rattle.http_heads.specs.Framing.{head_limit, body_limit}
+use Rattle.http_heads.specs.Head.{get}
 use Rattle.http_heads.specs.Parses.{Parses}
 use Rattle.http_heads.specs.Requests.{End, Reads}
 
@@ -51,3 +53,13 @@ ReadsOnce =
 -- every text has a reading, whatever its limit
 abbrev pub ReadsSome : Type 0
 ReadsSome = (k : ℕ) (bytes : List ℕ) → (requests : List Request) × (end : End) × Reads k bytes requests end
+
+-- whoever wants parts of a page late asks to read a page, and to close
+pub record AsksLate (request : Request) : Type 0 where
+  pub reads : bytes_eq request.method get ≡ true
+  pub closes : request.closes ≡ true
+
+abbrev pub LateCloses : Type 0
+LateCloses =
+    (bytes : List ℕ) (request : Request) (size : ℕ)
+    → Parses bytes (Whole request size) → request.late ≡ true → AsksLate request

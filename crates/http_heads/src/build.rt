@@ -5,11 +5,11 @@ ghost use Rattle.percent_encoding.specs.Percent.{percent_decode};
 ghost use Rattle.httparse.specs.Grammar.{RequestHead};
 ghost use Rattle.httparse.specs.Spans.{IsWithin};
 ghost use Rattle.http_heads.specs.Cookies.{NamesSession, token_of};
-ghost use Rattle.http_heads.specs.Head.{version_of, closes_by, IsRequestOf};
+ghost use Rattle.http_heads.specs.Head.{version_of, closes_by, late_by, IsRequestOf};
 ghost use Rattle.http_heads.specs.Target.{is_question, cut_before, cut_after, path_of, query_of};
 ghost use Rattle.http_heads.specs.Lines.{lines, AreWithin, IsPartsOf};
 
-use crate::fields::{asks_close, content_type, csrf_token, session_token};
+use crate::fields::{asks_close, asks_late, content_type, csrf_token, session_token};
 use crate::octets::Octets;
 use crate::request::{Request, Version};
 use cacheability::Name;
@@ -64,12 +64,21 @@ fn version_of(minor: u8) -> Version
     }
 }
 
-/// Whether the connection is to close.
-fn closes(minor: u8, bytes: &[u8], rows: &[HeaderSpan]) -> bool
+/// Whether parts of the page are to be sent late.
+#[tactic(auto, unfolding(crate::specs::Head::get))]
+fn late(method: &[u8], bytes: &[u8], rows: &[HeaderSpan]) -> bool
     requires { AreWithin bytes.now rows.now }
-    ensures { result ≡ closes_by minor (lines bytes.now rows.now) }
+    ensures { result ≡ late_by method.now (lines bytes.now rows.now) }
 {
-    minor == 0 || asks_close(bytes, rows)
+    method == b"GET".as_slice() && asks_late(bytes, rows)
+}
+
+/// Whether the connection is to close.
+fn closes(minor: u8, method: &[u8], bytes: &[u8], rows: &[HeaderSpan]) -> bool
+    requires { AreWithin bytes.now rows.now }
+    ensures { result ≡ closes_by minor method.now (lines bytes.now rows.now) }
+{
+    minor == 0 || asks_close(bytes, rows) || late(method, bytes, rows)
 }
 
 /// A copy of a value, if there is one.
@@ -134,7 +143,8 @@ pub(crate) fn request_of(
 {
     let session = session_of(bytes, rows);
     let line = head.path.of(bytes);
-    let (method, body) = both_copied(alloc, head.method.of(bytes), body)?;
+    let name = head.method.of(bytes);
+    let (method, body) = both_copied(alloc, name, body)?;
     let (target, query) = both_copied(alloc, line, query_of(line))?;
     let path = path_of(alloc, line)?;
     let (content_type, csrf) = both_copied_if_any(
@@ -148,7 +158,8 @@ pub(crate) fn request_of(
         path,
         query,
         version: version_of(head.version),
-        closes: closes(head.version, bytes, rows),
+        closes: closes(head.version, name, bytes, rows),
+        late: late(name, bytes, rows),
         content_type,
         csrf,
         session,

@@ -3,7 +3,7 @@ ghost use Rattle.std.specs.Prelude.{◌≡◌, ◌<◌, ◌≤◌, length, count
 ghost use Rattle.std.specs.Option.{option_map};
 ghost use Rattle.std.specs.Str.{str_eq_ignore_ascii_case};
 ghost use Rattle.httparse.specs.Spans.{header_bytes, IsHeaderWithin};
-ghost use Rattle.http_heads.specs.Fields.{is_named, stands, first_value, is_closing, asks_close, connection, cookie, content_length, transfer_encoding, content_type, csrf_token};
+ghost use Rattle.http_heads.specs.Fields.{is_named, stands, first_value, is_closing, asks_close, is_late, asks_late, connection, cookie, content_length, transfer_encoding, content_type, csrf_token};
 ghost use Rattle.http_heads.specs.Cookies.{field_token, token_of};
 ghost use Rattle.http_heads.specs.Lines.{lines, AreWithin};
 
@@ -81,6 +81,28 @@ pub(crate) fn asks_close(bytes: &[u8], rows: &[HeaderSpan]) -> bool
 {
     'rows: for row in rows {
         if is_closing(bytes, *row) {
+            return true;
+        }
+    }
+    false
+}
+
+/// Whether a field is an X-Late field whose value is `1`.
+#[tactic(auto, unfolding(crate::specs::Fields::late, crate::specs::Fields::late_value))]
+fn is_late(bytes: &[u8], row: HeaderSpan) -> bool
+    requires { IsHeaderWithin (length bytes.now) row }
+    ensures { result ≡ is_late (header_bytes bytes.now row) }
+{
+    is_named(bytes, row, b"X-Late") && row.value.of(bytes) == b"1".as_slice()
+}
+
+/// Whether the value of some X-Late field is `1`.
+pub(crate) fn asks_late(bytes: &[u8], rows: &[HeaderSpan]) -> bool
+    requires { AreWithin bytes.now rows.now }
+    ensures { result ≡ asks_late (lines bytes.now rows.now) }
+{
+    'rows: for row in rows {
+        if is_late(bytes, *row) {
             return true;
         }
     }

@@ -26,5 +26,6 @@ pub use parsing::{HeadRoom, parse, parse_in};
 pub use reply::{CookieOut, Media, ReplyHead, is_reply_status, reply_head};
 pub use request::{Request, Version};
 pub use theorems::{
-    more_is_short, parses_once, reads_once, reads_some, refused_stays, whole_stays, whole_takes,
+    late_closes, more_is_short, parses_once, reads_once, reads_some, refused_stays, whole_stays,
+    whole_takes,
 };

@@ -25,8 +25,11 @@ pub struct Request {
     pub query: Octets,
     pub version: Version,
     /// The connection is to close after the reply: the request is HTTP/1.0, or a Connection field
-    /// lists `close`, in any case (RFC 9112, section 9.6).
+    /// lists `close`, in any case (RFC 9112, section 9.6), or parts of the page are to be sent late.
     pub closes: bool,
+    /// Parts of the page are to be sent late: the method is GET, and the value of some X-Late field,
+    /// which is this site's own, is `1`.
+    pub late: bool,
     /// The value of the first Content-Type field.
     pub content_type: Option<Octets>,
     /// The value of the first X-CSRF-Token field.

@@ -1,5 +1,5 @@
 //! The laws of what bytes begin with: each is the contract of a function that does nothing.
-ghost use Rattle.http_heads.specs.Laws.{WholeStays, RefusedStays, WholeTakes, MoreIsShort, ParsesOnce, ReadsOnce, ReadsSome};
+ghost use Rattle.http_heads.specs.Laws.{WholeStays, RefusedStays, WholeTakes, MoreIsShort, ParsesOnce, ReadsOnce, ReadsSome, LateCloses};
 
 /// A whole request stays one, whatever bytes follow. So a connection may be read in pieces of any
 /// length.
@@ -36,4 +36,9 @@ pub fn reads_once()
 /// Every text has a reading, for every limit: some requests, and an end.
 pub fn reads_some()
     ensures { ReadsSome }
+{}
+
+/// A request whose parts are to be sent late asks for a page, and asks to close.
+pub fn late_closes()
+    ensures { LateCloses }
 {}

@@ -1,0 +1,9 @@
+pub mod Marks
+pub mod Cuts
+pub mod PageEnds
+pub mod Exist
+pub mod Placing
+pub mod Sending
+pub mod Told
+pub mod LazyPlaces
+pub mod Frame

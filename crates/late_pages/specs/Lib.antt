@@ -1,0 +1,4 @@
+pub mod Late
+pub mod Needed
+pub mod Parts
+pub mod Laws
