@@ -16,7 +16,7 @@ use Rattle.site_http.specs.Connection.{Around, Gave, Out, Went, closes_after, no
 use Rattle.site_http.specs.Turn.{Ends, TookOne}
 use Rattle.site_http.proofs.Grow.{text_lower}
 use Rattle.site_http.proofs.Stories.{gave_nothing, joined_nothing, went_on}
-use Rattle.site_http.proofs.Told.{before_nothing}
+use Rattle.site_late.proofs.Told.{before_nothing}
 use Rattle.site_io.specs.Told.{after as told}
 use Rattle.site_drill.specs.Fronts.{is_wanting, shows_page}
 use Rattle.site_drill.specs.Replies.{AllAnswered, AreReplies, Exchange, NoneWanting, is_page, requests_of, whole}

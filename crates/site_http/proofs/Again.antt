@@ -18,6 +18,7 @@ use Rattle.site_http.specs.declared.desk.Desk.{Desk}
 use Rattle.site_http.specs.declared.known.KnownRequest.{KnownRequest}
 use Rattle.site_http.specs.declared.recent.RecentReply.{RecentReply}
 use Rattle.site_http.specs.Recent.{page_bytes, IsReplyUntil, Fits, IsRecent, AreRecent}
+use Rattle.site_late.specs.Heads.{media_of}
 use Rattle.site_http.specs.Reply.{IsPageReply, page_head}
 
 -- a desk that was made, where there was memory for it, remembers nothing that isn't so
@@ -62,7 +63,7 @@ again_of (Some reply) places state ask moment right fits is = λ house are seen.
 -- ---- what may be said again
 
 pub page_again : (state : State) (ask : Ask) (moment last status : ℕ) (body text : List ℕ) → ask.cookie ≡ None → Lasts state ask moment last status body
-    → text ≡ reply_text (page_head status (length body) state.number false) body → IsReplyUntil state ask moment last text
+    → text ≡ reply_text (page_head (media_of ask.path) status (length body) state.number false) body → IsReplyUntil state ask moment last text
 page_again state ask moment last status body text cookie lasts same = record {
   cookie = cookie;
   again = λ later from until. record {
@@ -99,8 +100,8 @@ made_recent house state reply ask seen number right target is = record {
 
 -- the reply of a page, until the moment that is told, if one is
 pub again_until : (o : Option ℕ) (state : State) (ask : Ask) (moment last status : ℕ) (closing : Bool) (body text : List ℕ) → IfSome o (λ l. (l ≡ last) × (closing ≡ false) × (ask.cookie ≡ None)) → Lasts state ask moment last status body
-    → text ≡ reply_text (page_head status (length body) state.number closing) body → IfSome o (λ l. IsReplyUntil state ask moment l text)
+    → text ≡ reply_text (page_head (media_of ask.path) status (length body) state.number closing) body → IfSome o (λ l. IsReplyUntil state ask moment l text)
 again_until None state ask moment last status closing body text is lasts same = tt
 again_until (Some l) state ask moment last status closing body text is lasts same =
     subst (λ (n : ℕ). IsReplyUntil state ask moment n text) (sym is.0)
-    (page_again state ask moment last status body text is.2 lasts (same ∙ ap (λ (c : Bool). reply_text (page_head status (length body) state.number c) body) is.1))
+    (page_again state ask moment last status body text is.2 lasts (same ∙ ap (λ (c : Bool). reply_text (page_head (media_of ask.path) status (length body) state.number c) body) is.1))

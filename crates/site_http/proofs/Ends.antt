@@ -6,7 +6,7 @@ use Rattle.site_house.specs.House.{HouseView, Moves, history_of}
 use Rattle.site_house.specs.History.{History, newest}
 use Rattle.site_http.specs.Connection.{Around, Answered, Connection}
 use Rattle.site_http.specs.Turn.{Turned}
-use Rattle.site_http.proofs.Progress.{Progress, carried, goes_on, ends_at, interrupted_at, refused_at, asked_at, starved_at, half_answered_at, half_refused_at}
+use Rattle.site_http.proofs.Progress.{Progress, carried, goes_on, ends_at, interrupted_at, refused_at, asked_at, starved_at, half_answered_at, half_refused_at, late_answered_at}
 
 ending_empty : (xs : List ℕ) → 0 ≡ length xs → ending xs ≡ Empty
 ending_empty [] h = refl
@@ -26,8 +26,14 @@ ended_at new buffer' ended.Asked few p t = asked_at few p t
 ended_at new buffer' ended.Spent few p t = absurd t
 ended_at new buffer' (ended.Refused code) few p t = refused_at code few p t
 ended_at new buffer' ended.ReadFault few p t = interrupted_at few p t
-ended_at new buffer' ended.OutOfMemory few p t = starved_at p t
-ended_at new buffer' ended.WriteFault few p t = elim t [ inl a ↦ half_answered_at p a | inr r ↦ half_refused_at p r ]
+ended_at new buffer' ended.OutOfMemory few p t = elim t [ inl a ↦ inl (starved_at p a) | inr l ↦ inr (late_answered_at p l) ]
+ended_at new buffer' ended.WriteFault few p t = elim t [
+  | inl a ↦ inl (half_answered_at p a)
+  | inr other ↦ elim other [
+    | inl r ↦ inl (half_refused_at p r)
+    | inr l ↦ inr (late_answered_at p l)
+  ]
+]
 
 -- the same over a house that moved meanwhile
 pub ended_in : {old now : Around} (new : Around) {house house' : HouseView} {limit low count : ℕ} {buffer : List ℕ} (buffer' : List ℕ) (e : Ended) → count < limit → Moves house house' → Progress old now (history_of house) limit low count (newest (history_of house)) buffer → Turned (Some e) now new (history_of house') limit count (newest (history_of house)) buffer buffer' → Connection e old new (history_of house') limit low

@@ -7,7 +7,7 @@ use Rattle.site_http.specs.declared.next.Next.TheVariants as next
 use Rattle.site_http.specs.declared.next.Trouble.{Trouble}
 use Rattle.site_http.specs.declared.next.Trouble.TheVariants.{ReadFault, OutOfMemory}
 use Rattle.site_http.specs.Turn.{NotRead, ReadInNeed, Fetches, Decided, Faulted, FaultedNext}
-use Rattle.site_http.proofs.Told.{before_before}
+use Rattle.site_late.proofs.Told.{before_before}
 
 -- one piece more, where the bytes so far are a part of a request
 pub piece_needed : (buffer more piece all : List ℕ) → all ≡ buffer ++ more → Parses all More → ReadInNeed buffer (more ++ piece)

@@ -6,8 +6,11 @@ use Rattle.content_state.specs.declared.commit.Commit.{Commit}
 use Rattle.http_heads.specs.declared.request.Request.{Request}
 use Rattle.site_house.specs.History.{History, longer, newest}
 use Rattle.edit_bodies.specs.declared.words.Words.{Words}
-use Rattle.site_http.specs.Called.{Called, ToRead, ToEdit, Wish, called, ask_of}
-use Rattle.site_http.specs.Reply.{Story, Says, IsRefused, IsAccepted, IsKeeper, HandedOnce, IsWanting, IsAnswer, IsText, judgement}
+use Rattle.element_entries.specs.Keys.{visit}
+use Rattle.late_pages.specs.Needed.{OfFirst}
+use Rattle.site_late.specs.Sending.{IsLateReply, reader_of}
+use Rattle.site_http.specs.Called.{Called, ToRead, ToLate, ToEdit, Wish, called, ask_of}
+use Rattle.site_http.specs.Reply.{Story, Says, IsLate, late_story, IsRefused, IsAccepted, IsKeeper, HandedOnce, IsWanting, IsAnswer, IsText, judgement}
 use Rattle.site_http.specs.Connection.{Texts, closes_after, joined, nothing}
 use Rattle.site_house.proofs.Histories.{on_grows, on_lower, state_grows, log_grows, newest_grows}
 use Rattle.site_http.proofs.Stories.{joined_assoc, joined_nothing, nothing_joined}
@@ -85,6 +88,25 @@ keeper_grows history more low wish ask closing story k = record {
   story_is = k.story_is;
 }
 
+-- a late reply, in a longer history
+pub late_grows : (history : History) (more : List Commit) (low : ℕ) (ask : Ask) (closing : Bool) (story : Story) → IsLate history low ask closing story → IsLate (longer history more) low ask closing story
+late_grows history more low ask closing story r =
+    let same = sym (state_grows history more r.number r.on.to) in
+    record {
+      moment = r.moment;
+      number = r.number;
+      built = r.built;
+      count = r.count;
+      went = r.went;
+      text = r.text;
+      within = r.within;
+      on = on_grows history more low r.number r.on;
+      reply = subst (λ (s : State). IsLateReply s ask r.moment closing r.count r.text) same r.reply;
+      needed = subst (λ (s : State). OfFirst (visit (reader_of s ask r.moment)) r.went) same r.needed;
+      counted = r.counted;
+      story_is = r.story_is ∙ ap (λ (s : State). record (late_story s ask r.moment r.built r.count r.went r.text) { high = r.number }) same;
+    }
+
 -- a reply stays one when the history grows
 pub answer_grows : (history : History) (more : List Commit) (low : ℕ) (c : Called) (ask : Ask) (closing : Bool) (story : Story) → IsAnswer history low c ask closing story → IsAnswer (longer history more) low c ask closing story
 answer_grows history more low (ToRead reading) ask closing story a = elim a [
@@ -99,6 +121,10 @@ answer_grows history more low (ToRead reading) ask closing story a = elim a [
     holds = subst (λ (s : State). Says reading s ask r.moment closing r.text r.built r.needs) (sym (state_grows history more r.number r.on.to)) r.holds;
     story_is = r.story_is;
   })
+  | inr w ↦ inr (wanting_on refl (newest_grows history more (newest history) (omega arith)) (omega arith) w)
+]
+answer_grows history more low ToLate ask closing story a = elim a [
+  | inl r ↦ inl (late_grows history more low ask closing story r)
   | inr w ↦ inr (wanting_on refl (newest_grows history more (newest history) (omega arith)) (omega arith) w)
 ]
 answer_grows history more low (ToEdit wish) ask closing story a = elim a [
@@ -158,6 +184,22 @@ keeper_lower history low lower wish ask closing story less k = record {
   story_is = k.story_is;
 }
 
+pub late_lower : (history : History) (low lower : ℕ) (ask : Ask) (closing : Bool) (story : Story) → lower ≤ low → IsLate history low ask closing story → IsLate history lower ask closing story
+late_lower history low lower ask closing story less r = record {
+  moment = r.moment;
+  number = r.number;
+  built = r.built;
+  count = r.count;
+  went = r.went;
+  text = r.text;
+  within = r.within;
+  on = on_lower history low lower r.number less r.on;
+  reply = r.reply;
+  needed = r.needed;
+  counted = r.counted;
+  story_is = r.story_is;
+}
+
 -- and where less was seen before
 pub answer_lower : (history : History) (low lower : ℕ) (c : Called) (ask : Ask) (closing : Bool) (story : Story) → lower ≤ low → IsAnswer history low c ask closing story → IsAnswer history lower c ask closing story
 answer_lower history low lower (ToRead reading) ask closing story less a = elim a [
@@ -172,6 +214,10 @@ answer_lower history low lower (ToRead reading) ask closing story less a = elim 
     holds = r.holds;
     story_is = r.story_is;
   })
+  | inr w ↦ inr (wanting_on refl (omega arith) less w)
+]
+answer_lower history low lower ToLate ask closing story less a = elim a [
+  | inl r ↦ inl (late_lower history low lower ask closing story less r)
   | inr w ↦ inr (wanting_on refl (omega arith) less w)
 ]
 answer_lower history low lower (ToEdit wish) ask closing story less a = elim a [

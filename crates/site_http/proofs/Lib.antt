@@ -1,8 +1,6 @@
 pub mod Asks
 pub mod Fixed
-pub mod Told
 pub mod Stories
-mod Joining
 mod Kept
 mod Made
 mod Again
@@ -14,4 +12,5 @@ mod Ends
 mod Longer
 mod Failing
 mod Working
-mod Statuses
+mod Lately
+mod Turning

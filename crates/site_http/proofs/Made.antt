@@ -15,9 +15,6 @@ use Rattle.edit_bodies.specs.declared.words.Words.{Words}
 use Rattle.edit_replies.specs.Texts.{refused_text, done_text, keeper_text}
 use Rattle.site_house.specs.House.{HouseView, AreValid, Moves, Stays, KeepsAll, Accepts, Refuses, Fails, HandedAtMost, history_of}
 use Rattle.site_house.specs.History.{History, OnLog, newest, state_of}
-use Rattle.site_house.specs.Bins.{IsSeenIn}
-use Rattle.content_state.specs.SiteRules.{IsValidState}
-use Rattle.std.proofs.Math.Seq.{take-length}
 use Rattle.site_house.proofs.Histories.{moves_longer, newest_state, on_newest, on_grows, state_grows, history_moves, log_to_newest}
 use Rattle.site_io.specs.Reached.{and_point}
 use Rattle.site_io.specs.Series.{last_moment}
@@ -26,25 +23,14 @@ use Rattle.site_io.specs.declared.device.Point.{Point}
 use Rattle.site_io.specs.declared.device.Point.TheVariants.{AfterSnapshot, BeforeReply}
 use Rattle.site_http.specs.declared.answer.Made.{Made}
 use Rattle.site_http.specs.declared.call.Reading.{Reading}
-use Rattle.site_http.specs.Called.{Called, ToRead, ToEdit, Wish, called, ask_of}
+use Rattle.site_http.specs.Called.{Called, ToRead, ToLate, ToEdit, Wish, called, ask_of}
 use Rattle.site_http.specs.Reply.{Says, IsDrawn, HandedOnce, MayTell, MayDraw, MayNeed, told, answered, listed, memory_text}
 use Rattle.kept_pages.specs.Held.{Shelves}
 use Rattle.site_http.specs.Kept.{Need, Needing, KeepsFor, shelves_of}
-use Rattle.site_http.specs.Connection.{and_points}
-use Rattle.site_http.specs.Turn.{Makes, Committed, OnSeen, ToldOnTheWay, Replied, HalfReplied, bytes_of}
+use Rattle.site_late.specs.Sending.{ToldOnTheWay, and_points}
+use Rattle.site_http.specs.Turn.{Makes, Committed, OnSeen, Replied, HalfReplied, bytes_of}
 use Rattle.site_http.proofs.Kept.{keeps_nothing, keeps_unknown, same_shelves}
-use Rattle.site_http.proofs.Told.{after_nothing, points_points, points_nothing, point_of}
-
--- the newest state is one that was seen
-pub newest_seen : (house : HouseView) (state : State) → state ≡ replay house.base house.seen → AreValid house.base house.seen → IsSeenIn house state
-unfolding replay
-newest_seen house state is valid = record {
-  in_order = (valid.states 0).in_order;
-  count = length house.seen;
-  within = omega arith;
-  state_is = is ∙ ap (replay house.base) (sym (take-length house.seen));
-  valid = subst IsValidState (ap (replay house.base) (take-length house.seen) ∙ sym is) (valid.states (length house.seen));
-}
+use Rattle.site_late.proofs.Told.{after_nothing, points_points, points_nothing, point_of}
 
 -- what is said on the state that was seen
 pub said_on : (old mid new : HouseView) (state : State) (reading : Reading) (ask : Ask) (moment : ℕ) (closing : Bool) (bytes : List ℕ) (built : ℕ) (needs : List (Option Need)) → Moves old mid → AreValid mid.base mid.seen → state ≡ replay mid.base mid.seen → Moves mid new
@@ -133,16 +119,26 @@ unread_made words before between points reading ask moment closing text within m
   | inr one ↦ wanting_at words before between points (AfterSnapshot ∷ []) (None ∷ []) (ToRead reading) ask moment closing text (inr refl) refl (inr refl) within moves stays (keeps_unknown moves) one second is
 ]
 
+-- the same for a page that is sent late
+pub unsent_made : {old new : HouseView} (words : Option (List ℕ)) (before between points : Option (List Point)) (ask : Ask) (moment : ℕ) (closing : Bool) (text : Made) → moment ≤ last_moment → Moves old new → Stays old new → ToldOnTheWay before between → points ≡ and_point between (BeforeReply 0) → memory_text closing ≡ bytes_of text → Makes (record { house = old; words = words; points = before }) (record { house = new; words = words; points = points }) ToLate ask moment closing text
+unsent_made words before between points ask moment closing text within moves stays first second is = elim first [
+  | inl none ↦ wanting_at words before between points [] (None ∷ []) ToLate ask moment closing text (inl refl) refl (inr refl) within moves stays (keeps_unknown moves) none second is
+  | inr one ↦ wanting_at words before between points (AfterSnapshot ∷ []) (None ∷ []) ToLate ask moment closing text (inr refl) refl (inr refl) within moves stays (keeps_unknown moves) one second is
+]
+
 may_tell_nothing : (c : Called) → MayTell c []
 may_tell_nothing (ToRead reading) = inl refl
+may_tell_nothing ToLate = inl refl
 may_tell_nothing (ToEdit wish) = refl
 
 may_draw_nothing : (c : Called) → MayDraw c None
 may_draw_nothing (ToRead reading) = refl
+may_draw_nothing ToLate = refl
 may_draw_nothing (ToEdit wish) = inl refl
 
 may_need_nothing : (c : Called) → MayNeed c []
 may_need_nothing (ToRead reading) = inl refl
+may_need_nothing ToLate = inl refl
 may_need_nothing (ToEdit wish) = refl
 
 pub stays_same : (house : HouseView) → Stays house house

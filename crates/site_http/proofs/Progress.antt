@@ -8,13 +8,14 @@ use Rattle.http_heads.specs.Requests.{End, Empty, Asks, Limit, Code, Cut, ending
 use Rattle.http_heads.proofs.Laws.{reads_next, reads_closing, reads_refused, reads_part}
 use Rattle.site_house.specs.House.{HouseView, Moves, history_of}
 use Rattle.site_house.specs.History.{History, newest}
-use Rattle.site_http.specs.Reply.{Story, IsText, refusal_text}
-use Rattle.site_http.specs.Connection.{Out, Around, Gave, Went, Texts, Answered, Interrupted, Starved, Broken, closes_after, joined, nothing, saying, cut_at}
-use Rattle.site_http.specs.Turn.{TookOne, Ends, RefusesWith, FailsToRead, Starves, HalfAnswered, HalfRefused}
-use Rattle.site_http.proofs.Told.{before_nothing}
+use Rattle.site_http.specs.Called.{ask_of}
+use Rattle.site_http.specs.Reply.{Story, IsLate, IsText, broken_at, refusal_text}
+use Rattle.site_http.specs.Connection.{Out, Around, Gave, Went, Texts, Answered, Interrupted, Starved, Broken, BrokenLate, closes_after, joined, nothing, saying, cut_at}
+use Rattle.site_http.specs.Turn.{TookOne, Ends, RefusesWith, FailsToRead, Starves, HalfAnswered, HalfRefused, LateAnswered}
+use Rattle.site_late.proofs.Told.{before_nothing}
 use Rattle.site_house.proofs.Histories.{history_moves, newest_grows}
 use Rattle.site_http.proofs.Stories.{gave_nothing, went_on, joined_nothing}
-use Rattle.site_http.proofs.Grow.{text_lower, texts_grow, texts_more}
+use Rattle.site_http.proofs.Grow.{late_lower, text_lower, texts_grow, texts_more}
 
 -- so many requests are answered, on states whose numbers aren't above what was seen, and these bytes stand in the buffer
 pub record Progress (old now : Around) (history : History) (limit low count seen : ℕ) (buffer : List ℕ) : Type 0 where
@@ -253,4 +254,33 @@ half_refused_at {old} {now} {new} {history} {limit} {low} {count} {seen} {buffer
       texts = p.texts;
       not_above = omega arith;
       next_is = inr (record { code = h.code; parses = n.parses; story_is = refl });
+    }
+
+pub late_answered_at : {old now new : Around} {history : History} {limit low count seen least : ℕ} {buffer : List ℕ} → Progress old now history limit low count seen buffer → LateAnswered now new history limit count seen buffer least → BrokenLate old new history limit low least
+late_answered_at {old} {now} {new} {history} {limit} {low} {count} {seen} {least} {buffer} p a =
+    let not_above = p.not_above in
+    let within = p.within in
+    let r = a.replied in
+    record {
+      taken = p.taken ++ a.more;
+      requests = p.done;
+      story = p.story;
+      rest = buffer ++ a.more;
+      last = r.story;
+      count = r.count;
+      parts = r.parts;
+      some = r.some;
+      went = went_on a.more (broken_at r.count r.parts r.story) p.went a.source r.gave;
+      reads = rest_reads limit count p.taken buffer a.more p.done p.count_is p.reads;
+      texts = p.texts;
+      not_above = omega arith;
+      next_is = record {
+        request = a.request;
+        size = a.size;
+        parses = a.parses;
+        late = r.late;
+        reply = subst (λ (i : ℕ). IsLate history p.story.high (ask_of a.request) (closes_after limit i a.request) r.story) (sym p.count_is)
+            (late_lower history seen p.story.high (ask_of a.request) (closes_after limit count a.request) r.story p.not_above r.reply);
+        not_above = r.not_above;
+      };
     }

@@ -7,9 +7,10 @@ use Rattle.site_io.specs.Memory.{up}
 use Rattle.site_io.specs.Told.{before, after}
 use Rattle.site_http.specs.Kept.{Need}
 use Rattle.site_http.specs.Reply.{Story}
-use Rattle.site_http.specs.Connection.{Out, Around, Gave, Went, and_points, joined, nothing, raised}
+use Rattle.site_http.specs.Connection.{Out, Around, Gave, Went, joined, nothing, raised}
+use Rattle.site_late.specs.Sending.{and_points}
 use Rattle.site_http.proofs.Kept.{keeps_nothing, keeps_more}
-use Rattle.site_http.proofs.Told.{before_before, after_after, after_nothing, points_points, points_nothing}
+use Rattle.site_late.proofs.Told.{before_before, after_after, after_nothing, points_points, points_nothing}
 
 abbrev story_of : List ℕ → List ℕ → List Point → List ℕ → List Commit → ℕ → List (Option Need) → ℕ → Story
 story_of moments words points text handed keepers needs high = record {

@@ -1,4 +1,5 @@
--- What a request is for: the page of its path, or an edit, by its method and path, its media type and its body.
+-- What a request is for: the page of its path, as one text or with its parts sent late, or an edit, by its method and path, its
+-- media type and its body.
 -- RFC 9110, sections 9.3.1 (GET), 15.5.6 (405) and 15.5.16 (415).
 use Rattle.std.specs.Prelude.{ℕ, List, Option, Some, None, codes, if◌then◌else◌}
 use Rattle.std.specs.Str.{bytes_eq}
@@ -20,9 +21,10 @@ pub record Wish : Type 0 where
   pub sent : Sent
   pub csrf : Option (List ℕ)
 
--- to read the newest state, or to change it
+-- to read the newest state, to read the page of the path there with its parts sent late, or to change it
 pub data Called : Type 0 where
   ToRead : Reading → Called
+  ToLate : Called
   ToEdit : Wish → Called
 
 -- what a request asks of the site
@@ -45,11 +47,15 @@ called_by request (Some edit) =
     then called_with edit request.csrf (sent (reads_of edit) request.body)
     else ToRead reading.NoMedia
 
--- What a request is for: GET asks for the page of the path; another method and a path that name an edit, for that edit; all
--- others for nothing that is served.
-unfoldable pub called : Request → Called
-called request =
+-- What a request is for that doesn't ask for parts sent late: GET asks for the page of the path; another method and a path that
+-- name an edit, for that edit; all others for nothing that is served.
+unfoldable pub called_whole : Request → Called
+called_whole request =
     if bytes_eq request.method get then ToRead reading.Page else called_by request (paired request.method request.path)
+
+-- What a request is for: a GET that asks for parts sent late has the page of the path so.
+unfoldable pub called : Request → Called
+called request = if request.late then ToLate else called_whole request
 
 -- what was read of a request, with the value that it sent to guard the forms of a session
 abbrev pub called_of : Call → Option (List ℕ) → Called

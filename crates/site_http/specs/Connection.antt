@@ -1,5 +1,5 @@
 -- What a connection takes, shows, writes and hands in, by how it ends: the promise of the whole host.
-use Rattle.std.specs.Prelude.{ℕ, zero, suc, List, [], ◌∷◌, ◌++◌, ◌≡◌, ◌≤◌, ◌+◌, ◌-◌, ◌==◌, ◌||◌, ◌⊎◌, Bool, Option, Some, None, take, length}
+use Rattle.std.specs.Prelude.{ℕ, zero, suc, List, [], ◌∷◌, ◌++◌, ◌≡◌, ◌≤◌, ◌+◌, ◌-◌, ◌==◌, ◌||◌, ◌⊎◌, Bool, true, Option, take, length}
 use Rattle.content_state.specs.declared.commit.Commit.{Commit}
 use Rattle.site_io.specs.declared.device.Point.{Point}
 use Rattle.site_io.specs.declared.ended.Ended.{Ended}
@@ -15,7 +15,8 @@ use Rattle.site_house.specs.History.{History, newest}
 use Rattle.kept_pages.specs.Held.{Shelves}
 use Rattle.site_http.specs.Called.{ask_of}
 use Rattle.site_http.specs.Kept.{KeepsFor}
-use Rattle.site_http.specs.Reply.{Story, IsText, refusal_text}
+use Rattle.site_http.specs.Reply.{Story, IsLate, IsText, broken_at, refusal_text}
+use Rattle.site_late.specs.Sending.{and_points}
 
 -- whether the connection closes after the reply of this index
 abbrev pub closes_after : ℕ → ℕ → Request → Bool
@@ -78,11 +79,6 @@ pub record Around : Type 0 where
   pub left : Option (List ℕ)
   pub out : Out
 
--- the points that are told once these are
-abbrev pub and_points : Option (List Point) → List Point → Option (List Point)
-and_points None more = None
-and_points (Some told) more = Some (told ++ more)
-
 -- so many more, up to the greatest u64
 abbrev pub raised : ℕ → ℕ → ℕ
 raised count zero = count
@@ -139,6 +135,15 @@ pub record NextReply (history : History) (limit index low : ℕ) (rest : List �
   pub reply : IsText history low request (closes_after limit index request) story
   pub not_above : story.high ≤ newest history
 
+-- the next request is there, it asks for parts sent late, and this is the story of its page
+pub record NextLate (history : History) (limit index low : ℕ) (rest : List ℕ) (story : Story) : Type 0 where
+  pub request : Request
+  pub size : ℕ
+  pub parses : Parses rest (Whole request size)
+  pub late : request.late ≡ true
+  pub reply : IsLate history low (ask_of request) (closes_after limit index request) story
+  pub not_above : story.high ≤ newest history
+
 -- what comes next is refused, and this says so
 pub record NextRefusal (low : ℕ) (rest : List ℕ) (story : Story) : Type 0 where
   pub code : ℕ
@@ -160,6 +165,23 @@ pub record Broken (old new : Around) (history : History) (limit low : ℕ) : Typ
   pub not_above : story.high ≤ newest history
   pub next_is : NextReply history limit (length requests) story.high rest last ⊎ NextRefusal story.high rest last
 
+-- A late reply broke off: the first requests of the bytes taken were answered, one whole text each, in order, and of the next, a late
+-- reply's, a front was written, at least so many bytes of it. What was told of it was told until then.
+pub record BrokenLate (old new : Around) (history : History) (limit low least : ℕ) : Type 0 where
+  pub taken : List ℕ
+  pub requests : List Request
+  pub story : Story
+  pub rest : List ℕ
+  pub last : Story
+  pub count : ℕ
+  pub parts : ℕ
+  pub some : least ≤ count
+  pub went : Went old new taken (joined story (broken_at count parts last))
+  pub reads : (others : List Request) (end : End) → Reads (limit - length requests) rest others end → Reads limit taken (requests ++ others) end
+  pub texts : Texts history limit 0 low requests story
+  pub not_above : story.high ≤ newest history
+  pub next_is : NextLate history limit (length requests) story.high rest last
+
 -- Whatever other callers read and edit meanwhile: what a connection took, showed, wrote and handed in, by its end.
 -- `history` is what its house has seen at the end, `low` the number of what it had seen at the beginning.
 abbrev pub Connection : Ended → Around → Around → History → ℕ → ℕ → Type 0
@@ -169,8 +191,8 @@ Connection ended.Asked old new history limit low = Answered old new history limi
 Connection ended.Spent old new history limit low = Answered old new history limit low Limit []
 Connection (ended.Refused code) old new history limit low = Answered old new history limit low (Code code) (refusal_text code)
 Connection ended.ReadFault old new history limit low = Interrupted old new history limit low
-Connection ended.WriteFault old new history limit low = Broken old new history limit low
-Connection ended.OutOfMemory old new history limit low = Starved old new history limit low
+Connection ended.WriteFault old new history limit low = Broken old new history limit low ⊎ BrokenLate old new history limit low 0
+Connection ended.OutOfMemory old new history limit low = Starved old new history limit low ⊎ BrokenLate old new history limit low 1
 
 -- A fault of the input is told exactly where its count of faults rose, and one of the output where its own did; at every
 -- other end the counts are as they were.

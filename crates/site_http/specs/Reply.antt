@@ -1,17 +1,20 @@
 -- The reply to a request: what it is by the state that it is of, and what it takes and tells besides.
 -- RFC 9110, sections 9.3.1 (GET), 15.5.6 (405) and 10.2.1 (Allow); RFC 4918, section 11.5 (507).
-use Rattle.std.specs.Prelude.{ℕ, List, [], ◌∷◌, ◌++◌, ◌≡◌, ◌≤◌, ◌<◌, ◌==◌, ◌⊎◌, Bool, true, false, Option, Some, None, is_some, codes, length, if◌then◌else◌, min}
+use Rattle.std.specs.Prelude.{ℕ, suc, List, [], ◌∷◌, ◌++◌, ◌≡◌, ◌≤◌, ◌<◌, ◌==◌, ◌⊎◌, Bool, true, false, Option, Some, None, is_some, codes, length, take, replicate, if◌then◌else◌, min}
 use Rattle.content_state.specs.declared.ask.Ask.{Ask}
 use Rattle.content_state.specs.State.{State}
 use Rattle.content_state.specs.declared.commit.Commit.{Commit}
 use Rattle.content_state.specs.Viewer.{viewer_of}
 use Rattle.cache_contexts.specs.Values.{visit_on}
+use Rattle.element_entries.specs.Keys.{visit}
 use Rattle.kept_pages.specs.Needed.{OfRequest}
+use Rattle.late_pages.specs.Needed.{OfFirst}
 use Rattle.kept_pages.specs.Went.{Went, number_built}
 use Rattle.render_array.specs.Shown.{IsPage, page_count}
 use Rattle.http_heads.specs.declared.request.Request.{Request}
 use Rattle.http_heads.specs.declared.reply.ReplyHead.{ReplyHead}
-use Rattle.http_heads.specs.declared.reply.Media.TheVariants.{Html, Json}
+use Rattle.http_heads.specs.declared.reply.Media.{Media}
+use Rattle.http_heads.specs.declared.reply.Media.TheVariants.{Json}
 use Rattle.http_heads.specs.declared.reply.CookieOut.TheVariants.{Nothing}
 use Rattle.http_heads.specs.Reply.{reply_text}
 use Rattle.site_io.specs.declared.device.Point.{Point}
@@ -25,16 +28,18 @@ use Rattle.edit_bodies.specs.Commands.{draws, command_in}
 use Rattle.edit_bodies.specs.declared.words.Words.{Words}
 use Rattle.edit_replies.specs.Texts.{refused_text, done_text, media_text, bad_json_text, keeper_text}
 use Rattle.site_house.specs.History.{History, OnLog, newest, log_to, state_of}
-use Rattle.site_http.specs.Called.{Called, ToRead, ToEdit, Wish, called, ask_of}
+use Rattle.site_late.specs.Heads.{media_of}
+use Rattle.site_late.specs.Sending.{IsLateReply, late_points, reader_of}
+use Rattle.site_http.specs.Called.{Called, ToRead, ToLate, ToEdit, Wish, called, ask_of}
 use Rattle.site_http.specs.Kept.{Need}
 use Rattle.site_http.specs.declared.call.Reading.{Reading}
 use Rattle.site_http.specs.declared.call.Reading.TheVariants as reading
 
--- the head of a page of so many bytes
-abbrev pub page_head : ℕ → ℕ → ℕ → Bool → ReplyHead
-page_head status size number closing = record {
+-- the head of a page of this media type and of so many bytes
+abbrev pub page_head : Media → ℕ → ℕ → ℕ → Bool → ReplyHead
+page_head media status size number closing = record {
   status = status;
-  media = Html;
+  media = media;
   length = Some size;
   location = None;
   cookie = Nothing;
@@ -148,7 +153,7 @@ pub record IsPageReply (state : State) (ask : Ask) (moment : ℕ) (closing : Boo
   pub page : IsPage state.rows ask moment status body
   pub built_for : IsBuiltFor state ask moment built needs
   pub built_at_most : built ≤ min (page_count state.rows ask moment) 18446744073709551615
-  pub text_is : text ≡ reply_text (page_head status (length body) state.number closing) body
+  pub text_is : text ≡ reply_text (page_head (media_of ask.path) status (length body) state.number closing) body
 
 -- what is answered on a state without changing it, how many elements were built for it, and what was needed
 abbrev pub Says : Reading → State → Ask → ℕ → Bool → List ℕ → ℕ → List (Option Need) → Type 0
@@ -169,6 +174,46 @@ pub record OnState (history : History) (low : ℕ) (story : Story) (Holds : Stat
   pub on : OnLog history low number
   pub holds : Holds (state_of history number) moment text built needs
   pub story_is : story ≡ record (told moment (AfterSnapshot ∷ []) built text number) { needs = needs }
+
+-- ---- pages whose parts are sent late
+
+-- The story of a late reply on a state, of so many parts, for what is sent first of which so many elements were built. It is told
+-- what was needed for what is sent first, and of no part.
+abbrev pub late_story : State → Ask → (moment built count : ℕ) → Went → List ℕ → Story
+late_story state ask moment built count went text = record {
+  moments = moment ∷ [];
+  words = [];
+  points = late_points built count;
+  text = text;
+  handed = [];
+  keepers = 0;
+  high = state.number;
+  needs = Some (record { reader = reader_of state ask moment; went = went }) ∷ replicate count None;
+}
+
+-- The late reply on one state, whose number is of the history and isn't below the earlier ones: the gate was told of the snapshot,
+-- then of the reply, and then of each of its parts.
+pub record IsLate (history : History) (low : ℕ) (ask : Ask) (closing : Bool) (story : Story) : Type 0 where
+  pub moment : ℕ
+  pub number : ℕ
+  pub built : ℕ
+  pub count : ℕ
+  pub went : Went
+  pub text : List ℕ
+  pub within : moment ≤ last_moment
+  pub on : OnLog history low number
+  pub reply : IsLateReply (state_of history number) ask moment closing count text
+  pub needed : OfFirst (visit (reader_of (state_of history number) ask moment)) went
+  pub counted : built ≡ min (number_built went) 18446744073709551615
+  pub story_is : story ≡ record (late_story (state_of history number) ask moment built count went text) { high = number }
+
+-- A story of a late reply, of which so many bytes were written and so many parts begun: what was told and needed of the others wasn't.
+abbrev pub broken_at : (bytes parts : ℕ) → Story → Story
+broken_at bytes parts story = record story {
+  points = take (suc (suc parts)) story.points;
+  text = take bytes story.text;
+  needs = take (suc parts) story.needs;
+}
 
 -- ---- edits
 
@@ -252,19 +297,22 @@ pub record IsKeeper (history : History) (low : ℕ) (wish : Wish) (ask : Ask) (c
 -- The points that were told until memory was wanting: that of the snapshot, if a state is read.
 abbrev pub MayTell : Called → List Point → Type 0
 MayTell (ToRead r) points = (points ≡ []) ⊎ (points ≡ AfterSnapshot ∷ [])
+MayTell ToLate points = (points ≡ []) ⊎ (points ≡ AfterSnapshot ∷ [])
 MayTell (ToEdit wish) points = points ≡ []
 
 -- the words that were drawn until then: none, or all that the edit takes
 abbrev pub MayDraw : Called → Option Words → Type 0
 MayDraw (ToRead r) drawn = drawn ≡ None
+MayDraw ToLate drawn = drawn ≡ None
 MayDraw (ToEdit wish) drawn = (drawn ≡ None) ⊎ IsDrawn wish drawn
 
 -- what was needed until then: nothing, or that of a page that wasn't put together
 abbrev pub MayNeed : Called → List (Option Need) → Type 0
 MayNeed (ToRead r) needs = (needs ≡ []) ⊎ (needs ≡ None ∷ [])
+MayNeed ToLate needs = (needs ≡ []) ⊎ (needs ≡ None ∷ [])
 MayNeed (ToEdit wish) needs = needs ≡ []
 
--- Memory was wanting: nothing was handed in. The reply carries no number.
+-- Memory was wanting before anything was written: nothing was handed in. The reply carries no number.
 pub record IsWanting (history : History) (low : ℕ) (asked : Called) (closing : Bool) (story : Story) : Type 0 where
   pub moment : ℕ
   pub number : ℕ
@@ -286,6 +334,7 @@ pub record IsWanting (history : History) (low : ℕ) (asked : Called) (closing :
 abbrev pub IsReply : History → ℕ → Called → Ask → Bool → Story → Type 0
 IsReply history low (ToRead r) ask closing story =
     OnState history low story (λ state moment text built needs. Says r state ask moment closing text built needs)
+IsReply history low ToLate ask closing story = IsLate history low ask closing story
 IsReply history low (ToEdit wish) ask closing story =
     IsRefused history low wish ask closing story
     ⊎ (IsAccepted history low wish ask closing story ⊎ IsKeeper history low wish ask closing story)

@@ -3,7 +3,7 @@ use Rattle.std.specs.Prelude.{ℕ, List, [], ◌∷◌, ◌++◌, ◌≡◌, ◌
 use Rattle.content_state.specs.declared.ask.Ask.{Ask}
 use Rattle.content_state.specs.State.{State}
 use Rattle.site_io.specs.declared.device.Point.{Point}
-use Rattle.site_io.specs.declared.device.Point.TheVariants.{AfterSnapshot, BeforeReply}
+use Rattle.site_io.specs.declared.device.Point.TheVariants.{BeforeReply}
 use Rattle.site_io.specs.declared.ended.Ended.{Ended}
 use Rattle.site_io.specs.declared.ended.Ended.TheVariants as ended
 use Rattle.site_io.specs.Told.{before, after, IsNothingLeft, Rose}
@@ -15,6 +15,7 @@ use Rattle.site_http.specs.declared.answer.Made.{Made}
 use Rattle.site_http.specs.declared.answer.Made.TheVariants as made
 use Rattle.site_http.specs.declared.answer.Outcome.{Outcome}
 use Rattle.site_http.specs.declared.answer.Outcome.TheVariants.{Written, WriteFault}
+use Rattle.site_http.specs.declared.answer.Outcome.TheVariants as outcome
 use Rattle.site_http.specs.declared.next.Next.{Next}
 use Rattle.site_http.specs.declared.next.Next.TheVariants as next
 use Rattle.site_http.specs.declared.next.Trouble.{Trouble}
@@ -22,7 +23,7 @@ use Rattle.site_http.specs.declared.next.Trouble.TheVariants.{ReadFault, OutOfMe
 use Rattle.site_house.specs.History.{History, OnLog, newest, state_of}
 use Rattle.edit_bodies.specs.declared.words.Words.{Words}
 use Rattle.edit_replies.specs.Texts.{done_text}
-use Rattle.site_http.specs.Called.{Called, ToEdit, Wish}
+use Rattle.site_http.specs.Called.{Called, ToEdit, Wish, ask_of}
 use Rattle.site_http.specs.Kept.{KeepsFor, shelves_of}
 use Rattle.std.specs.Arc.{arc_value}
 use Rattle.std.specs.declared.sync.Arc.{Arc}
@@ -31,8 +32,9 @@ use Rattle.site_http.specs.declared.known.KnownRequest.{KnownRequest}
 use Rattle.site_http.specs.declared.recent.RecentReply.{RecentReply}
 use Rattle.site_http.specs.Known.{Begins, IsKnown, IsPlain}
 use Rattle.site_http.specs.Recent.{given_bytes, AreRecent}
-use Rattle.site_http.specs.Reply.{Story, IsAnswer, IsText, listed, refusal_text}
-use Rattle.site_http.specs.Connection.{Out, Around, Gave, and_points, raised, saying, cut_at, closes_after, CountsReads, CountsWrites}
+use Rattle.site_http.specs.Reply.{Story, IsAnswer, IsLate, IsText, broken_at, listed, refusal_text}
+use Rattle.site_late.specs.Sending.{and_points}
+use Rattle.site_http.specs.Connection.{Out, Around, Gave, raised, saying, cut_at, closes_after, CountsReads, CountsWrites}
 
 -- some bytes were taken
 pub record Takes (left left-after : Option (List ℕ)) : Type 0 where
@@ -112,6 +114,7 @@ KnowsBy recent (next.Trouble t) = Unit {0}
 abbrev pub CountsOutcome : Outcome → ℕ → ℕ → Type 0
 CountsOutcome Written old new = new ≡ old
 CountsOutcome WriteFault old new = Rose old new
+CountsOutcome outcome.OutOfMemory old new = new ≡ old
 
 -- the same of a turn, which goes on at none
 abbrev pub TurnReads : Option Ended → ℕ → ℕ → Type 0
@@ -127,11 +130,6 @@ pub record OnSeen (old new : HouseView) (Holds : State → Type 0) : Type 0 wher
   pub number : ℕ
   pub on : OnLog (history_of new) (newest (history_of old)) number
   pub holds : Holds (state_of (history_of new) number)
-
--- which points were told until memory was wanting: none, or that of the snapshot
-abbrev pub ToldOnTheWay : Option (List Point) → Option (List Point) → Type 0
-ToldOnTheWay points points-after =
-    (points-after ≡ and_points points []) ⊎ (points-after ≡ and_points points (AfterSnapshot ∷ []))
 
 -- the bytes of a reply that was made
 abbrev pub bytes_of : Made → List ℕ
@@ -192,10 +190,23 @@ pub record HalfReplied (old new : Out) (history : History) (low : ℕ) (request 
   pub gave : Gave old new (cut_at count story)
   pub not_above : story.high ≤ newest history
 
+-- a request was answered late, and of its text a front was written, at least so many bytes of it
+pub record LateReplied (old new : Out) (history : History) (low : ℕ) (request : Request) (closing : Bool) (least : ℕ) : Type 0 where
+  pub story : Story
+  pub count : ℕ
+  pub parts : ℕ
+  pub some : least ≤ count
+  pub late : request.late ≡ true
+  pub reply : IsLate history low (ask_of request) closing story
+  pub gave : Gave old new (broken_at count parts story)
+  pub not_above : story.high ≤ newest history
+
 -- one request was answered, and this became of the reply
 abbrev pub Replies : Outcome → Out → Out → History → ℕ → Request → Bool → Type 0
 Replies Written old new history low request closing = Replied old new history low request closing
-Replies WriteFault old new history low request closing = HalfReplied old new history low request closing
+Replies WriteFault old new history low request closing =
+    HalfReplied old new history low request closing ⊎ LateReplied old new history low request closing 0
+Replies outcome.OutOfMemory old new history low request closing = LateReplied old new history low request closing 1
 
 -- one request was taken and answered, and no more was read than it needed
 pub record TookOne (old new : Around) (history : History) (limit index low : ℕ) (buffer buffer-after : List ℕ) (closes : Bool) : Type 0 where
@@ -261,6 +272,16 @@ pub record HalfAnswered (old new : Around) (history : History) (limit index low 
   pub parses : Parses (buffer ++ more) (Whole request size)
   pub replied : HalfReplied old.out new.out history low request (closes_after limit index request)
 
+-- a late reply was written in part, at least so many bytes of it
+pub record LateAnswered (old new : Around) (history : History) (limit index low : ℕ) (buffer : List ℕ) (least : ℕ) : Type 0 where
+  pub more : List ℕ
+  pub request : Request
+  pub size : ℕ
+  pub source : old.left ≡ before more new.left
+  pub needed : ReadInNeed buffer more
+  pub parses : Parses (buffer ++ more) (Whole request size)
+  pub replied : LateReplied old.out new.out history low request (closes_after limit index request) least
+
 -- a refusal was written in part
 pub record HalfRefused (old new : Around) (buffer : List ℕ) (low : ℕ) : Type 0 where
   pub code : ℕ
@@ -278,6 +299,8 @@ Turned (Some ended.Closed) old new history limit index low buffer buffer-after =
 Turned (Some (ended.Truncated n)) old new history limit index low buffer buffer-after = Ends old new buffer n × (n ≡ 0 → ⊥)
 Turned (Some (ended.Refused code)) old new history limit index low buffer buffer-after = RefusesWith old new buffer code low
 Turned (Some ended.ReadFault) old new history limit index low buffer buffer-after = FailsToRead old new buffer
-Turned (Some ended.OutOfMemory) old new history limit index low buffer buffer-after = Starves old new
+Turned (Some ended.OutOfMemory) old new history limit index low buffer buffer-after =
+    Starves old new ⊎ LateAnswered old new history limit index low buffer 1
 Turned (Some ended.WriteFault) old new history limit index low buffer buffer-after =
-    HalfAnswered old new history limit index low buffer ⊎ HalfRefused old new buffer low
+    HalfAnswered old new history limit index low buffer
+    ⊎ (HalfRefused old new buffer low ⊎ LateAnswered old new history limit index low buffer 0)

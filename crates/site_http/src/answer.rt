@@ -1,5 +1,5 @@
 //! One reply.
-ghost use Rattle.std.specs.Prelude.{◌≡◌, ◌∷◌, ◌≤◌, [], ℕ, List, Option, IfOk, IfSome, OnOk, OnErr, is_some};
+ghost use Rattle.std.specs.Prelude.{◌≡◌, ◌∷◌, ◌≤◌, [], ℕ, List, Option, IfOk, IfSome, OnOk, OnErr, is_some, false, true};
 ghost use Rattle.std.specs.Arc.{arc_value};
 ghost use Rattle.std.specs.Option.{option_copied};
 ghost use Rattle.content_state.specs.Ask.{IsAsk};
@@ -18,10 +18,10 @@ ghost use Rattle.http_heads.specs.declared.request.Request.{Request as Sent};
 ghost use Rattle.site_http.specs.Known.{IsAskedBy, IsPlain};
 ghost use Rattle.site_http.specs.Recent.{given_bytes, page_bytes, AreRecent};
 ghost use Rattle.site_http.specs.Reply.{Says, listed};
-ghost use Rattle.site_http.specs.Turn.{bytes_of, Committed, CountsOutcome, Makes, OnSeen, Replies, ToldOnTheWay};
+ghost use Rattle.site_late.specs.Sending.{ToldOnTheWay};
+ghost use Rattle.site_http.specs.Turn.{bytes_of, Committed, CountsOutcome, Makes, OnSeen, Replies};
 
-use crate::call::{Asked, Call, Reading, asked_by};
-use crate::pieces::{WriteFault, write_page, write_text};
+use crate::call::{Asked, Call, Reading, asked_by, asks_of};
 use crate::recent::{Given, RecentReplies, RecentReply};
 use crate::refusal::memory_text;
 use crate::reply::reply_on;
@@ -33,14 +33,19 @@ use http_heads::{Octets, Request};
 use site_commands::{Answer, Command, Done};
 use site_house::House;
 use site_io::{Clock, Entropy, Gate, Point, Sink};
+use site_late::{Sent as LateSent, WriteFault, late_reply, write_page, write_text};
 use std::alloc::{AllocError, Global};
 use std::sync::Arc;
 
 /// What became of a reply.
 #[derive(Clone, Copy, Debug, PartialEq, Eq)]
 pub enum Outcome {
+    /// All of it was written.
     Written,
+    /// Writing failed. A front of it was written.
     WriteFault,
+    /// It is a late one, and memory was wanting for a part. A front of it was written.
+    OutOfMemory,
 }
 
 /// A reply that is to be written. All memory that it needs is taken: the text of an edit that was made is made as it is written,
@@ -90,7 +95,7 @@ fn write_made<O: Sink>(sink: &mut O, made: &Made) -> Result<(), WriteFault>
 }
 
 /// Writes a reply, and hands on what the sink holds back of it, before anything more is read.
-#[tactic(auto, using(crate::proofs::Joining::all_is_front))]
+#[tactic(auto, using(site_late::proofs::Joining::all_is_front))]
 fn send<O: Sink>(sink: &mut O, made: &Made) -> Result<(), WriteFault>
     ensures whole { OnOk result (O.written sink.new ≡ after (O.written sink.old) (bytes_of made.now)) }
     ensures front { OnErr result (AddsFront (O.written sink.old) (O.written sink.new) (bytes_of made.now)) }
@@ -300,7 +305,7 @@ fn reply_to<H: House, E: Entropy, G: Gate>(
     }
 }
 
-/// The text of the reply to a request. The gate is told of it.
+/// The text of the reply to a request that doesn't ask for parts sent late. The gate is told of it.
 fn reply_made<H: House, E: Entropy, G: Gate>(
     alloc: Global,
     paths: &EditPaths,
@@ -315,6 +320,7 @@ fn reply_made<H: House, E: Entropy, G: Gate>(
 ) -> Made
     requires moment { now ≤ last_moment }
     requires right { IsAsk (ask_of request) }
+    requires whole { request.late ≡ false }
     requires recent { AreRecent (H.sees house.old) recent.old }
     requires plain { IfSome bytes (λ b. IsPlain b.items request) }
     ensures moves { Moves (H.sees house.old) (H.sees house.new) }
@@ -370,6 +376,39 @@ pub fn answer_known<H: House, O: Sink, C: Clock, E: Entropy, G: Gate>(
     }
 }
 
+/// Answers a request that asks for parts sent late. Where memory is wanting before anything was written, the reply says so.
+fn answer_late<H: House, O: Sink, G: Gate>(
+    alloc: Global,
+    house: &mut H,
+    sink: &mut O,
+    gate: &mut G,
+    ask: &Ask,
+    now: u64,
+    closing: bool,
+) -> Outcome
+    requires moment { now ≤ last_moment }
+    requires right { IsAsk ask.now }
+    ensures moves { Moves (H.sees house.old) (H.sees house.new) }
+    ensures replies { (given : Option (List ℕ)) → (words : Option (List ℕ)) → (request : Sent) → request.late ≡ true → ask.now ≡ ask_of request → Replies result
+        (record { given = given; words = words; points = G.reached gate.old; written = O.written sink.old; handed = (H.sees house.old).handed; keepers = (H.sees house.old).keepers; kept = shelves_of (H.sees house.old) })
+        (record { given = after given (now ∷ []); words = words; points = G.reached gate.new; written = O.written sink.new; handed = (H.sees house.new).handed; keepers = (H.sees house.new).keepers; kept = shelves_of (H.sees house.new) })
+        (history_of (H.sees house.new)) (newest (history_of (H.sees house.old))) request closing }
+    ensures cause { CountsOutcome result (O.faults sink.old) (O.faults sink.new) }
+{
+    match late_reply(alloc, house, sink, gate, ask, now, closing) {
+        LateSent::Written => Outcome::Written,
+        LateSent::WriteFault => Outcome::WriteFault,
+        LateSent::OutOfMemory => Outcome::OutOfMemory,
+        LateSent::NotBegun => {
+            gate.reach(Point::BeforeReply(0));
+            match send(sink, &Made::Fixed(memory_text(closing))) {
+                Ok(()) => Outcome::Written,
+                Err(WriteFault) => Outcome::WriteFault,
+            }
+        }
+    }
+}
+
 /// Answers a request: on the newest state, or with what becomes of the edit that it asks for.
 pub fn answer<H: House, O: Sink, C: Clock, E: Entropy, G: Gate>(
     alloc: Global,
@@ -398,6 +437,10 @@ pub fn answer<H: House, O: Sink, C: Clock, E: Entropy, G: Gate>(
     ensures cause { CountsOutcome result (O.faults sink.old) (O.faults sink.new) }
 {
     let now = clock.now();
+    if request.late {
+        let (ask, _) = asks_of(request);
+        return answer_late(alloc, house, sink, gate, &ask, now, closing);
+    }
     let made = reply_made(
         alloc, paths, house, entropy, gate, recent, request, bytes, now, closing,
     );

@@ -1,6 +1,6 @@
 //! What a request is for.
-ghost use Rattle.std.specs.Prelude.{◌≡◌, IfOk};
-ghost use Rattle.site_http.specs.Called.{ask_of, called, called_by, called_of, get};
+ghost use Rattle.std.specs.Prelude.{◌≡◌, IfOk, false};
+ghost use Rattle.site_http.specs.Called.{ask_of, called, called_by, called_of, called_whole, get};
 
 use content_rows::Text;
 use content_state::Ask;
@@ -58,10 +58,10 @@ fn call_by(alloc: Global, request: &Request, edit: Edit) -> Result<Call, AllocEr
     }
 }
 
-/// What a request is for. `Err` only where memory is wanting.
-#[tactic(auto, unfolding(crate::specs::Called::get, crate::specs::Called::called))]
+/// What a request is for that doesn't ask for parts sent late. `Err` only where memory is wanting.
+#[tactic(auto, unfolding(crate::specs::Called::get, crate::specs::Called::called_whole))]
 fn call_of(alloc: Global, paths: &EditPaths, request: &Request) -> Result<Call, AllocError>
-    ensures { IfOk result (λ c. called_of c request.now.csrf ≡ called request.now) }
+    ensures { IfOk result (λ c. called_of c request.now.csrf ≡ called_whole request.now) }
 {
     if request.method.as_slice() == b"GET".as_slice() {
         return Ok(Call::Reading(Reading::Page));
@@ -72,20 +72,28 @@ fn call_of(alloc: Global, paths: &EditPaths, request: &Request) -> Result<Call, 
     }
 }
 
-/// What a request is for, and from where it is asked. `Err` only where memory is wanting.
+/// From where a request is asked, and the value that it sent to guard the forms of a session.
+pub fn asks_of(request: Request) -> (Ask, Option<Octets>)
+    ensures ask { result.0 ≡ ask_of request }
+    ensures csrf { result.1 ≡ request.csrf }
+{
+    let ask = Ask {
+        target: Text::from_vec(request.target.into_vec()),
+        path: Text::from_vec(request.path.into_vec()),
+        query: Text::from_vec(request.query.into_vec()),
+        cookie: request.session,
+    };
+    (ask, request.csrf)
+}
+
+/// What a request is for that doesn't ask for parts sent late, and from where it is asked. `Err` only where memory is wanting.
+#[tactic(auto, unfolding(crate::specs::Called::called))]
 pub fn asked_by(alloc: Global, paths: &EditPaths, request: Request) -> Result<Asked, AllocError>
+    requires { request.late ≡ false }
     ensures call { IfOk result (λ a. called_of a.call a.csrf ≡ called request) }
     ensures ask { IfOk result (λ a. a.ask ≡ ask_of request) }
 {
     let call = call_of(alloc, paths, &request)?;
-    Ok(Asked {
-        call,
-        csrf: request.csrf,
-        ask: Ask {
-            target: Text::from_vec(request.target.into_vec()),
-            path: Text::from_vec(request.path.into_vec()),
-            query: Text::from_vec(request.query.into_vec()),
-            cookie: request.session,
-        },
-    })
+    let (ask, csrf) = asks_of(request);
+    Ok(Asked { call, csrf, ask })
 }

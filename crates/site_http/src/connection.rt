@@ -24,7 +24,8 @@ use std::mem;
 /// `Closed` and `Truncated` come where the input ended, between requests or within one; `Asked` after the reply to a
 /// request that asked to close; `Spent` after the 1,000th reply; `Refused` after the reply with its code (RFC 9112,
 /// sections 9.3 and 9.6); `ReadFault` and `WriteFault` exactly where the source's or the sink's count of faults rose;
-/// `OutOfMemory` where memory was wanting to read a request. The runtime is lent for what waits; nothing here does.
+/// `OutOfMemory` where memory was wanting to read a request, or for a part of a page that is sent late, of which a front was written
+/// then. The runtime is lent for what waits; nothing here does.
 pub fn serve_connection<R, H: House, S: Source, O: Sink, C: Clock, E: Entropy, G: Gate>(
     _rt: &R,
     alloc: Global,
@@ -51,7 +52,8 @@ pub fn serve_connection<R, H: House, S: Source, O: Sink, C: Clock, E: Entropy, G
     ended
 }
 
-/// The same with what earlier connections were answered with, if there were any; it is left for later ones.
+/// Serves a connection, as `serve_connection` does, with the desk that earlier connections left, if there is one: what they were
+/// answered with is given again where it is the same. The desk is left for later ones.
 pub fn serve_next<H: House, S: Source, O: Sink, C: Clock, E: Entropy, G: Gate>(
     alloc: Global,
     desk: &mut Option<Desk>,
@@ -93,7 +95,8 @@ pub fn serve_next<H: House, S: Source, O: Sink, C: Clock, E: Entropy, G: Gate>(
     )
 }
 
-/// The same with routers, an inbox, whatever came into it before, and the replies that were given not long ago.
+/// Serves a connection, as `serve_connection` does, with these routers, this inbox, whatever came into it before, and the replies
+/// that were given not long ago.
 fn serve_at<H: House, S: Source, O: Sink, C: Clock, E: Entropy, G: Gate>(
     alloc: Global,
     paths: &EditPaths,

@@ -7,7 +7,6 @@ mod connection;
 mod desk;
 mod known;
 mod next;
-mod pieces;
 mod recent;
 mod refusal;
 mod reply;
@@ -22,7 +21,7 @@ pub use http_heads::{
     reply_head,
 };
 pub use next::Inbox;
-pub use pieces::{WriteFault, write_parts};
 pub use recent::RecentReplies;
+pub use site_late::{WriteFault, write_parts};
 pub use turn::turn as serve_turn;
 pub use worker::{Worked, work};

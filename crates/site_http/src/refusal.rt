@@ -80,7 +80,7 @@ pub fn memory_text(closing: bool) -> &'static [u8]
 }
 
 /// Writes the text that refuses a connection with a code, and hands on what the sink holds back of it.
-#[tactic(auto, using(crate::proofs::Joining::all_is_front))]
+#[tactic(auto, using(site_late::proofs::Joining::all_is_front))]
 pub fn write_refusal<O: Sink>(sink: &mut O, code: u16) -> Result<(), Failed>
     ensures ok { OnOk result (O.written sink.new ≡ after (O.written sink.old) (refusal_text code)) }
     ensures failed { OnErr result (AddsFront (O.written sink.old) (O.written sink.new) (refusal_text code)) }

@@ -4,9 +4,10 @@ ghost use Rattle.content_state.specs.Ask.{IsAsk};
 ghost use Rattle.site_house.specs.House.{Moves, Stays};
 ghost use Rattle.site_house.specs.Bins.{IsSeenIn};
 ghost use Rattle.site_http.specs.Kept.{Needing};
+ghost use Rattle.site_late.specs.Heads.{media_of};
 ghost use Rattle.site_http.specs.Reply.{page_head, method_body, method_text, IsPageReply, Says};
 ghost use Rattle.site_http.specs.Recent.{given_bytes, IsReplyUntil};
-ghost use Rattle.http_heads.specs.Reply.{head_text, reply_text, is_reply_status};
+ghost use Rattle.http_heads.specs.Reply.{reply_text, is_reply_status};
 
 use crate::call::Reading;
 use crate::recent::{Given, PageReply};
@@ -16,6 +17,7 @@ use edit_replies::{bad_json_text, media_text};
 use http_heads::{CookieOut, Media, ReplyHead, reply_head};
 use kept_pages::Page;
 use site_house::House;
+use site_late::{head_of, media_of};
 use std::alloc::{AllocError, Global};
 
 /// More bytes than most heads have.
@@ -34,16 +36,6 @@ fn text_of(alloc: Global, head: &ReplyHead, body: &[u8]) -> Result<Vec<u8>, Allo
 
 /// No longer body is remembered with its reply, in bytes.
 const LONGEST: u128 = 65_536;
-
-/// The text of a head.
-fn head_of(alloc: Global, head: &ReplyHead) -> Result<Vec<u8>, AllocError>
-    requires { IsTrue (is_reply_status head.now.status) }
-    ensures { IfOk result (λ v. v.items ≡ head_text head.now) }
-{
-    let mut text = Vec::with_capacity(alloc, HEAD_ROOM)?;
-    reply_head(alloc, &mut text, head)?;
-    Ok(text)
-}
 
 /// A reply, how many elements were built for it, up to the greatest u64, and until which moment, in seconds since 1970, it may be
 /// given again, if it may.
@@ -86,7 +78,7 @@ fn page_reply<H: House>(
     let page = shown_page(alloc, house, state, ask, now)?;
     let head = ReplyHead {
         status: page.status,
-        media: Media::Html,
+        media: media_of(ask.path.as_slice()),
         length: Some(page.length),
         location: None,
         cookie: CookieOut::Nothing,

@@ -61,6 +61,7 @@ fn turn_known<H: House, O: Sink, C: Clock, E: Entropy, G: Gate>(
     ) {
         Outcome::Written => None,
         Outcome::WriteFault => Some(Ended::WriteFault),
+        Outcome::OutOfMemory => Some(Ended::OutOfMemory),
     }
 }
 
@@ -116,5 +117,6 @@ pub fn turn<H: House, S: Source, O: Sink, C: Clock, E: Entropy, G: Gate>(
     ) {
         Outcome::Written => { if closes { Some(Ended::Asked) } else { None } }
         Outcome::WriteFault => Some(Ended::WriteFault),
+        Outcome::OutOfMemory => Some(Ended::OutOfMemory),
     }
 }

@@ -1,7 +1,8 @@
 use Rattle.std.proofs.Common.{◌∙◌, [], sym}
 use Rattle.kept_pages.proofs.Entries.{seen_on}
 use Rattle.site_house.proofs.Moving.{moves_same, moves_on}
-use Rattle.site_http.proofs.Made.{newest_seen, said_on, needed_on}
+use Rattle.site_late.proofs.Seen.{newest_seen}
+use Rattle.site_http.proofs.Made.{said_on, needed_on}
 use Rattle.site_http.specs.Kept.{shelves_of}
 use Rattle.site_http.proofs.Again.{recent_stay}
 use Rattle.site_http.proofs.Kept.{keeps_nothing, same_shelves}

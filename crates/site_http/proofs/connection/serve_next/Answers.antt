@@ -1,4 +1,4 @@
-use Rattle.std.proofs.Common.{◌∙◌, Option, subst, sym}
+use Rattle.std.proofs.Common.{◌∙◌, Option, inl, subst, sym}
 use Rattle.std.specs.Prelude.{IfSome}
 use Rattle.site_house.specs.House.{history_of}
 use Rattle.site_http.specs.Kept.{shelves_of}
@@ -14,7 +14,7 @@ pub returns-in_default-clause-connection : goal.returns-in_default-clause-connec
 returns-in_default-clause-connection g c =
     let house = g.H.House.sees c.args.house.now in
     let old : Around = record { left = g.S.Source.left c.args.source.now; out = record { given = g.C.Clock.given c.args.clock.now; words = g.E.Entropy.given c.args.entropy.now; points = g.G.Gate.reached c.args.gate.now; written = g.O.Sink.written c.args.sink.now; handed = house.handed; keepers = house.keepers; kept = shelves_of house } } in
-    starved_first old (history_of house) 1000
+    inl (starved_first old (history_of house) 1000)
 
 pub serve_at-requires : goal.serve_at-requires
 serve_at-requires g c =

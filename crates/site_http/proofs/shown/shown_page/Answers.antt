@@ -8,7 +8,7 @@ use Rattle.kept_pages.specs.Needed.{OfRequest}
 use Rattle.kept_pages.specs.Went.{number_built}
 use Rattle.site_http.specs.Kept.{Need, KeepsFor, shelves_of}
 use Rattle.site_http.proofs.Kept.{keeps_page}
-use Rattle.site_http.proofs.Statuses.{page_replies}
+use Rattle.site_late.proofs.Statuses.{page_replies}
 use Rattle.site_http.proofs.shown.shown_page.Goals as goal
 
 pub returns-clause-status : goal.returns-clause-status

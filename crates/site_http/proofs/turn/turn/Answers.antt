@@ -3,15 +3,17 @@ use Rattle.std.proofs.lemmas.List.{append-nil}
 use Rattle.site_http.specs.declared.known.KnownRequest.{KnownRequest}
 use Rattle.site_http.specs.Known.{Begins, IsKnown}
 use Rattle.site_http.proofs.Asks.{are_asks}
+use Rattle.site_http.specs.Connection.{closes_after}
 use Rattle.site_http.specs.Kept.{shelves_of}
+use Rattle.site_http.proofs.Turning.{half_turned, late_turned}
 use Rattle.site_http.proofs.Kept.{keeps_nothing}
-use Rattle.site_http.proofs.Told.{after_nothing, points_nothing}
+use Rattle.site_late.proofs.Told.{after_nothing, points_nothing}
 use Rattle.site_http.proofs.turn.turn.Goals as goal
 
 pub returns-in-Err-clause-turned : goal.returns-in-Err-clause-turned
 returns-in-Err-clause-turned g c =
     let f = c.in-Err.ensures.failed in
-    inr (record {
+    inr (inl (record {
       code = c.in-Refused.code;
       count = f.count;
       refuses = search rules;
@@ -24,20 +26,19 @@ returns-in-Err-clause-turned g c =
         failures = refl {a = (g.H.House.sees c.args.house.now).keepers};
         kept = keeps_nothing (shelves_of (g.H.House.sees c.args.house.now)) (shelves_of (g.H.House.sees c.args.house.now)) refl;
       };
-    })
+    }))
 
 pub returns-in-WriteFault-clause-turned : goal.returns-in-WriteFault-clause-turned
 returns-in-WriteFault-clause-turned g c =
     let f = c.in-Request.ensures.fetches in
-    inl (record {
-      more = f.more;
-      request = c.in-Request.request;
-      size = f.decides.0;
-      source = f.source;
-      needed = f.needed;
-      parses = f.decides.1;
-      replied = search rules;
-    })
+    let closes : c.if-closes.closing ≡ closes_after 1000 c.args.index c.in-Request.request = search rules in
+    half_turned c.in-Request.request f.decides.0 f.more c.if-closes.closing closes f.source f.needed f.decides.1 c.in-WriteFault.ensures.replies
+
+pub returns-in-OutOfMemory-clause-turned : goal.returns-in-OutOfMemory-clause-turned
+returns-in-OutOfMemory-clause-turned g c =
+    let f = c.in-Request.ensures.fetches in
+    let closes : c.if-closes.closing ≡ closes_after 1000 c.args.index c.in-Request.request = search rules in
+    inr (late_turned c.in-Request.request f.decides.0 f.more c.if-closes.closing closes f.source f.needed f.decides.1 c.in-OutOfMemory.ensures.replies)
 
 pub answer-requires-clause-right : goal.answer-requires-clause-right
 answer-requires-clause-right g c = are_asks _ c.in-Request.request c.in-Request.ensures.fetches.decides.0 c.in-Request.ensures.fetches.decides.1

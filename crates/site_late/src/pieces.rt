@@ -57,3 +57,16 @@ pub fn write_text<O: Sink>(sink: &mut O, text: &[u8]) -> Result<(), WriteFault>
     write_whole(sink, text)?;
     Ok(())
 }
+
+/// Writes a head, and then the pieces of a body, and hands on what the sink holds back, before anything more is made or read.
+#[tactic(auto, using(crate::proofs::Joining::all_is_front))]
+pub fn hand_on<O: Sink>(sink: &mut O, head: &[u8], body: &[Arc<Bytes>]) -> Result<(), WriteFault>
+    ensures whole { OnOk result (O.written sink.new ≡ after (O.written sink.old) (head.now ++ joined body.now)) }
+    ensures front { OnErr result (AddsFront (O.written sink.old) (O.written sink.new) (head.now ++ joined body.now)) }
+    ensures cause { OnErr result (Rose (O.faults sink.old) (O.faults sink.new)) }
+    ensures steady { OnOk result (O.faults sink.new ≡ O.faults sink.old) }
+{
+    write_page(sink, head, body)?;
+    sink.flush()?;
+    Ok(())
+}

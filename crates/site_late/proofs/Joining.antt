@@ -10,6 +10,7 @@ use Rattle.html_out.specs.Segment.{joined}
 use Rattle.html_out.specs.declared.shared.Bytes.{Bytes}
 use Rattle.site_io.specs.Told.{after, AddsFront}
 use Rattle.site_io.proofs.Told.{after_after}
+use Rattle.site_late.proofs.Told.{after_nothing}
 
 pub one_more : (told : Option (List ℕ)) (first second : List ℕ) → after (after told first) second ≡ after told (first ++ second)
 one_more told first second = after_after told first second
@@ -57,3 +58,7 @@ all_is_front told now all is = record {
   within = omega arith;
   told = is ∙ ap (after told) (sym (take-length all));
 }
+
+-- nothing was written, which is a front
+pub none_is_front : (told : Option (List ℕ)) (all : List ℕ) → AddsFront told told all
+none_is_front told all = record { count = 0; within = omega arith; told = after_nothing told }

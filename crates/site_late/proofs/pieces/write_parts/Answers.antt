@@ -1,8 +1,8 @@
 use Rattle.std.proofs.Common.{◌≡◌, ◌∙◌, ◌++◌, List, ℕ, suc, take, drop, ap, sym}
 use Rattle.std.specs.Arc.{arc_value}
 use Rattle.html_out.specs.Segment.{joined}
-use Rattle.site_http.proofs.Joining.{joined_at, front_in, on_err}
-use Rattle.site_http.proofs.pieces.write_parts.Goals as goal
+use Rattle.site_late.proofs.Joining.{joined_at, front_in, on_err}
+use Rattle.site_late.proofs.pieces.write_parts.Goals as goal
 
 pub returns-in_err-write_whole-clause-front : goal.returns-in_err-write_whole-clause-front
 returns-in_err-write_whole-clause-front g c =

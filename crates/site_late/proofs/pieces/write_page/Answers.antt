@@ -1,6 +1,6 @@
 use Rattle.html_out.specs.Segment.{joined}
-use Rattle.site_http.proofs.Joining.{body_front}
-use Rattle.site_http.proofs.pieces.write_page.Goals as goal
+use Rattle.site_late.proofs.Joining.{body_front}
+use Rattle.site_late.proofs.pieces.write_page.Goals as goal
 
 pub returns-clause-front : goal.returns-clause-front
 returns-clause-front g c =

@@ -1,7 +1,7 @@
 use Rattle.std.proofs.Common.{◌≡◌, take}
 use Rattle.html_out.specs.Segment.{joined}
 use Rattle.site_io.specs.Told.{after}
-use Rattle.site_http.proofs.pieces.write_parts.Given as goal
+use Rattle.site_late.proofs.pieces.write_parts.Given as goal
 
 abbrev pub invariant-loop-part : goal.invariant-loop-part
 invariant-loop-part g l = record {

@@ -1,0 +1,7 @@
+pub mod Told
+pub mod Joining
+pub mod Statuses
+pub mod Seen
+mod Templates
+mod Sends
+mod Replied

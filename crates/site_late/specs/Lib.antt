@@ -1,0 +1,4 @@
+pub mod Heads
+pub mod Sending
+pub mod Parts
+pub mod Ready
