@@ -2,3 +2,4 @@ pub mod CellsFound
 pub mod RightRows
 pub mod IndexLaws
 pub mod WriteCost
+pub mod Walked

@@ -1,6 +1,5 @@
 -- What writes cost: how many rows are put into buckets.
 use Rattle.std.proofs.Common.{ℕ, zero, suc, List, [], ◌∷◌, ◌≡◌, ◌≤◌, ◌<◌, ◌+◌, ◌*◌, length, get_or, take, fold, refl, sym, ◌∙◌, ap, subst, arith, Some, None}
-use Rattle.std.specs.Prelude.{map}
 use Rattle.std.proofs.lemmas.List.{length-map}
 use Rattle.bucket_map.specs.Buckets.{bucket_size, AtMost}
 use Rattle.bucket_map.proofs.Sizes.{size_put, size_cut, steps_more}

@@ -1,5 +1,6 @@
 -- The indexes of a state's rows.
-use Rattle.std.specs.Prelude.{List, ◌≡◌}
+use Rattle.std.specs.Prelude.{List, ◌≡◌, IsPermutation}
+use Rattle.std.specs.List.{flat_map}
 use Rattle.content_rows.specs.declared.cell.Cell.{Cell}
 use Rattle.content_rows.specs.declared.row.Row.{Row}
 use Rattle.index_law.specs.Index.{index_of}
@@ -13,6 +14,12 @@ use Rattle.row_keys.specs.contracts.rank.BlockKeyOrd.TheImpl as block_order
 use Rattle.indexed_rows.specs.TextKeys.{text_keys}
 use Rattle.indexed_rows.specs.contracts.text_mark.TextKeyOrd.TheImpl as text_order
 use Rattle.indexed_rows.specs.declared.indexes.Indexes.{Indexes}
+
+-- all keys that some rows give, by some walk over these
+pub record AreKeysOf {K : Type 0} (keys : Cell × Row → List K) (rows : List (Cell × Row)) (given : List K) : Type 0 where
+  pub walked : List (Cell × Row)
+  pub all : IsPermutation rows walked
+  pub given_is : given ≡ flat_map keys walked
 
 -- each index has the keys that the rows give, in order, each once, and no others
 pub record AreIndexes (rows : List (Cell × Row)) (indexes : Indexes) : Type 0 where

@@ -19,7 +19,7 @@ use Rattle.indexed_rows.specs.contracts.text_mark.TextMarkOrd.TheImpl.Laws as ma
 use Rattle.indexed_rows.specs.contracts.unique.UniqueOrd.TheImpl as unique_order
 use Rattle.indexed_rows.specs.contracts.text_mark.TextKeyOrd.TheImpl as key_order
 use Rattle.indexed_rows.specs.Texts.{text_of}
-use Rattle.indexed_rows.specs.TextKeys.{mark_of, mark_cmp, key_of, text_key, text_keys}
+use Rattle.indexed_rows.specs.TextKeys.{mark_cmp, key_of, text_key, text_keys}
 use Rattle.index_law.specs.Index.{TellsApart, NameOwners}
 use Rattle.row_keys.specs.Spans.{by_first, behind, before}
 

@@ -1,8 +1,10 @@
 //! The indexes of a state's rows: the keys that its rows give, in order.
-ghost use Rattle.std.specs.Prelude.{◌≡◌, IfOk, OnOk};
+ghost use Rattle.std.specs.Prelude.{◌≡◌, List, IfOk, OnOk};
 ghost use Rattle.std.specs.Option.{option_copied};
 ghost use Rattle.index_law.specs.Index.{index_of, keys_at};
-ghost use Rattle.indexed_rows.specs.Indexes.{AreIndexes};
+ghost use Rattle.content_rows.specs.declared.cell.Cell.{Cell};
+ghost use Rattle.content_rows.specs.declared.row.Row.{Row};
+ghost use Rattle.indexed_rows.specs.Indexes.{AreIndexes, AreKeysOf};
 ghost use Rattle.indexed_rows.specs.Write.{written};
 
 use crate::rows::Rows;
@@ -46,18 +48,35 @@ impl Drop for Indexes {
 }
 
 impl Indexes {
-    /// The indexes of some rows. `Err` only where memory is wanting.
+    /// The indexes of some rows, by one walk over them. `Err` only where memory is wanting.
     pub fn of(alloc: Global, rows: &Rows) -> Result<Indexes, AllocError>
         ensures { IfOk result (λ indexes. AreIndexes rows.now indexes) }
     {
+        let mut nodes = Vec::new(alloc);
+        let mut types = Vec::new(alloc);
+        let mut terms = Vec::new(alloc);
+        let mut parents = Vec::new(alloc);
+        let mut comments = Vec::new(alloc);
+        let mut blocks = Vec::new(alloc);
+        let mut texts = Vec::new(alloc);
+        'rows: for (cell, row) in rows.each() {
+            NodeRank::add(&mut nodes, cell, row)?;
+            TypeKey::add(&mut types, cell, row)?;
+            TermKey::add(&mut terms, cell, row)?;
+            ParentKey::add(&mut parents, cell, row)?;
+            CommentKey::add(&mut comments, cell, row)?;
+            BlockKey::add(&mut blocks, cell, row)?;
+            TextKey::add(&mut texts, cell, row)?;
+        }
+        // the longest keys first, since their room is free then
         Ok(Indexes {
-            nodes: set_of(alloc, rows)?,
-            types: set_of(alloc, rows)?,
-            terms: set_of(alloc, rows)?,
-            parents: set_of(alloc, rows)?,
-            comments: set_of(alloc, rows)?,
-            blocks: set_of(alloc, rows)?,
-            texts: set_of(alloc, rows)?,
+            texts: set_of(alloc, texts)?,
+            types: set_of(alloc, types)?,
+            terms: set_of(alloc, terms)?,
+            nodes: set_of(alloc, nodes)?,
+            parents: set_of(alloc, parents)?,
+            comments: set_of(alloc, comments)?,
+            blocks: set_of(alloc, blocks)?,
         })
     }
 
@@ -92,15 +111,14 @@ impl Indexes {
     }
 }
 
-/// The index of some rows.
-fn set_of<K: Key>(alloc: Global, rows: &Rows) -> Result<SharedSet<K>, AllocError>
-    ensures { IfOk result (λ set. set ≡ index_of K.cmp K.keys rows.now) }
+/// The index of the rows whose keys these are, in whatever order.
+fn set_of<K: Key>(alloc: Global, keys: Vec<K>) -> Result<SharedSet<K>, AllocError>
+    ensures { (rows : List (Cell × Row)) → AreKeysOf K.keys rows keys.items → IfOk result (λ set. set ≡ index_of K.cmp K.keys rows) }
 {
-    let mut keys = Vec::new(alloc);
-    'rows: for (cell, row) in rows.each() {
-        K::add(&mut keys, cell, row)?;
-    }
-    SharedSet::gathered(alloc, keys.as_slice())
+    let mut keys = keys;
+    keys.sort_unstable();
+    keys.dedup();
+    SharedSet::of(alloc, keys.as_slice())
 }
 
 /// Keeps an index of some rows through a write.

@@ -11,6 +11,9 @@ use site_hall::{Alone, Engine};
 use site_keeper::{MemoryKeeper, Stored};
 use std::alloc::{AllocError, Global};
 
+/// The greatest number that a site may begin with: 2^62.
+const GREATEST_NUMBER: u64 = 4_611_686_018_427_387_904;
+
 /// All that a keeper holds of a state.
 fn stored(alloc: Global, state: &State) -> Result<Stored, AllocError>
     requires { AreValidRows state.now.rows }
@@ -24,14 +27,17 @@ fn stored(alloc: Global, state: &State) -> Result<Stored, AllocError>
     })
 }
 
-/// The house of a caller that is alone with a valid site, over a keeper in memory that fails at no call. `Err` only where
-/// memory is wanting.
+/// The house of a caller that is alone with a valid site, over a keeper in memory that fails at no call. It shares the state,
+/// and looks at no row of it again. `Err` only where memory is wanting, or where no site begins with the number of the state.
 pub fn alone_with(alloc: Global, state: &State) -> Result<Alone<MemoryKeeper>, AllocError>
     requires { IsValidState state.now }
     ensures { IfOk result (λ alone. house_of alone ≡ opened_on state.now) }
 {
+    if state.number() > GREATEST_NUMBER {
+        return Err(AllocError);
+    }
     let keeper = MemoryKeeper::new(alloc, stored(alloc, state)?, Vec::new(alloc));
-    match Engine::new(alloc, keeper, stored(alloc, state)?) {
+    match Engine::over(alloc, keeper, state.duplicate(alloc)?) {
         Ok(hall) => Ok(Alone::new(alloc, hall)),
         Err(_) => Err(AllocError),
     }

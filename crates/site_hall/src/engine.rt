@@ -5,7 +5,7 @@ ghost use Rattle.std.specs.Option.{option_copied};
 ghost use Rattle.content_rows.specs.Kinds.{IsMoment};
 ghost use Rattle.content_state.specs.Replay.{replay};
 ghost use Rattle.indexed_rows.specs.Rows.{AreValidRows};
-ghost use Rattle.content_state.specs.SiteRules.{IsRefusal};
+ghost use Rattle.content_state.specs.SiteRules.{IsRefusal, IsValidState};
 ghost use Rattle.site_commands.specs.Right.{IsRight};
 ghost use Rattle.site_keeper.specs.Keeper.{IfTold, Kept as KeptValue};
 ghost use Rattle.site_keeper.specs.Steps.{stored_of};
@@ -159,6 +159,31 @@ impl<K: Keeper> Engine<K> {
                 stored: None,
                 why: Refusal::OutOfMemory,
             }),
+        }
+    }
+
+    /// The engine of a valid state that a keeper holds. It shares all of the state, and looks at no row of it again. No edit is
+    /// published yet, and none is pending. Nothing is kept of pages yet, and the bins have the program's room. Where memory is
+    /// wanting, the keeper comes back.
+    pub fn over(alloc: Global, keeper: K, base: State) -> Result<Engine<K>, AllocFailed<K>>
+        requires told { IfTold (K.kept keeper) (λ held. held ≡ stored_of base) }
+        requires valid { IsValidState base }
+        requires small { base.number ≤ 2 ^ 62 }
+        ensures opened { IfOk result (λ hall. hall ≡ opened_with (stored_of base) (K.kept keeper) (K.faults keeper) (K.steadfast keeper)) }
+        ensures is_hall { IfOk result (λ hall. IsHall hall) }
+        ensures back { IfErr result (λ failed. failed.value ≡ keeper) }
+    {
+        let Ok(stock) = Stock::new(alloc, Rooms::of_program()) else {
+            return Err(AllocFailed { value: keeper });
+        };
+        match Log::new(alloc, base) {
+            Ok(log) => Ok(Engine {
+                log,
+                pending: None,
+                stock,
+                keeper,
+            }),
+            Err(_) => Err(AllocFailed { value: keeper }),
         }
     }
 

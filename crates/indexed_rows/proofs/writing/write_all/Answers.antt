@@ -1,4 +1,4 @@
-use Rattle.std.proofs.Common.{rules, arith, ◌≡◌, ◌≤◌, ◌<◌, ◌+◌, ◌*◌, length, subst, sym}
+use Rattle.std.proofs.Common.{rules, arith, ◌≡◌, ◌≤◌, ◌+◌, length, subst, sym}
 use Rattle.bucket_map.specs.Buckets.{bucket_size}
 use Rattle.bucket_map.proofs.Sizes.{steps_all}
 use Rattle.cell_keys.specs.Places.{cell_place}

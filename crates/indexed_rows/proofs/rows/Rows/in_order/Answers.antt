@@ -1,4 +1,4 @@
-use Rattle.std.proofs.Common.{◌≡◌, ◌∙◌, ◌+◌, ◌++◌, List, [], ◌∷◌, Some, None, Bor, ap, sym, append-nil, drop, map, vec_items}
+use Rattle.std.proofs.Common.{◌≡◌, ◌∙◌, ◌+◌, ◌++◌, List, ◌∷◌, Some, None, Bor, ap, sym, append-nil, drop, map, vec_items}
 use Rattle.std.specs.Map.{keys_of}
 use Rattle.std.proofs.lemmas.List.{drop_all, drop_more}
 use Rattle.content_rows.specs.declared.cell.Cell.{Cell}

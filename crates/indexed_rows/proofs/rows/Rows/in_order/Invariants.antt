@@ -1,5 +1,5 @@
 use Rattle.std.proofs.Common.{◌≡◌, ◌++◌, map, drop}
-use Rattle.indexed_rows.specs.Rows.{shown, InOrder}
+use Rattle.indexed_rows.specs.Rows.{shown}
 use Rattle.indexed_rows.proofs.CellsFound.{entries_at}
 use Rattle.indexed_rows.proofs.rows.Rows.in_order.Given as goal
 
