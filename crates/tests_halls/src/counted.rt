@@ -57,6 +57,13 @@ const CLOCK: &str =
 const SLOW_CLOCK: &str =
     "{\"age\":60,\"cell\":\"block:one\",\"hide\":false,\"kind\":\"clock\",\"label\":\"\",\"name\":null,\"paths\":[],\"region\":\"aside\",\"roles\":[],\"text\":null,\"weight\":0}\n";
 
+// Listings of what is a year old at most, which may be shown for a minute, and at their own moment alone.
+const RECENT: &str =
+    "{\"age\":60,\"cell\":\"listing:recent\",\"path\":null,\"promoted\":false,\"recent\":31536000,\"term\":null,\"title\":\"Recent\",\"types\":[]}\n";
+
+const RECENT_NOW: &str =
+    "{\"age\":0,\"cell\":\"listing:recent\",\"path\":null,\"promoted\":false,\"recent\":31536000,\"term\":null,\"title\":\"Recent\",\"types\":[]}\n";
+
 // Requests over a site at these moments, how many elements are built for each reply, and pieces of the replies, in order.
 #[derive(Drop)]
 struct Case {
@@ -249,6 +256,88 @@ fn what_is_kept_is_not_built(rt: HostRuntime) {
             moments: &[100, 90],
             requests: &[PAGE, PAGE],
             built: [2, 2, 0, 0, 0, 0, 0, 0],
+            pieces: &[],
+        },
+    ];
+    for case in &cases {
+        let (text, built) = served(&rt, case).expect(&rt, "memory");
+        assert!(rt; built == case.built);
+        assert!(rt; in_order(&text, case.pieces));
+    }
+}
+
+const JSON: &str = "GET /json/node/1 HTTP/1.1\r\nHost: a\r\n\r\n";
+
+const JSON_BY_ABC: &str = "GET /json/node/1 HTTP/1.1\r\nHost: a\r\nCookie: SESS=abc\r\n\r\n";
+
+const JSON_FRONT: &str = "GET /json/listing/frontpage HTTP/1.1\r\nHost: a\r\n\r\n";
+
+const JSON_NOWHERE: &str = "GET /json/node/9 HTTP/1.1\r\nHost: a\r\n\r\n";
+
+const JSON_RECENT: &str = "GET /json/listing/recent HTTP/1.1\r\nHost: a\r\n\r\n";
+
+const JSON_RECENT_BY_ABC: &str =
+    "GET /json/listing/recent HTTP/1.1\r\nHost: a\r\nCookie: SESS=abc\r\n\r\n";
+
+// What is told as JSON is one element, whatever it tells of.
+#[test]
+fn what_is_told_as_json_is_kept(rt: HostRuntime) {
+    let cases = [
+        // A node, for visitors, and for whom all is permitted, and once more after an edit of it.
+        Case {
+            placed: "",
+            moments: &[1000],
+            requests: &[JSON, JSON, JSON_BY_ABC, JSON_BY_ABC, EDIT, JSON, JSON],
+            built: [1, 0, 1, 0, 0, 1, 0, 0],
+            pieces: &["\"title\":\"First\"", "\"title\":\"A\"", "\"title\":\"A\""],
+        },
+        // A listing of two nodes, and what isn't there, beside their pages.
+        Case {
+            placed: "",
+            moments: &[1000],
+            requests: &[
+                JSON_FRONT,
+                JSON_FRONT,
+                FRONT,
+                JSON_NOWHERE,
+                JSON_NOWHERE,
+                NOWHERE,
+                JSON_FRONT,
+            ],
+            built: [1, 0, 4, 1, 0, 1, 0, 0],
+            pieces: &[
+                "{\"code\":\"no-target\"}",
+                "{\"code\":\"no-target\"}",
+                "<!DOCTYPE html>",
+            ],
+        },
+        // A listing that may be shown for a minute.
+        Case {
+            placed: RECENT,
+            moments: &[1000, 1060, 1061, 1062],
+            requests: &[JSON_RECENT, JSON_RECENT, JSON_RECENT, JSON_RECENT],
+            built: [1, 0, 1, 0, 0, 0, 0, 0],
+            pieces: &[],
+        },
+        // The same, for a session.
+        Case {
+            placed: RECENT,
+            moments: &[1000, 1060, 1061, 1062],
+            requests: &[
+                JSON_RECENT_BY_ABC,
+                JSON_RECENT_BY_ABC,
+                JSON_RECENT_BY_ABC,
+                JSON_RECENT_BY_ABC,
+            ],
+            built: [1, 0, 1, 0, 0, 0, 0, 0],
+            pieces: &[],
+        },
+        // One that may be shown at its own moment alone isn't kept.
+        Case {
+            placed: RECENT_NOW,
+            moments: &[1000, 1000, 1001],
+            requests: &[JSON_RECENT, JSON_RECENT, JSON_RECENT],
+            built: [1, 1, 1, 0, 0, 0, 0, 0],
             pieces: &[],
         },
     ];

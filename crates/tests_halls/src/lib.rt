@@ -13,6 +13,8 @@ mod failing;
 #[cfg(test)]
 mod keeping;
 #[cfg(test)]
+mod late;
+#[cfg(test)]
 mod pieces;
 #[cfg(test)]
 mod rooms;

@@ -86,6 +86,10 @@ POST /node/1/comments
 POST /node/1/2/comment
 POST /node/comment
 POST node/1/comment
+POST /json/node
+POST /json/node/1/comment
+PATCH /json/node/1
+DELETE /json/node/1
 PATCH /comment
 PATCH /comment/
 PATCH /comment/1/2

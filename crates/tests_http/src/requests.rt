@@ -252,7 +252,7 @@ fn is_session(found: &Option<Name>, session: &[u8]) -> bool {
 }
 
 /// The version and the fields; whether the request closes; the session, empty for none.
-const FIELDS: [(&[u8], bool, &[u8]); 15] = [
+const FIELDS: [(&[u8], bool, &[u8]); 17] = [
     (b"1.1\r\n", false, b""),
     (b"1.0\r\n", true, b""),
     (b"1.1\r\nConnection: keep-alive, Close\r\n", true, b""),
@@ -276,12 +276,43 @@ const FIELDS: [(&[u8], bool, &[u8]); 15] = [
     (b"1.1\r\nCookie: SESS =abc\r\n", false, b""),
     (b"1.1\r\nCookie: SESS=\r\n", false, b""),
     (b"1.1\r\nX-Cookie: SESS=abc\r\n", false, b""),
+    (b"1.1\r\nX-Late: 1\r\n", true, b""),
+    (b"1.1\r\nX-Late: 0\r\n", false, b""),
 ];
 
 #[test]
 fn closing_and_sessions(rt: HostRuntime) {
     for (fields, closes, session) in &FIELDS {
         assert!(rt; closes_with(rt.alloc(), fields, *closes, session) == Ok(true));
+    }
+}
+
+/// Whether the request that bytes begin with is one whose parts are sent late, or isn't; one that is asks to close.
+fn is_late_or_not(alloc: Global, bytes: &[u8], late: bool) -> Result<bool, AllocError> {
+    let parsed = parse(alloc, bytes)?;
+    Ok(match request_in(&parsed) {
+        Some((request, _)) => request.late == late && (request.closes || !late),
+        None => false,
+    })
+}
+
+/// A request, and whether its parts are sent late.
+const LATE: [(&[u8], bool); 9] = [
+    (b"GET / HTTP/1.1\r\nX-Late: 1\r\n\r\n", true),
+    (b"GET / HTTP/1.0\r\nx-late:1\r\n\r\n", true),
+    (b"GET / HTTP/1.1\r\nX-LATE: \t1 \r\n\r\n", true),
+    (b"GET / HTTP/1.1\r\nX-Late: 0\r\nX-Late: 1\r\n\r\n", true),
+    (b"GET / HTTP/1.1\r\nX-Late: 11\r\n\r\n", false),
+    (b"GET / HTTP/1.1\r\nX-Late:\r\n\r\n", false),
+    (b"GET / HTTP/1.1\r\nLate: 1\r\n\r\n", false),
+    (b"POST / HTTP/1.1\r\nX-Late: 1\r\n\r\n", false),
+    (b"get / HTTP/1.1\r\nX-Late: 1\r\n\r\n", false),
+];
+
+#[test]
+fn parts_sent_late(rt: HostRuntime) {
+    for (bytes, late) in &LATE {
+        assert!(rt; is_late_or_not(rt.alloc(), bytes, *late) == Ok(true));
     }
 }
 
@@ -321,7 +352,7 @@ fn is_written(alloc: Global, head: &ReplyHead, want: &[u8]) -> Result<bool, Allo
 #[test]
 fn heads_of_replies(rt: HostRuntime) {
     let token = Name::new(b"00000000000000030000000000000004").expect(&rt, "a name");
-    let table: [(ReplyHead, &[u8]); 5] = [
+    let table: [(ReplyHead, &[u8]); 7] = [
         (
             ReplyHead {
                 media: Media::Html,
@@ -341,6 +372,23 @@ fn heads_of_replies(rt: HostRuntime) {
                 ..plain(303)
             },
             b"HTTP/1.1 303 See Other\r\nContent-Type: text/html; charset=UTF-8\r\nContent-Length: 0\r\nLocation: /user/2\r\nSet-Cookie: SESS=00000000000000030000000000000004; Path=/; HttpOnly; SameSite=Lax\r\nX-Site-State: 18446744073709551615\r\n\r\n",
+        ),
+        (
+            ReplyHead {
+                length: Some(110),
+                state: Some(0),
+                ..plain(200)
+            },
+            b"HTTP/1.1 200 OK\r\nContent-Type: application/json\r\nContent-Length: 110\r\nX-Site-State: 0\r\n\r\n",
+        ),
+        (
+            ReplyHead {
+                length: Some(67),
+                state: Some(4),
+                close: true,
+                ..plain(403)
+            },
+            b"HTTP/1.1 403 Forbidden\r\nContent-Type: application/json\r\nContent-Length: 67\r\nX-Site-State: 4\r\nConnection: close\r\n\r\n",
         ),
         (
             ReplyHead {

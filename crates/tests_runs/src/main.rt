@@ -17,7 +17,7 @@ use std::thread::Threads;
 use std::{fs, io};
 
 /// The files of cases.
-const FILES: [&str; 16] = [
+const FILES: [&str; 20] = [
     "program.cases",
     "jobs.cases",
     "serving.cases",
@@ -29,11 +29,15 @@ const FILES: [&str; 16] = [
     "access.cases",
     "parents.cases",
     "comments.cases",
+    "json.cases",
+    "late.cases",
     "model_rows.cases",
     "model_pages.cases",
     "model_edits.cases",
     "model_parents.cases",
     "model_comments.cases",
+    "model_json.cases",
+    "model_late.cases",
 ];
 
 /// Runs a case, and tells each section of it that differs, a line each.

@@ -3,7 +3,7 @@
 use crate::site::site;
 use access_result::AccessResult;
 use cacheability::{Name, Op};
-use content_state::{Route, State, Viewer};
+use content_state::{Route, State, Viewer, route_of};
 use site_access::{
     create_access, field_access, field_in, node_access, route_access, term_access, user_access,
 };
@@ -21,6 +21,7 @@ enum To {
     Field(u32, &'static [u8]),
     Term(u32),
     User(u32),
+    Path(&'static [u8]),
     Login,
 }
 
@@ -62,6 +63,20 @@ fn decided_field(
     }
 }
 
+/// Access to viewing what a path leads to; `Err` also where that is nothing.
+fn path_access(
+    alloc: Global,
+    state: &State,
+    viewer: &Viewer,
+    path: &[u8],
+) -> Result<AccessResult, AllocError> {
+    let (to, _) = route_of(alloc, state, path)?;
+    match to {
+        Route::Nothing => Err(AllocError),
+        _ => route_access(alloc, state, viewer, &to),
+    }
+}
+
 /// What is decided; `Err` also where what access is asked to is absent.
 fn decided(alloc: Global, state: &State, uid: u32, to: To) -> Result<AccessResult, AllocError> {
     let viewer = Viewer { uid, session: None };
@@ -71,6 +86,7 @@ fn decided(alloc: Global, state: &State, uid: u32, to: To) -> Result<AccessResul
         To::Field(n, field) => decided_field(alloc, state, &viewer, n, &name(field)?),
         To::Term(t) if state.term(t).0.is_some() => term_access(alloc, state, &viewer, t),
         To::User(u) if state.user(u).0.is_some() => user_access(alloc, state, &viewer, u),
+        To::Path(path) => path_access(alloc, state, &viewer, path),
         To::Login => route_access(alloc, state, &viewer, &Route::Login),
         _ => Err(AllocError),
     }
@@ -96,7 +112,7 @@ fn depends_on(
 fn what_access_depends_on(rt: HostRuntime) {
     let state = site(rt.alloc(), "/node").expect(&rt, "memory");
     // who views, to what, and what is told
-    let cases: [(u32, To, &[u8]); 11] = [
+    let cases: [(u32, To, &[u8]); 15] = [
         (
             0,
             To::Node(Op::View, 1),
@@ -127,6 +143,26 @@ fn what_access_depends_on(rt: HostRuntime) {
         (0, To::Term(3), b"taxonomy_term:3 | user.permissions"),
         (0, To::User(2), b"user:2 | user user.permissions"),
         (1, To::User(2), b"user:2 | user.permissions"),
+        (
+            2,
+            To::Path(b"/json/node/3"),
+            b"node:3 | user user.node_grants:view user.permissions",
+        ),
+        (
+            0,
+            To::Path(b"/json/term/3"),
+            b"taxonomy_term:3 | user.permissions",
+        ),
+        (
+            0,
+            To::Path(b"/json/user/2"),
+            b"user:2 | user user.permissions",
+        ),
+        (
+            0,
+            To::Path(b"/json/listing/frontpage"),
+            b"| user.permissions",
+        ),
         (0, To::Login, b"|"),
     ];
     for (uid, to, expected) in cases {

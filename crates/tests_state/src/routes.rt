@@ -2,7 +2,7 @@
 
 use crate::site::site;
 use cacheability::{Name, Tag};
-use content_state::{Route, State, route_of};
+use content_state::{Entity, Route, State, route_of};
 use site_lists::{list_tags, query_value};
 use std::alloc::{AllocError, Global};
 use std::test::Fail;
@@ -14,6 +14,10 @@ fn word(route: &Route) -> (&'static str, u32) {
         Route::Term(t) => ("term", *t),
         Route::User(u) => ("user", *u),
         Route::Listing(_) => ("listing", 0),
+        Route::Json(Entity::Node(n)) => ("node as JSON", *n),
+        Route::Json(Entity::Term(t)) => ("term as JSON", *t),
+        Route::Json(Entity::User(u)) => ("user as JSON", *u),
+        Route::Json(Entity::Listing(_)) => ("listing as JSON", 0),
         Route::Login => ("login", 0),
         Route::Nothing => ("nothing", 0),
     }
@@ -82,6 +86,85 @@ fn where_paths_lead(rt: HostRuntime) {
             &[Tag::NotFound, Tag::Term(4), Tag::Site],
         ),
         ("/nowhere", "/", ("nothing", 0), &[Tag::NotFound, Tag::Site]),
+    ];
+    for (front, path, to, tags) in cases {
+        assert!(rt; leads(rt.alloc(), front, path, to, tags) == Ok(true));
+    }
+}
+
+/// A path below `/json/` leads to what it names, and to nothing else: a number that isn't there is covered by its tag, and a
+/// name by that of what is not found. `/` leads nowhere where the front path is one of JSON.
+#[test]
+fn where_paths_of_json_lead(rt: HostRuntime) {
+    let frontpage = Name::new(b"frontpage").expect(&rt, "a name");
+    // the front path, the path, the word and the number of what is there, and the tags
+    let cases: [(&str, &str, (&str, u32), &[Tag]); 16] = [
+        (
+            "/node",
+            "/json/node/1",
+            ("node as JSON", 1),
+            &[Tag::Node(1)],
+        ),
+        (
+            "/node",
+            "/json/term/3",
+            ("term as JSON", 3),
+            &[Tag::Term(3)],
+        ),
+        (
+            "/node",
+            "/json/user/7",
+            ("user as JSON", 7),
+            &[Tag::User(7)],
+        ),
+        (
+            "/node",
+            "/json/listing/frontpage",
+            ("listing as JSON", 0),
+            &[Tag::Listing(frontpage)],
+        ),
+        (
+            "/node",
+            "/json/node/4",
+            ("nothing", 0),
+            &[Tag::NotFound, Tag::Node(4)],
+        ),
+        (
+            "/node",
+            "/json/term/4",
+            ("nothing", 0),
+            &[Tag::NotFound, Tag::Term(4)],
+        ),
+        (
+            "/node",
+            "/json/user/8",
+            ("nothing", 0),
+            &[Tag::NotFound, Tag::User(8)],
+        ),
+        (
+            "/node",
+            "/json/listing/none",
+            ("nothing", 0),
+            &[Tag::NotFound],
+        ),
+        ("/node", "/json/node/01", ("nothing", 0), &[Tag::NotFound]),
+        ("/node", "/json/node/1/", ("nothing", 0), &[Tag::NotFound]),
+        ("/node", "/json/about", ("nothing", 0), &[Tag::NotFound]),
+        ("/node", "/json/", ("nothing", 0), &[Tag::NotFound]),
+        ("/node", "/json", ("nothing", 0), &[Tag::NotFound]),
+        ("/node", "/jsonnode/1", ("nothing", 0), &[Tag::NotFound]),
+        (
+            "/json/node/1",
+            "/",
+            ("nothing", 0),
+            &[Tag::NotFound, Tag::Node(1), Tag::Site],
+        ),
+        (
+            "/json/listing/frontpage",
+            "/",
+            ("nothing", 0),
+            &[Tag::NotFound, Tag::Site],
+        ),
     ];
     for (front, path, to, tags) in cases {
         assert!(rt; leads(rt.alloc(), front, path, to, tags) == Ok(true));
