@@ -6,7 +6,7 @@ import re
 from dataclasses import dataclass
 from typing import Callable
 
-KEPT_SEGMENTS = ("node", "taxonomy", "user", "config", "cache")
+KEPT_SEGMENTS = ("node", "taxonomy", "user", "config", "cache", "json")
 BLOCK_KINDS = ("text", "menu", "listing", "greeting", "csrf", "clock")
 REGIONS = ("header", "aside", "footer")
 FRONT = "<front>"

@@ -11,8 +11,11 @@ Rows = Mapping[Cell, Mapping[str, Any]]
 LOGIN = Cell("login")
 OF_EDITS = ("/node", "/taxonomy/term", "/user", "/user/login", "/user/logout", "/cache/rebuild")
 """The paths of edits that name no row."""
+AS_JSON = "/json/"
+"""What paths begin with that are answered as JSON."""
 _NUMBERED = re.compile(r"/(node|taxonomy/term|user)/([1-9][0-9]{0,9})")
 _KIND_OF = {"node": "node", "taxonomy/term": "term", "user": "user"}
+_ENTITY = re.compile(AS_JSON + r"(?:(node|term|user)/([1-9][0-9]{0,9})|(listing)/([a-z0-9_]{1,64}))")
 
 
 def paths_of(rows: Rows) -> dict[str, Cell]:
@@ -24,14 +27,20 @@ def route(rows: Rows, paths: Mapping[str, Cell], path: str) -> Optional[Cell]:
     """The row that a path shows, `LOGIN` for the login form, none where nothing is there."""
     if path == "/":
         front = rows[Cell("site")]["front"]
-        return route(rows, paths, front) if front != "/" else None
+        return route(rows, paths, front) if front != "/" and not front.startswith(AS_JSON) else None
     if path == "/user/login":
         return LOGIN
     numbered = _NUMBERED.fullmatch(path)
     if numbered:
-        cell = Cell(_KIND_OF[numbered[1]], numbered[2])
-        return cell if cell in rows else None
+        return _if_there(rows, Cell(_KIND_OF[numbered[1]], numbered[2]))
+    entity = _ENTITY.fullmatch(path)
+    if entity:
+        return _if_there(rows, Cell(entity[1] or entity[3], entity[2] or entity[4]))
     return paths.get(path)
+
+
+def _if_there(rows: Rows, cell: Cell) -> Optional[Cell]:
+    return cell if cell in rows else None
 
 
 def is_answered(rows: Rows, paths: Mapping[str, Cell], path: str) -> bool:

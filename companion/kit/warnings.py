@@ -89,7 +89,7 @@ def _absent_rows(rows: Rows) -> Iterator[Warning]:
 def _front(rows: Rows) -> Iterator[Warning]:
     site = Cell("site")
     front = rows[site]["front"]
-    shown = route(rows, paths_of(rows), front)
+    shown = route(rows, paths_of(rows), "/")
     if shown is None:
         yield Warning("path", site, f"the front path {front} leads nowhere{guess(front, list(paths_of(rows)))}")
     elif not may_visitors_see(rows, shown):

@@ -14,9 +14,9 @@ WHOLES = (
 )  # fmt: skip
 TEXTS = (
     "", "x", "A", "a b", "/", "//", "/a", "/a/", "/a//b", "a/b", "/node", "/node/1", "/user", "/usera", "/cache/x", "/config",
-    "/taxonomy/term/1", "/nodes", "/A", "/a.b", "/é", "<front>", "<FRONT>", "text", "menu", "listing", "greeting", "csrf", "clock", "header",
-    "aside", "footer", "anonymous", "authenticated", "null", "\x00", "\x1f", "\x7f", "\t", "\n", "\r\n", "é", "a\u0301", "\U0001f600", "ü" * 30,
-    "ü" * 31, "ab-c", "ab_c", "0" * 31, "0" * 32, "0" * 33, "f" * 64, "f" * 63, "g" * 64, "F" * 64, "administer nodes",
+    "/json", "/json/node/1", "/jsonx", "/taxonomy/term/1", "/nodes", "/A", "/a.b", "/é", "<front>", "<FRONT>", "text", "menu", "listing",
+    "greeting", "csrf", "clock", "header", "aside", "footer", "anonymous", "authenticated", "null", "\x00", "\x1f", "\x7f", "\t", "\n",
+    "\r\n", "é", "a\u0301", "\U0001f600", "ü" * 30, "ü" * 31, "ab-c", "ab_c", "0" * 31, "0" * 32, "0" * 33, "f" * 64, "f" * 63, "g" * 64, "F" * 64, "administer nodes",
 )  # fmt: skip
 LENGTHS = (60, 61, 64, 65, 128, 129, 255, 256, 257, 65_536, 65_537)
 CELLS = (

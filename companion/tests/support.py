@@ -5,6 +5,7 @@ from __future__ import annotations
 import contextlib
 import http.client
 import os
+import re
 import shutil
 import signal
 import socket
@@ -20,6 +21,7 @@ COMPANION = Path(__file__).resolve().parents[1]
 REPOSITORY = COMPANION.parent
 SITEKIT = COMPANION / "sitekit"
 SAMPLES = REPOSITORY / "samples"
+DEPLOY = REPOSITORY / "deploy"
 sys.path.insert(0, str(COMPANION))
 
 from kit import crawl as sitekit_crawl  # noqa: E402
@@ -49,7 +51,7 @@ def needs(*words: str) -> Callable[[Any], Any]:
 
 
 NGINX = """\
-daemon off; worker_processes 1; pid {room}/nginx.pid; error_log {room}/error.log;
+{user} daemon off; worker_processes 1; pid {room}/nginx.pid; error_log {room}/error.log;
 events {{ worker_connections 64; }}
 http {{
     access_log off;
@@ -130,7 +132,8 @@ class Case(unittest.TestCase):
     def nginx(self, http: str, server: str) -> Iterator[int]:
         """An nginx with these words in its blocks `http` and `server`; gives its port."""
         port = free_port()
-        self.write("nginx.conf", NGINX.format(room=self.room, port=port, http=http, server=server))
+        user = "user root;" if os.geteuid() == 0 else ""  # its workers read files of the test's folder
+        self.write("nginx.conf", NGINX.format(user=user, room=self.room, port=port, http=http, server=server))
         words = ["nginx", "-p", str(self.room), "-e", self.path("error.log"), "-c", self.path("nginx.conf")]
         with subprocess.Popen(words, stderr=subprocess.DEVNULL, env=self.environment) as process:
             try:
@@ -143,6 +146,27 @@ class Case(unittest.TestCase):
         """An nginx in front of a served site, with a file of old addresses."""
         server = f"if ($site_moved) {{ return 301 $site_moved; }} location / {{ proxy_pass {site.address}; }}"
         return self.nginx(f"include {redirects};", server)
+
+    @contextlib.contextmanager
+    def deployed(self, site_port: int, redirects: bytes = b"", sends_late: bool = False) -> Iterator[int]:
+        """The nginx of deploy/ in front of a site at a port, with files and ports of the test's own; gives the port of HTTPS."""
+        port = free_port()
+        for file in (DEPLOY / "site.css", DEPLOY / "late.js", DEPLOY / "program.conf", *(COMPANION / "editor").glob("editor.*")):
+            self.write(file.name, file.read_bytes())
+        self.write("redirects.conf", redirects or (DEPLOY / "redirects.conf").read_bytes())
+        words = ["openssl", "req", "-x509", "-newkey", "rsa:2048", "-nodes", "-days", "2", "-subj", "/CN=example.org"]
+        files = ["-keyout", self.path("privkey.pem"), "-out", self.path("fullchain.pem")]
+        subprocess.run([*words, *files], check=True, capture_output=True)
+        text = re.sub(r"^ *listen \[::\].*$", "", (DEPLOY / "nginx.conf").read_text(encoding="utf-8"), flags=re.M)
+        for old, new in (
+            ("/etc/nginx/site", str(self.room)), ("/etc/ssl/site", str(self.room)), ("/var/log/nginx", str(self.room)), ("127.0.0.1:8080", f"127.0.0.1:{site_port}"),
+            ("listen 80;", f"listen 127.0.0.1:{free_port()};"), ("listen 443 ssl", f"listen 127.0.0.1:{port} ssl"), ("set $site_sends_late 0;", f"set $site_sends_late {int(sends_late)};"),
+        ):  # fmt: skip
+            self.assertIn(old, text)
+            text = text.replace(old, new)
+        self.write("site.conf", text)
+        with self.nginx(f"include {self.room}/site.conf;", "return 200;"):
+            yield port
 
     def log_in(self, name: str = "admin", password: str = "oar") -> None:
         """Logs in at the served site."""

@@ -120,6 +120,21 @@ class Lint(support.Case):
             self.assertIn(words, said)
         self.run_kit("lint", "--strict", self.path("site.rows"), status=1)
 
+    def test_paths_below_json(self) -> None:
+        def change(rows: dict[str, dict[str, Any]]) -> None:
+            rows["site"]["front"] = "/json/node/1"
+            for number, link in enumerate(rows["menu:main"]["links"]):
+                link["path"] = f"/json/node/{1 if number == 0 else 99}"
+
+        said = self.run_kit("lint", "--all", self.site(change)).stdout
+        self.assertIn("the front path /json/node/1 leads nowhere", said)
+        self.assertIn("leads to /json/node/99, where nothing is", said)
+        self.assertNotIn("leads to /json/node/1,", said)
+        for path in ("/json", "/json/x"):
+            said = self.run_kit("lint", self.site(lambda rows: rows["node:1"].update(path=path)), status=3).stdout
+            self.assertIn(f"node:1: path: '{path}' ", said)
+            self.assertIn("[reserved]", said)
+
     def test_onto_a_site(self) -> None:
         site = self.site(lambda rows: None)
         user = {**mutate.small_site()[7], "cell": "user:3", "name": "u2"}

@@ -5,7 +5,6 @@ from __future__ import annotations
 import http.client
 import re
 import ssl
-import subprocess
 
 import support
 from kit.redirects import Redirects
@@ -49,24 +48,6 @@ class Nginx(support.Case):
 
 
 class Deployed(support.Case):
-    def configured(self, site: support.Server) -> int:
-        """Puts the files of deploy/ into the test's folder, with ports of their own, and gives that of HTTPS."""
-        deploy, port = support.REPOSITORY / "deploy", support.free_port()
-        for name in ("site.css", "program.conf"):
-            self.write(name, (deploy / name).read_bytes())
-        words = ["openssl", "req", "-x509", "-newkey", "rsa:2048", "-nodes", "-days", "2", "-subj", "/CN=example.org"]
-        files = ["-keyout", self.path("privkey.pem"), "-out", self.path("fullchain.pem")]
-        subprocess.run([*words, *files], check=True, capture_output=True)
-        text = re.sub(r"^ *listen \[::\].*$", "", (deploy / "nginx.conf").read_text(encoding="utf-8"), flags=re.M)
-        for old, new in (
-            ("/etc/nginx/site", str(self.room)), ("/etc/ssl/site", str(self.room)), ("/var/log/nginx", str(self.room)), ("127.0.0.1:8080", f"127.0.0.1:{site.port}"),
-            ("listen 80;", f"listen 127.0.0.1:{support.free_port()};"), ("listen 443 ssl", f"listen 127.0.0.1:{port} ssl"),
-        ):  # fmt: skip
-            self.assertIn(old, text)
-            text = text.replace(old, new)
-        self.write("site.conf", text)
-        return port
-
     def ask(self, port: int, method: str, path: str) -> tuple[int, str, str]:
         """The status of a request over TLS, where it sends a browser, and what it shows."""
         connection = http.client.HTTPSConnection("127.0.0.1", port, timeout=support.SECONDS, context=ssl._create_unverified_context())
@@ -80,10 +61,9 @@ class Deployed(support.Case):
     def test_the_files_of_deploy(self) -> None:
         redirects = Redirects()
         redirects.add("/old.html", "/welcome")
-        self.write("redirects.conf", redirects.conf("redirects.conf"))
-        with self.served(self.imported(self.new_site())) as site:
-            port = self.configured(site)
-            with self.nginx(f"include {self.room}/site.conf;", "return 200;"):
-                self.assertIn('<link rel="stylesheet" href="/site.css">', self.ask(port, "GET", "/")[2])
-                self.assertEqual(self.ask(port, "HEAD", "/")[::2], (200, ""))
-                self.assertEqual(self.ask(port, "GET", "/old.html?x=1")[:2], (301, "/welcome"))
+        with self.served(self.imported(self.new_site())) as site, self.deployed(site.port, redirects.conf("redirects.conf").encode()) as port:
+            self.assertIn('<link rel="stylesheet" href="/site.css">', self.ask(port, "GET", "/")[2])
+            self.assertEqual(self.ask(port, "HEAD", "/")[::2], (200, ""))
+            self.assertEqual(self.ask(port, "GET", "/old.html?x=1")[:2], (301, "/welcome"))
+            self.assertIn('<script type="module" src="/editor.js">', self.ask(port, "GET", "/editor.html")[2])
+            self.assertEqual(self.ask(port, "GET", "/editor.nothing")[0], 404)
