@@ -1,0 +1,7 @@
+mod FirstItems
+mod InOrder
+pub mod Judged
+mod Known
+pub mod Ordered
+mod Reading
+mod Texts

@@ -1,0 +1,4 @@
+pub mod Brief
+pub mod Keys
+pub mod Object
+pub mod Reads
