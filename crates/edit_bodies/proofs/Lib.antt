@@ -1,3 +1,3 @@
 pub mod HexDigits
 pub mod RightCommands
-pub mod Values
+mod SameCommands

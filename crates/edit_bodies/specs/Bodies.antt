@@ -1,10 +1,8 @@
 -- What the bytes of a body say, by what is read of them.
-use Rattle.std.specs.Prelude.{ℕ, List, Option, Some, None, option_map, codes, if◌then◌else◌}
-use Rattle.std.specs.Option.{option_and_then}
-use Rattle.std.specs.Str.{is_utf8}
-use Rattle.serde_json.specs.Data.{Data, object, no_members}
-use Rattle.serde_json.specs.Read.{read}
-use Rattle.serde_json.specs.View.{view}
+use Rattle.std.specs.Prelude.{ℕ, List, Option, Some, None, option_map, codes}
+use Rattle.serde_json.specs.Data.{Data}
+use Rattle.sent_objects.specs.Object.{no_object, object_of}
+use Rattle.sent_objects.specs.Object.{object_in as told}
 use Rattle.site_lists.specs.Paging.{value_in}
 use Rattle.edit_paths.specs.declared.media.Reads.{Reads}
 use Rattle.edit_paths.specs.declared.media.Reads.TheVariants as reads
@@ -12,33 +10,18 @@ use Rattle.edit_bodies.specs.declared.body.Body.{Body}
 use Rattle.edit_bodies.specs.declared.body.Body.TheVariants as body
 use Rattle.edit_bodies.specs.declared.body.Form.{Form}
 
--- the value of JSON that bytes are (RFC 8259)
-abbrev pub value_of : List ℕ → Option Data
-value_of bytes = if is_utf8 bytes then read bytes else None
-
-abbrev pub object_if : Data → Option Data
-object_if (object ms) = Some (object ms)
-object_if _ = None
-
--- the object of JSON that they are
-abbrev pub object_of : List ℕ → Option Data
-object_of bytes = option_and_then object_if (value_of bytes)
-
 -- the first `name` and the first `pass` of a form, decoded
 -- https://url.spec.whatwg.org/#application/x-www-form-urlencoded
 abbrev pub form_of : List ℕ → Form
 form_of bytes = record { name = value_in bytes (codes "name"); pass = value_in bytes (codes "pass") }
 
--- an object without keys, and a form without fields
-abbrev pub no_object : Data
-no_object = object no_members
-
+-- a form without fields
 abbrev pub no_form : Form
 no_form = record { name = None; pass = None }
 
 -- the object that a body is; of one that is none an empty one
 abbrev pub object_in : Body → Data
-object_in (body.Object v) = view v
+object_in (body.Object o) = told o
 object_in body.Nothing = no_object
 object_in (body.Form f) = no_object
 
@@ -46,7 +29,7 @@ object_in (body.Form f) = no_object
 abbrev pub form_in : Body → Form
 form_in (body.Form f) = f
 form_in body.Nothing = no_form
-form_in (body.Object v) = no_form
+form_in (body.Object o) = no_form
 
 -- what a body says: an object, and a form
 pub record Sent : Type 0 where

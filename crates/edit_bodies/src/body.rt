@@ -1,12 +1,14 @@
 //! Bodies as they come.
 ghost use Rattle.std.specs.Prelude.{◌≡◌, IfOk, option_map};
-ghost use Rattle.serde_json.specs.Data.{object, no_members};
 ghost use Rattle.serde_json.specs.View.{view};
+ghost use Rattle.sent_objects.specs.Brief.{brief};
+ghost use Rattle.sent_objects.specs.Object.{no_object};
 ghost use Rattle.site_lists.specs.Paging.{value_in};
-ghost use Rattle.edit_bodies.specs.Bodies.{value_of, object_if, object_of, form_of, object_in, sent, sent_of};
+ghost use Rattle.edit_bodies.specs.Bodies.{form_of, object_in, sent, sent_of};
 
 use content_rows::Text;
 use edit_paths::Reads;
+use sent_objects::SentObject;
 use serde_json::Value;
 use site_lists::query_value;
 use std::alloc::{AllocError, Global};
@@ -17,7 +19,7 @@ pub enum Body {
     /// Nothing that is read.
     Nothing,
     /// An object of JSON.
-    Object(Value),
+    Object(SentObject),
     /// A form.
     Form(Form),
 }
@@ -41,47 +43,11 @@ pub fn body_of(alloc: Global, reads: Reads, bytes: &[u8]) -> Result<Option<Body>
 {
     match reads {
         Reads::Nothing => Ok(Some(Body::Nothing)),
-        Reads::Json => match object_of(alloc, bytes)? {
-            Some(value) => Ok(Some(Body::Object(value))),
+        Reads::Json => match SentObject::from_slice(alloc, bytes)? {
+            Some(object) => Ok(Some(Body::Object(object))),
             None => Ok(None),
         },
         Reads::Form => Ok(Some(Body::Form(form_of(alloc, bytes)?))),
-    }
-}
-
-/// The value of JSON that bytes are; none where they are no JSON.
-fn value_of(alloc: Global, bytes: &[u8]) -> Result<Option<Value>, AllocError>
-    ensures { IfOk result (λ o. option_map view o ≡ value_of bytes.now) }
-{
-    match Value::from_slice(alloc, bytes) {
-        Ok(value) => Ok(Some(value)),
-        Err(error) => {
-            if error.is_memory() {
-                Err(AllocError)
-            } else {
-                Ok(None)
-            }
-        }
-    }
-}
-
-/// A value that is an object.
-fn object_if(value: Value) -> Option<Value>
-    ensures { option_map view result ≡ object_if (view value) }
-{
-    match &value {
-        Value::Object(_) => Some(value),
-        _ => None,
-    }
-}
-
-/// The object of JSON that bytes are; none where they are none.
-fn object_of(alloc: Global, bytes: &[u8]) -> Result<Option<Value>, AllocError>
-    ensures { IfOk result (λ o. option_map view o ≡ object_of bytes.now) }
-{
-    match value_of(alloc, bytes)? {
-        Some(value) => Ok(object_if(value)),
-        None => Ok(None),
     }
 }
 
@@ -105,13 +71,13 @@ fn first_value(alloc: Global, bytes: &[u8], name: &[u8]) -> Result<Option<Text>,
     }
 }
 
-/// The object that a body is; of one that is none an empty one.
-pub(crate) fn object_in<'a>(body: &'a Body, empty: &'a Value) -> &'a Value
-    requires { view empty.now ≡ object no_members }
-    ensures { view result.now ≡ object_in body.now }
+/// The object that a body is, in brief; of one that is none an empty one.
+pub(crate) fn brief_in<'a>(body: &'a Body, empty: &'a Value) -> &'a Value
+    requires { view empty.now ≡ no_object }
+    ensures { view result.now ≡ brief (object_in body.now) }
 {
     match body {
-        Body::Object(value) => value,
+        Body::Object(object) => object.brief(),
         _ => empty,
     }
 }

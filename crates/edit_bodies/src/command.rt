@@ -19,7 +19,7 @@ ghost use Rattle.edit_bodies.specs.Commands.{
   draws,
 };
 
-use crate::body::{Body, object_in};
+use crate::body::{Body, brief_in};
 use crate::keys::{has, node_keys, node_type_in, user_keys};
 use crate::words::{Words, digits_of};
 use body_kinds::{
@@ -45,8 +45,8 @@ pub fn draws(edit: &Edit, body: &Body) -> bool
 {
     match (edit, body) {
         (Edit::Login, _) => true,
-        (Edit::CreateUser, Body::Object(value)) => has(value, "pass"),
-        (Edit::ChangeUser(_), Body::Object(value)) => has(value, "pass"),
+        (Edit::CreateUser, Body::Object(object)) => has(object.brief(), "pass"),
+        (Edit::ChangeUser(_), Body::Object(object)) => has(object.brief(), "pass"),
         _ => false,
     }
 }
@@ -65,7 +65,7 @@ pub fn command_of(
     ensures right { IfOk result IsRight }
 {
     let empty = Value::Object(Map::new(alloc));
-    let value = object_in(body, &empty);
+    let value = brief_in(body, &empty);
     walk(value);
     command_at(alloc, edit, value, body, words)
 }
