@@ -1,6 +1,15 @@
 pub mod Bodies
+pub mod CellNames
+pub mod CountsStand
+pub mod Depths
 pub mod Heads
 pub mod Lines
+pub mod ReadCounts
+pub mod ReadStand
 pub mod RightRows
+pub mod RowsStand
+pub mod SameEntries
+pub mod Standing
 pub mod TagTexts
+pub mod Telling
 pub mod Turns

@@ -163,3 +163,10 @@ pub is_of_comment : (t : List ℕ) (k : Tag) → comment_tag t ≡ Some k → Is
 is_of_comment t k h =
     first_of (option_map tag.Comment (number_after (codes "comment:") t)) _ k (IsOf t k) (numbered_told tag.Comment (codes "comment:") t k (λ n. refl))
     (numbered_told tag.CommentList (codes "comment_list:") t k (λ n. refl)) h
+
+pub tag_told : (t : List ℕ) (k : Tag) → tag_of t ≡ Some k → tag_text k ≡ t
+tag_told t k h =
+    first_of (word_tag t) _ k (IsOf t k) (is_word t k)
+    (first_of (named_tag t) _ k (IsOf t k) (is_named t k)
+    (first_of (placed_tag t) _ k (IsOf t k) (is_placed t k)
+    (first_of (numbered_tag t) _ k (IsOf t k) (is_numbered t k) (is_of_comment t k)))) h

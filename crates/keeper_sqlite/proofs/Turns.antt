@@ -1,5 +1,6 @@
 -- Calls of a store one after the other, in a transaction.
 use Rattle.std.proofs.Common.{inl, inr, ◌≡◌, ◌⊎◌, ◌≤◌, ℕ, List, [], ◌∷◌, Some, None, Ok, Err, Result, refl, sym, ap, subst, ◌∙◌, arith, true, false}
+use Rattle.keeper_sqlite.specs.Cells.{HasTypedNumber}
 use Rattle.keeper_sqlite.specs.Batches.{InTurn, PutsRow, SetsRow, MakesWrite, KeepsBatch, IsInside, Wrote, Makes, Undoes, IsKept, Keeps}
 use Rattle.site_keeper.specs.Batch.{Batch}
 use Rattle.store_six.specs.Calls.{Tells, Passes, Nothing, Begins, Changes, Commits, KeepsKept, CountsFault, Runs}
@@ -84,6 +85,21 @@ module _ {X : Type 0} where
   }
   makes_by a b By Change is (Err e) runs = record { passes = runs.passes; ok = tt; err = λ clean inside. runs.err clean; cause = runs.cause }
 
+  -- calls whose change is one of these
+  pub makes_as : (a b : Tells) (By Change : Tables → Tables → Type 0) → ((x y : Tables) → By x y → Change x y) → (r : Result X StoreFault) → Makes By a b r → Makes Change a b r
+  makes_as a b By Change is (Ok x) made = record {
+    passes = made.passes;
+    ok = record {
+      passes = made.ok.passes;
+      changes = λ clean inside. let done = made.ok.changes clean inside in
+          record { was_open = done.was_open; is_open = done.is_open; inside = done.inside; kept = done.kept; seen = is a.seen b.seen done.seen };
+      steady = made.ok.steady;
+    };
+    err = made.err;
+    cause = made.cause;
+  }
+  makes_as a b By Change is (Err e) made = record { passes = made.passes; ok = tt; err = made.err; cause = made.cause }
+
   -- calls that went before
   pub makes_then : (a b c : Tells) (First Second Change : Tables → Tables → Type 0) → ((x y z : Tables) → First x y → Second y z → Change x z) → (r : Result X StoreFault) → Wrote First a b → Makes Second b c r → Makes Change a c r
   makes_then a b c First Second Change both (Ok x) first second = makes_all a c Change x (wrote_then a b c First Second Change both first second.ok)
@@ -92,13 +108,19 @@ module _ {X : Type 0} where
 -- ---- a write
 
 module _ {X : Type 0} (w : Write) (a b : Tells) (r : Result X StoreFault) where
-  pub puts_write : (cell : Cell) (row : Row) (text : List ℕ) → Makes (PutsRow cell row text) a b r → cell ≡ w.cell → text ≡ cell_text w.cell → w.row ≡ Some row → Makes (MakesWrite w) a b r
-  puts_write cell row text made here named is =
-      subst (λ o. Makes (SetsRow w.cell o) a b r) (sym is) (subst (λ t. Makes (PutsRow w.cell row t) a b r) named (subst (λ (k : Cell). Makes (PutsRow k row text) a b r) here made))
+  -- as one writes that is known to be typed
+  typed_write : HasTypedNumber w.cell → Makes (SetsRow w.cell w.row) a b r → Makes (MakesWrite w) a b r
+  typed_write typed made = makes_as a b (SetsRow w.cell w.row) (MakesWrite w) (λ x y sets. (typed, sets)) r made
 
-  pub removes_write : (text : List ℕ) → Runs Nothing (Changes (OnCells (IsRemoved text))) a b r → text ≡ cell_text w.cell → w.row ≡ None → Makes (MakesWrite w) a b r
-  removes_write text runs named is =
-      subst (λ o. Makes (SetsRow w.cell o) a b r) (sym is) (subst (λ t. Makes (OnCells (IsRemoved t)) a b r) named (makes_by a b (OnCells (IsRemoved text)) (OnCells (IsRemoved text)) (λ x y same. same) r runs))
+  pub puts_write : (cell : Cell) (row : Row) (text : List ℕ) → Makes (PutsRow cell row text) a b r → cell ≡ w.cell → text ≡ cell_text w.cell → w.row ≡ Some row → HasTypedNumber cell → Makes (MakesWrite w) a b r
+  puts_write cell row text made here named is typed =
+      typed_write (subst HasTypedNumber here typed)
+      (subst (λ o. Makes (SetsRow w.cell o) a b r) (sym is) (subst (λ t. Makes (PutsRow w.cell row t) a b r) named (subst (λ (k : Cell). Makes (PutsRow k row text) a b r) here made)))
+
+  pub removes_write : (cell : Cell) (text : List ℕ) → Runs Nothing (Changes (OnCells (IsRemoved text))) a b r → text ≡ cell_text w.cell → w.row ≡ None → cell ≡ w.cell → HasTypedNumber cell → Makes (MakesWrite w) a b r
+  removes_write cell text runs named is here typed =
+      typed_write (subst HasTypedNumber here typed)
+      (subst (λ o. Makes (SetsRow w.cell o) a b r) (sym is) (subst (λ t. Makes (OnCells (IsRemoved t)) a b r) named (makes_by a b (OnCells (IsRemoved text)) (OnCells (IsRemoved text)) (λ x y same. same) r runs)))
 
 -- ---- in turn
 

@@ -1,6 +1,6 @@
 -- What keeping a batch does to the two tables of a store: its writes are made in turn, then its counts are set, then its
 -- head.
-use Rattle.std.specs.Prelude.{ℕ, List, [], ◌∷◌, Option, Some, None, Result, IfErr, OnOk, OnErr, codes, true, false, ◌≡◌, ◌≤◌}
+use Rattle.std.specs.Prelude.{ℕ, List, [], ◌∷◌, Option, Some, None, Result, IfErr, OnOk, OnErr, codes, true, false, ◌≡◌}
 use Rattle.cacheability.specs.Tag.{tag_text}
 use Rattle.cacheability.specs.declared.tag.Tag.{Tag}
 use Rattle.content_rows.specs.CellText.{cell_text}
@@ -8,11 +8,10 @@ use Rattle.content_rows.specs.ValidRow.{IsValidRow}
 use Rattle.content_rows.specs.declared.cell.Cell.{Cell}
 use Rattle.content_rows.specs.declared.row.Row.{Row}
 use Rattle.indexed_rows.specs.Write.{Write}
-use Rattle.json_keys.specs.declared.checked.Checked.TheVariants as checked
+use Rattle.keeper_sqlite.specs.Bodies.{row_of}
+use Rattle.keeper_sqlite.specs.Cells.{HasTypedNumber}
 use Rattle.keeper_sqlite.specs.Numbers.{head_in, count_in}
-use Rattle.row_json.specs.Reading.{reading, written}
-use Rattle.serde_json.specs.Data.{Data, depth}
-use Rattle.serde_json.specs.Read.{read, max_depth}
+use Rattle.keeper_sqlite.specs.Tags.{tag_of}
 use Rattle.site_keeper.specs.Batch.{Batch}
 use Rattle.store_six.specs.Calls.{Tells, Passes, Nothing, Changes, KeepsKept, CountsFault}
 use Rattle.store_six.specs.Tables.{Tables, IsSet, IsRemoved, OnCells, OnTags}
@@ -20,9 +19,9 @@ use Rattle.store_six.specs.declared.fault.StoreFault.{StoreFault}
 
 -- ---- what is written
 
--- a body that is read as the row, where that is right for its cell
+-- a body that is read as the row of the cell, where the row is right for it
 abbrev pub IsBody : Cell → Row → List ℕ → Type 0
-IsBody cell row body = depth (written cell row) ≤ max_depth → IsValidRow cell row → (d : Data) × (read body ≡ Some d) × (reading d ≡ checked.Right (cell, row))
+IsBody cell row body = IsValidRow cell row → row_of (cell_text cell) body ≡ Some (cell, row)
 
 abbrev pub PutsRow : Cell → Row → List ℕ → Tables → Tables → Type 0
 PutsRow cell row text old new = (body : List ℕ) × IsBody cell row body × OnCells (IsSet text body) old new
@@ -33,11 +32,12 @@ SetsRow cell (Some row) old new = PutsRow cell row (cell_text cell) old new
 SetsRow cell None old new = OnCells (IsRemoved (cell_text cell)) old new
 
 abbrev pub MakesWrite : Write → Tables → Tables → Type 0
-MakesWrite write old new = SetsRow write.cell write.row old new
+MakesWrite write old new = HasTypedNumber write.cell × SetsRow write.cell write.row old new
 
--- under the text of the tag
+-- under the text of the tag, which is read as that tag
 abbrev pub SetsCount : Tag × ℕ → Tables → Tables → Type 0
-SetsCount entry old new = (bytes : List ℕ) × (count_in bytes ≡ Some entry.1) × OnTags (IsSet (tag_text entry.0) bytes) old new
+SetsCount entry old new =
+    (bytes : List ℕ) × (tag_of (tag_text entry.0) ≡ Some entry.0) × (count_in bytes ≡ Some entry.1) × OnTags (IsSet (tag_text entry.0) bytes) old new
 
 abbrev pub SetsHead : ℕ → Tables → Tables → Type 0
 SetsHead head old new = (text : List ℕ) × (head_in text ≡ Some head) × OnCells (IsSet (codes "head") text) old new

@@ -1,6 +1,9 @@
 pub mod Batches
 pub mod Bodies
+pub mod Cells
 pub mod Faults
 pub mod Found
 pub mod Numbers
+pub mod Standing
 pub mod Tags
+pub mod Telling

@@ -1,13 +1,11 @@
 //! Rows as a database holds them: each is one object of JSON.
-ghost use Rattle.std.specs.Prelude.{◌≡◌, ◌≢◌, ◌≤◌, IfOk, IfSome, None, Some, option_map, string_bytes};
-ghost use Rattle.serde_json.specs.Data.{Data, depth};
-ghost use Rattle.serde_json.specs.Read.{read, max_depth};
+ghost use Rattle.std.specs.Prelude.{◌≡◌, ◌≢◌, IfOk, IfSome, None, Some, option_map, string_bytes};
 ghost use Rattle.serde_json.specs.View.{view};
 ghost use Rattle.std.specs.Str.{bytes_eq};
 ghost use Rattle.content_rows.specs.CellText.{cell_text};
 ghost use Rattle.content_rows.specs.ValidRow.{IsValidRow};
 ghost use Rattle.json_keys.specs.declared.checked.Checked.TheVariants as checked;
-ghost use Rattle.row_json.specs.Reading.{reading, written};
+ghost use Rattle.keeper_sqlite.specs.Batches.{IsBody};
 ghost use Rattle.keeper_sqlite.specs.Bodies.{value_of, in_its_cell, row_told, row_of};
 
 use content_rows::{Cell, Row};
@@ -101,9 +99,9 @@ pub(crate) fn row_of(
 
 /// The body of a row, which is read as that row where it is right for the cell. `Err` only where memory is wanting.
 pub(crate) fn body_of(alloc: Global, cell: &Cell, row: &Row) -> Result<String, AllocError>
-    ensures back { IfOk result (λ body. depth (written cell.now row.now) ≤ max_depth → IsValidRow cell.now row.now
-        → (d : Data) × (read (string_bytes body) ≡ Some d) × (reading d ≡ checked.Right (cell.now, row.now))) }
+    ensures back { IfOk result (λ body. IsBody cell.now row.now (string_bytes body)) }
 {
     let value = row_to_json(alloc, cell, row)?;
-    Ok(value.to_string(alloc)?)
+    let body = value.to_string(alloc)?;
+    Ok(body)
 }

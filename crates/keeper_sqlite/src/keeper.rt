@@ -1,11 +1,12 @@
 //! A keeper over a database.
 ghost use Rattle.std.specs.Prelude.{◌≡◌, ◌≤◌, None, IfOk, IfErr, OnOk, OnErr, false};
-ghost use Rattle.site_keeper.specs.Keeper.{CountsFault};
+ghost use Rattle.indexed_rows.specs.Rows.{AreValidRows};
+ghost use Rattle.keeper_sqlite.specs.Telling.{Loads, TellsHead, Applies, BeginsOver, untold};
+ghost use Rattle.site_keeper.specs.Keeper.{IfTold, CountsFault, LeavesBatch, StaysSteadfast, and_batch};
 ghost use Rattle.sqlite.specs.Held.{state};
-ghost use Rattle.table_laws.specs.Moments.{IsOver};
+ghost use Rattle.table_laws.specs.Moments.{IsOver, told};
 
-use crate::finding::{fault_of, found, head};
-use crate::keeping::keep;
+use crate::site::{apply_batch, load_site, number_of_site};
 use site_keeper::{Batch, Keeper, KeeperFault, Stored};
 use sqlite::{Alter, Connection, File, FileStore};
 use std::alloc::Global;
@@ -59,13 +60,15 @@ impl<S: Alter + Drop> SqliteKeeper<S> {
     }
 }
 
-/// A keeper over a database that holds the two tables of a store, or nothing, where they are made. What they hold stays. It
-/// has not failed. It is refused as `tables_sqlite` refuses a store.
+/// A keeper over a database that holds the two tables of a store, or nothing, where they are made. What they hold stays, and
+/// new ones stand for a site of which nothing is held (`begins`). It has not failed. It is refused as `tables_sqlite` refuses
+/// a store.
 pub fn over<S: Alter + Drop>(
     _rt: &HostRuntime,
     conn: Connection<S>,
 ) -> Result<SqliteKeeper<S>, NoKeeper>
-    ensures { IfOk result (λ keeper. (keeper.1 ≡ 0) × (keeper.0.1 ≡ 0) × IsOver (state S.Store conn) (state S.Store keeper.0.0)) }
+    ensures over { IfOk result (λ keeper. (keeper.1 ≡ 0) × (keeper.0.1 ≡ 0) × IsOver (state S.Store conn) (state S.Store keeper.0.0)) }
+    ensures begins { IfOk result (λ keeper. BeginsOver (state S.Store conn) (told keeper.0.1 (state S.Store keeper.0.0))) }
 {
     let six = tables_sqlite::over(conn)?;
     Ok(SqliteKeeper { six, faults: 0 })
@@ -123,22 +126,47 @@ impl<S: Alter + Drop> Keeper for SqliteKeeper<S> {
 
     ghost steadfast = { λ k. false };
 
-    fn load(&mut self, alloc: Global) -> Result<Stored, KeeperFault> {
-        match found(alloc, &mut self.six) {
+    fn load(&mut self, alloc: Global) -> Result<Stored, KeeperFault>
+        ensures held { IfOk result (λ stored. IfTold untold (λ held. stored ≡ held)) }
+        ensures right { IfOk result (λ stored. AreValidRows stored.rows) }
+        ensures stays { untold ≡ untold }
+        ensures steady { OnOk result (self.new.1 ≡ self.old.1) }
+        ensures cause { IfErr result (λ fault. CountsFault fault self.old.1 self.new.1) }
+        ensures never_falls { self.old.1 ≤ self.new.1 }
+        ensures steadfast { StaysSteadfast false false self.old.1 self.new.1 }
+        ensures loads { Loads (told self.old.0.1 (state S.Store self.old.0.0)) (told self.new.0.1 (state S.Store self.new.0.0)) result }
+    {
+        match load_site(alloc, &mut self.six) {
             Ok(stored) => Ok(stored),
             Err(fault) => Err(self.counted(fault)),
         }
     }
 
-    fn apply(&mut self, alloc: Global, batch: &Batch) -> Result<(), KeeperFault> {
-        match keep(alloc, &mut self.six, batch) {
+    fn apply(&mut self, alloc: Global, batch: &Batch) -> Result<(), KeeperFault>
+        ensures ok { OnOk result (untold ≡ and_batch untold batch.now) }
+        ensures err { IfErr result (λ fault. LeavesBatch fault untold batch.now untold) }
+        ensures steady { OnOk result (self.new.1 ≡ self.old.1) }
+        ensures cause { IfErr result (λ fault. CountsFault fault self.old.1 self.new.1) }
+        ensures never_falls { self.old.1 ≤ self.new.1 }
+        ensures steadfast { StaysSteadfast false false self.old.1 self.new.1 }
+        ensures applies { Applies batch.now (told self.old.0.1 (state S.Store self.old.0.0)) (told self.new.0.1 (state S.Store self.new.0.0)) result }
+    {
+        match apply_batch(alloc, &mut self.six, batch) {
             Ok(()) => Ok(()),
-            Err(fault) => Err(self.counted(fault_of(fault))),
+            Err(fault) => Err(self.counted(fault)),
         }
     }
 
-    fn head(&mut self, alloc: Global) -> Result<u64, KeeperFault> {
-        match head(alloc, &mut self.six) {
+    fn head(&mut self, alloc: Global) -> Result<u64, KeeperFault>
+        ensures head { IfOk result (λ number. IfTold untold (λ held. number ≡ held.head)) }
+        ensures stays { untold ≡ untold }
+        ensures steady { OnOk result (self.new.1 ≡ self.old.1) }
+        ensures cause { IfErr result (λ fault. CountsFault fault self.old.1 self.new.1) }
+        ensures never_falls { self.old.1 ≤ self.new.1 }
+        ensures steadfast { StaysSteadfast false false self.old.1 self.new.1 }
+        ensures tells_head { TellsHead (told self.old.0.1 (state S.Store self.old.0.0)) (told self.new.0.1 (state S.Store self.new.0.0)) result }
+    {
+        match number_of_site(alloc, &mut self.six) {
             Ok(head) => Ok(head),
             Err(fault) => Err(self.counted(fault)),
         }

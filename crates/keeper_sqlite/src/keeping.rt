@@ -6,6 +6,7 @@ ghost use Rattle.keeper_sqlite.specs.Batches.{InTurn, PutsRow, MakesWrite, SetsC
 
 use crate::body::body_of;
 use crate::number::{count_bytes, head_text};
+use crate::typed::{has_its_number, is_read_back};
 use cacheability::Tag;
 use content_rows::{Cell, Row};
 use content_state::Write;
@@ -88,6 +89,7 @@ fn make_writes<X: Six>(alloc: Global, six: &mut X, writes: &[Write]) -> Result<(
 fn make_write<X: Six>(alloc: Global, six: &mut X, write: &Write) -> Result<(), StoreFault>
     ensures { Makes (MakesWrite write.now) (at X.Six six.old) (at X.Six six.new) result }
 {
+    has_its_number(&write.cell);
     let Ok(cell) = write.cell.text(alloc) else {
         return Err(StoreFault::OutOfMemory);
     };
@@ -132,6 +134,7 @@ fn set_count<X: Six>(alloc: Global, six: &mut X, entry: &(Tag, u64)) -> Result<(
     ensures { Makes (SetsCount entry.now) (at X.Six six.old) (at X.Six six.new) result }
 {
     let (tag, count) = *entry;
+    is_read_back(&tag);
     let Ok(text) = tag.text(alloc) else {
         return Err(StoreFault::OutOfMemory);
     };

@@ -11,11 +11,16 @@ mod keeper;
 mod keeping;
 mod laws;
 mod number;
+mod site;
 mod tag;
+mod typed;
 
 pub use finding::{found, head};
 pub use keeper::{FileKeeper, SqliteKeeper, open_keeper, open_or_make_keeper, over};
 pub use keeping::keep;
-pub use laws::tags_are_read_back;
+pub use laws::{
+    batches_stand, new_tables_stand_for_none, number_is_read, tables_stand_for_one,
+    tables_stand_for_what_is_read, tags_are_read_back,
+};
 pub use tables_sqlite::{NoKeeper, StoreTable};
 pub use tag::tag_of;

@@ -8,7 +8,7 @@ pub returns-in_default : goal.returns-in_default
 returns-in_default g c = memory_at_once (at g.X.Six c.args.six.now) (MakesWrite c.args.write.now)
 
 pub returns-in-Some : goal.returns-in-Some
-returns-in-Some g c = puts_write c.args.write.now (at g.X.Six c.args.six.now) (at g.X.Six c.set_row.new.six) c.set_row.result _ _ _ c.set_row.ensures (search rules) (search rules) (search rules)
+returns-in-Some g c = puts_write c.args.write.now (at g.X.Six c.args.six.now) (at g.X.Six c.set_row.new.six) c.set_row.result _ _ _ c.set_row.ensures (search rules) (search rules) (search rules) c.has_its_number.ensures
 
 pub returns : goal.returns
-returns g c = removes_write c.args.write.now (at g.X.Six c.args.six.now) (at g.X.Six c.remove_row.new.self) c.remove_row.result _ c.remove_row.ensures (search rules) (search rules)
+returns g c = removes_write c.args.write.now (at g.X.Six c.args.six.now) (at g.X.Six c.remove_row.new.self) c.remove_row.result c.write.inside.cell _ c.remove_row.ensures (search rules) (search rules) (search rules) c.has_its_number.ensures

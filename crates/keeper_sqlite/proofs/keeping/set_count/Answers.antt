@@ -13,4 +13,4 @@ pub returns : goal.returns
 returns g c =
     let text : c.as_slice.result.now ≡ tag_text c.args.entry.now.0 = search rules in
     makes_by (at g.X.Six c.args.six.now) (at g.X.Six c.set_tag.new.self) (OnTags (IsSet c.as_slice.result.now c.count_bytes.result)) (SetsCount c.args.entry.now)
-    (λ x y set. (c.count_bytes.result, c.count_bytes.ensures, subst (λ t. OnTags (IsSet t c.count_bytes.result) x y) text set)) c.set_tag.result c.set_tag.ensures
+    (λ x y set. (c.count_bytes.result, c.is_read_back.ensures, c.count_bytes.ensures, subst (λ t. OnTags (IsSet t c.count_bytes.result) x y) text set)) c.set_tag.result c.set_tag.ensures
