@@ -4,6 +4,8 @@
 #[cfg(test)]
 mod batches;
 #[cfg(test)]
+mod beginning;
+#[cfg(test)]
 mod crashes;
 #[cfg(test)]
 mod keeping;
