@@ -10,3 +10,4 @@ pub mod Walks
 pub mod Terms
 pub mod ChosenLaws
 pub mod DecodedFirst
+pub mod OnlyFirst
