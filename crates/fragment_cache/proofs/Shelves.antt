@@ -150,6 +150,12 @@ looked_seen cache new key found valid told is = record {
       (looked key (things_of cache.entries) valid.distinct found told);
 }
 
+-- where nothing is found all stays
+pub missed_seen : (cache : LruCache Key Kept) (key : Key) (found : Option Thing) → is_some found ≡ false → found ≡ lookup (same_key key) (things_of cache.entries)
+    → Looks (seen cache) key found (seen cache)
+missed_seen cache key None none told = record { room = refl; things = ((misses key (things_of cache.entries) (sym told)).absent, refl) }
+missed_seen cache key (Some thing) none told = absurd (true≢false none)
+
 module _ (cache : LruCache Key Kept) (key : Key) (kept : Kept) (valid : IsShelf (seen cache)) where
   abbrev things : List (Key × Thing)
   things = things_of cache.entries

@@ -1,5 +1,5 @@
 //! Bins of bounded size, in the order of use.
-ghost use Rattle.std.specs.Prelude.{◌≡◌, Some, IfOk, IfErr, OnOk, OnErr};
+ghost use Rattle.std.specs.Prelude.{◌≡◌, Some, is_some, IfOk, IfErr, OnOk, OnErr};
 ghost use Rattle.std.specs.NonZero.{non_zero_usize_get};
 ghost use Rattle.std.specs.Map.{lookup};
 ghost use Rattle.cache_entries.specs.Keys.{same_key};
@@ -125,15 +125,24 @@ fn is_bounded(cache: &LruCache<Key, Kept>)
     let _length = cache.len();
 }
 
-/// What stands under a key, which then goes first.
+/// What stands under a key, which then goes first. Where nothing does, the key isn't looked for again.
 fn look_at(cache: &mut LruCache<Key, Kept>, key: &Key) -> Result<Found, AllocError>
     ensures looks { IfOk result (λ found. Looks (seen cache.old) key.now (thing_found found) (seen cache.new)) }
     ensures refused { OnErr result (cache.new ≡ cache.old) }
 {
     is_bounded(cache);
     let found = found_at(cache, key)?;
-    cache.promote(key);
+    if is_something(&found) {
+        cache.promote(key);
+    }
     Ok(found)
+}
+
+/// Whether something was found.
+fn is_something(found: &Found) -> bool
+    ensures { result ≡ is_some (thing_found found.now) }
+{
+    !matches!(found, Found::Absent)
 }
 
 /// What stands under a key.
