@@ -1,2 +1,3 @@
 pub mod Adding
 pub mod Entries
+pub mod Redundant

@@ -7,6 +7,7 @@ mod first;
 mod keeping;
 mod keys;
 mod laws;
+mod leaving;
 mod making;
 mod reader;
 

@@ -1,16 +1,15 @@
 //! Entries that are made of what was put together.
 ghost use Rattle.std.specs.Prelude.{◌≡◌, IfOk, OnOk};
-ghost use Rattle.cacheability.specs.InOrder.{HasBoth, AddsItem, union};
-ghost use Rattle.cacheability.specs.Tag.{tag_cmp};
+ghost use Rattle.cacheability.specs.InOrder.{HasBoth, AddsItem};
 ghost use Rattle.cacheability.specs.declared.tag.Tag.TheVariants as tag;
 ghost use Rattle.element_entries.specs.Keys.{visit, required};
 ghost use Rattle.element_entries.specs.Making.{Bubbles, IsEntryOf};
 
 use crate::keys::values_for;
+use crate::leaving::leave_out;
 use crate::reader::Reader;
-use cache_contexts::optimise;
 use cache_entries::Entry;
-use cacheability::{Cacheability, Context, OrderedSet, Tag};
+use cacheability::{Cacheability, Context, Tag};
 use content_rows::Items;
 use content_state::{Hole, Library};
 use html_out::Segments;
@@ -50,31 +49,8 @@ fn bubbled(
     ensures { IfOk result (λ said. Bubbles (visit reader.now) cacheability said) }
 {
     add_required(&mut cacheability)?;
-    let said = optimise(
-        alloc,
-        reader.state(),
-        reader.viewer(),
-        cacheability.contexts(),
-    )?;
-    Ok(Cacheability {
-        tags: all_tags(alloc, cacheability.tags, &said.tags)?,
-        contexts: said.contexts,
-        max_age: cacheability.max_age,
-    })
-}
-
-/// The tags that are needed and those that stand in for contexts, of which there mostly are none.
-fn all_tags(
-    alloc: Global,
-    needed: OrderedSet<Tag>,
-    stand_ins: &OrderedSet<Tag>,
-) -> Result<OrderedSet<Tag>, AllocError>
-    ensures { IfOk result (λ tags. tags ≡ union tag_cmp needed stand_ins.now) }
-{
-    if stand_ins.as_slice().is_empty() {
-        return Ok(needed);
-    }
-    needed.union(alloc, stand_ins)
+    leave_out(alloc, reader, &mut cacheability)?;
+    Ok(cacheability)
 }
 
 /// An entry of what was put together for a reader. `Err` only where memory is wanting.
