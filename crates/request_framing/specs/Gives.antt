@@ -16,27 +16,30 @@ Fits bytes Head = Unit {0}
 Fits bytes (Body size) = Unit {0}
 Fits bytes Refused = Unit {0}
 
--- Of a whole request just its bytes are given, and all that follows stays. Of what is refused all is given. Of a part nothing is.
-abbrev pub IsGiven : Extent → List ℕ → List ℕ → List ℕ → Type 0
-IsGiven (Whole size) bytes given kept = ((given ≡ take size bytes) × (kept ≡ drop size bytes)) × (size ≤ length bytes)
-IsGiven Head bytes given kept = ⊥
-IsGiven (Body size) bytes given kept = ⊥
-IsGiven Refused bytes given kept = (given ≡ bytes) × (kept ≡ [])
+-- Of bytes that begin with a whole request just its bytes are given, and all that follows stays.
+pub record GivesWhole (reaches : List ℕ → Extent → Type 0) (bytes given kept : List ℕ) : Type 0 where
+  pub size : ℕ
+  pub told : reaches bytes (Whole size)
+  pub within : size ≤ length bytes
+  pub front : given ≡ take size bytes
+  pub rest : kept ≡ drop size bytes
 
--- what is given of bytes, by how far they reach
-pub record Gives (reaches : List ℕ → Extent → Type 0) (bytes given kept : List ℕ) : Type 0 where
-  pub extent : Extent
-  pub told : reaches bytes extent
-  pub is : IsGiven extent bytes given kept
+-- Of what is refused all is given.
+pub record GivesRefused (reaches : List ℕ → Extent → Type 0) (bytes given kept : List ℕ) : Type 0 where
+  pub told : reaches bytes Refused
+  pub all : given ≡ bytes
+  pub none : kept ≡ []
 
--- What comes of bytes: something is given, or all stay. Where memory is wanting the socket is let go.
+-- What comes of bytes: a whole request is given, or what is refused, or all stay. Where memory is wanting the socket is let go.
 abbrev pub Comes : (List ℕ → Extent → Type 0) → List ℕ → Came → List ℕ → Type 0
-Comes reaches bytes (came.Request given) kept = Gives reaches bytes given kept
+Comes reaches bytes (came.Request given) kept = GivesWhole reaches bytes given kept
+Comes reaches bytes (came.Refused given) kept = GivesRefused reaches bytes given kept
 Comes reaches bytes came.More kept = kept ≡ bytes
 Comes reaches bytes came.NoMemory kept = Unit {0}
 
 -- a piece is kept behind what was there
 abbrev pub IsKept : Came → List ℕ → List ℕ → List ℕ → Type 0
 IsKept (came.Request given) old piece new = ⊥
+IsKept (came.Refused given) old piece new = ⊥
 IsKept came.More old piece new = new ≡ old ++ piece
 IsKept came.NoMemory old piece new = Unit {0}

@@ -17,3 +17,10 @@ sockets = 8192
 
 abbrev pub held_bytes : ℕ
 held_bytes = 67108864
+
+-- how many requests wait at most at a door where others pass them, and how many bytes of memory these take
+abbrev pub passed_sockets : ℕ
+passed_sockets = 1024
+
+abbrev pub passed_bytes : ℕ
+passed_bytes = 33554432

@@ -14,7 +14,8 @@ pub use bytes::Bytes;
 pub use framing::{Extent, Framing};
 pub use limits::{
     BODY_BYTES_A_SECOND, GATHERED_BYTES, HEAD_BYTES, HELD_BYTES, IDLE_SECONDS, LINGER_BYTES,
-    LINGER_SECONDS, PATIENCE_MILLIS, REPLY_SECONDS, REQUEST_SECONDS, SOCKETS, Stage, is_over,
+    LINGER_SECONDS, PASSED_BYTES, PASSED_SOCKETS, PATIENCE_MILLIS, REPLY_SECONDS, REQUEST_SECONDS,
+    REST_MILLIS, SOCKETS, Stage, is_over,
 };
 pub use parcel::Parcel;
 pub use waiting::{Came, Waiting};

@@ -42,6 +42,18 @@ pub const GATHERED_BYTES: usize = 65_536;
 /// it doesn't wait for a worker that is busy.
 pub const PATIENCE_MILLIS: u64 = 5;
 
+/// How many sockets wait at most at the editing door, each with a request that another door passed to it. A request beyond them is
+/// given by the door where it came, and so are those below.
+pub const PASSED_SOCKETS: usize = 1_024;
+
+/// How many bytes of memory these take at most, with their requests: 32 requests whose body is the largest that is taken, or 1,024
+/// with 32 KiB each.
+pub const PASSED_BYTES: usize = 33_554_432;
+
+/// A worker that has no connection and asks for none is at rest once so many milliseconds have passed, as one is that has stopped.
+/// What its door would do is done by other doors then. Between two connections a worker takes a few microseconds.
+pub const REST_MILLIS: u64 = 100;
+
 /// What a socket is at.
 #[derive(Clone, Copy, Debug, PartialEq, Eq)]
 pub enum Stage {

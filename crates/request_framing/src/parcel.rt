@@ -3,6 +3,7 @@ ghost use Rattle.std.specs.Prelude.{◌≡◌, ◌≤◌, ◌<◌, [], true, fal
 ghost use Rattle.site_io.specs.Told.{before, Rose};
 ghost use Rattle.site_io.specs.Memory.{up};
 ghost use Rattle.request_framing.specs.Gives.{no_faults};
+ghost use Rattle.request_framing.specs.Edits.{begins_get};
 
 use site_io::{Failed, Source};
 use std::marker::Model;
@@ -44,6 +45,26 @@ impl Parcel {
         self.start == self.end
     }
 
+    /// Whether those that are left begin as a request does whose method is GET: with `GET `. No such request is an edit.
+    pub fn begins_get(&self) -> bool
+        ensures { result ≡ begins_get self.now }
+    {
+        self.left().starts_with(b"GET ")
+    }
+
+    /// How many bytes of memory it takes.
+    pub fn capacity(&self) -> usize {
+        self.bytes.capacity()
+    }
+
+    /// Those that are left.
+    fn left(&self) -> &[u8]
+        ensures { result.now ≡ self.now }
+    {
+        let (front, _) = self.bytes.as_slice().split_at(self.end);
+        front.split_at(self.start).1
+    }
+
     /// The memory that it lies in.
     pub fn into_room(self) -> Vec<u8> {
         let Parcel {
@@ -70,8 +91,7 @@ impl Source for Parcel {
         ensures steady { OnOk result (no_faults ≡ no_faults) }
         ensures never_falls { no_faults ≤ no_faults }
     {
-        let (front, _) = self.bytes.as_slice().split_at(self.end);
-        let (_, left) = front.split_at(self.start);
+        let left = self.left();
         let n = left.len().min(buffer.len());
         let (from, _) = left.split_at(n);
         let (into, _) = buffer.split_at_mut(n);

@@ -17,8 +17,10 @@ const LOOKS: u32 = 128;
 /// What comes of bytes.
 #[derive(Drop)]
 pub enum Came {
-    /// One request, or what is refused.
+    /// One request.
     Request(Parcel),
+    /// What is refused, whatever follows.
+    Refused(Parcel),
     /// No whole request is there.
     More,
     /// Memory is wanting.
@@ -122,7 +124,7 @@ impl Waiting {
                 Some(parcel) => Came::Request(parcel),
                 None => Came::NoMemory,
             },
-            Extent::Refused => Came::Request(self.bytes.take_all(alloc)),
+            Extent::Refused => Came::Refused(self.bytes.take_all(alloc)),
             Extent::Head => Came::More,
             Extent::Body(size) => {
                 self.wanted = size;
@@ -157,7 +159,7 @@ impl Waiting {
             }
             Extent::Refused => {
                 let bytes = mem::replace(room, Vec::new(alloc));
-                Came::Request(Parcel::new(bytes, 0, n))
+                Came::Refused(Parcel::new(bytes, 0, n))
             }
             Extent::Head => self.keep(piece, 0),
             Extent::Body(size) => self.keep(piece, size),
