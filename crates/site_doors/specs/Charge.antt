@@ -20,3 +20,13 @@ pub record IsParked (old new : Charge) : Type 0 where
 pub record IsClosed (old new : Charge) : Type 0 where
   pub parked : new.parked ≡ old.parked
   pub in_hand : old.in_hand ≡ new.in_hand + 1
+
+-- one that was in hand has left for another door
+pub record HasLeft (old new : Charge) : Type 0 where
+  pub parked : new.parked ≡ old.parked
+  pub in_hand : old.in_hand ≡ new.in_hand + 1
+
+-- one that came from another door is in hand
+pub record HasCome (old new : Charge) : Type 0 where
+  pub parked : new.parked ≡ old.parked
+  pub in_hand : new.in_hand ≡ old.in_hand + 1

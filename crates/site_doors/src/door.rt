@@ -2,9 +2,9 @@
 ghost use Rattle.std.specs.Prelude.{◌≡◌, ◌≤◌, true, false, None, IfOk, if◌then◌else◌};
 ghost use Rattle.site_io.specs.Told.{Rose};
 
-use crate::balance::Balance;
 use crate::lobby::Lobby;
 use crate::reply::Outgoing;
+use crate::share::Share;
 use request_framing::{Framing, Parcel};
 use site_io::{Door, Ended, Failed};
 use std::alloc::Global;
@@ -34,21 +34,21 @@ impl<C: Drop, F: Drop> Drop for LobbyDoor<C, F> {
 }
 
 impl<C: Clock + Drop, F: Framing + Drop> LobbyDoor<C, F> {
-    /// Takes the sockets of this listener, a share of those that the doors of this balance take, and waits by this clock. No fault is
+    /// Takes the sockets of this listener, beside the other doors of this share, and waits by this clock. No fault is
     /// counted yet, and no connection is out. `Err` where the system doesn't let it listen and wait, or memory is wanting.
     pub fn new(
         net: &impl Net,
         alloc: Global,
         clock: C,
         listener: TcpListener,
-        balance: Balance,
+        share: Share,
         framing: F,
     ) -> io::Result<LobbyDoor<C, F>>
         ensures faults { IfOk result (λ door. door.faults ≡ 0) }
         ensures none_out { IfOk result (λ door. door.is_out ≡ false) }
     {
         Ok(LobbyDoor {
-            lobby: Lobby::new(net, alloc, clock, listener, balance, framing)?,
+            lobby: Lobby::new(net, alloc, clock, listener, share, framing)?,
             is_out: false,
             faults: 0,
         })

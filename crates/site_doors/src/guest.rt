@@ -27,6 +27,8 @@ enum Phase {
 pub(crate) enum Step {
     /// A request is there.
     Give(Parcel),
+    /// What is there is refused, whatever follows.
+    Refuse(Parcel),
     /// There may be more to do at once.
     Again,
     /// Nothing before the next event.
@@ -158,6 +160,14 @@ impl Guest {
         self.since
     }
 
+    /// Turns the second in which it began to be at what it is at into the seconds since then, or those into that second again: each
+    /// door counts seconds of its own.
+    pub(crate) fn turns_time(&mut self, now: u64)
+        ensures { self.new.waiting ≡ self.old.waiting }
+    {
+        self.since = now.saturating_sub(self.since);
+    }
+
     /// Whether its time is over in this second.
     pub(crate) fn is_over(&self, now: u64) -> bool {
         is_over(self.stage(), now.saturating_sub(self.since))
@@ -193,6 +203,7 @@ impl Guest {
         if self.waiting.is_unseen() {
             match self.waiting.look(alloc, room, framing) {
                 Came::Request(parcel) => Step::Give(parcel),
+                Came::Refused(parcel) => Step::Refuse(parcel),
                 Came::NoMemory => Step::NoMemory,
                 Came::More => self.rests(),
             }
@@ -232,6 +243,7 @@ impl Guest {
                 self.is_drained = n < room.len() && !self.is_ending;
                 match self.waiting.arrived(alloc, room, n, framing) {
                     Came::Request(parcel) => Step::Give(parcel),
+                    Came::Refused(parcel) => Step::Refuse(parcel),
                     Came::NoMemory => Step::NoMemory,
                     Came::More => self.rests(),
                 }

@@ -1,10 +1,10 @@
 //! The sockets that a door has charge of.
 ghost use Rattle.std.specs.Prelude.{◌≡◌, ◌<◌, ◌+◌, false, true, IfNone, OnSome};
-ghost use Rattle.site_doors.specs.Charge.{IsClosed, IsParked, IsTaken};
+ghost use Rattle.site_doors.specs.Charge.{HasCome, HasLeft, IsClosed, IsParked, IsTaken};
 ghost use Rattle.request_framing.specs.Limits.{sockets};
 
-use crate::balance::Balance;
 use crate::guest::Guest;
+use crate::share::Share;
 use request_framing::{HELD_BYTES, SOCKETS};
 use slab::Slab;
 use std::alloc::Global;
@@ -19,7 +19,7 @@ pub(crate) struct Guests {
     count: usize,
     /// How many bytes of memory those hold that are parked.
     held: usize,
-    balance: Balance,
+    share: Share,
 }
 
 impl Model for Guests {
@@ -42,14 +42,14 @@ impl Drop for Guests {
             in_hand: _,
             count: _,
             held: _,
-            balance: _,
+            share: _,
         } = self;
     }
 }
 
 impl Guests {
     /// None yet, for a door with this share.
-    pub(crate) fn new(alloc: Global, balance: Balance) -> Guests
+    pub(crate) fn new(alloc: Global, share: Share) -> Guests
         ensures { result ≡ record { parked = 0; in_hand = 0 } }
     {
         Guests {
@@ -57,7 +57,7 @@ impl Guests {
             in_hand: 0,
             count: 0,
             held: 0,
-            balance,
+            share,
         }
     }
 
@@ -75,7 +75,7 @@ impl Guests {
 
     /// Whether one more may be taken beside the other doors.
     pub(crate) fn may_take(&self) -> bool {
-        self.balance.may_take(self.count)
+        self.share.may_take(self.count)
     }
 
     /// How many bytes more they may hold.
@@ -98,7 +98,7 @@ impl Guests {
             return false;
         }
         self.count += 1;
-        self.balance.one_more();
+        self.share.one_more();
         true
     }
 
@@ -120,8 +120,28 @@ impl Guests {
     {
         self.in_hand -= 1;
         self.count -= 1;
-        self.balance.one_less();
+        self.share.one_less();
         drop(guest);
+    }
+
+    /// One that was in hand has left for another door.
+    pub(crate) fn left(&mut self)
+        requires { 0 < self.old.in_hand }
+        ensures { HasLeft self.old self.new }
+    {
+        self.in_hand -= 1;
+        self.count -= 1;
+        self.share.one_less();
+    }
+
+    /// One that came from another door is in hand.
+    pub(crate) fn came(&mut self)
+        requires { self.old.parked + self.old.in_hand < sockets }
+        ensures { HasCome self.old self.new }
+    {
+        self.in_hand += 1;
+        self.count += 1;
+        self.share.one_more();
     }
 
     /// Parks one that is in hand, and tells its key. `None` where memory is wanting or too much is held, and then it is closed.

@@ -2,20 +2,25 @@
 //!
 //! A worker that takes its connections from such a door never waits for a peer: what it reads is in memory, and what a peer doesn't
 //! take of a reply is sent by the door. What a request is, and all that bounds what peers may hold, stands in `request_framing`.
+//!
+//! Nor does a worker that others read from wait for a disk: of two doors of an address or more one is the editing door. To it the
+//! others pass each request that may be an edit, with its socket, which comes back to them with the reply.
 #![tactic(auto)]
 
-mod balance;
 mod crossing;
 mod door;
 mod guest;
 mod guests;
+mod hatch;
 mod listener;
 mod lobby;
+mod place;
 mod reply;
+mod share;
 mod wire;
 
-pub use balance::Balance;
 pub use crossing::doors_go_between_threads;
 pub use door::LobbyDoor;
 pub use listener::listener_at;
 pub use reply::Outgoing;
+pub use share::Share;

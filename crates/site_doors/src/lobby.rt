@@ -1,13 +1,18 @@
 //! A listener and the sockets that came there.
-ghost use Rattle.std.specs.Prelude.{◌≡◌, IfNone, IfOk, OnOk, OnErr, OnSome};
+ghost use Rattle.std.specs.Prelude.{◌≡◌, ◌<◌, ◌+◌, true, IfNone, IfOk, IfSome, OnOk, OnErr, OnSome};
+ghost use Rattle.request_framing.specs.Limits.{sockets};
 
-use crate::balance::Balance;
 use crate::guest::{Guest, Step};
 use crate::guests::Guests;
-use crate::reply::Outgoing;
+use crate::hatch::Passed;
+use crate::place::Place;
+use crate::reply::{Home, Outgoing};
+use crate::share::Share;
 use mio::net::{TcpListener, TcpStream};
-use mio::{Events, Interest, Poll, Token};
-use request_framing::{Bytes, Framing, GATHERED_BYTES, HEAD_BYTES, PATIENCE_MILLIS, Parcel};
+use mio::{Events, Interest, Poll, Token, Waker};
+use request_framing::{
+    Bytes, Framing, GATHERED_BYTES, HEAD_BYTES, PATIENCE_MILLIS, Parcel, REST_MILLIS,
+};
 use site_io::Ended;
 use std::alloc::Global;
 use std::collections::VecDeque;
@@ -22,8 +27,10 @@ const EVENTS: usize = 256;
 /// How many sockets are taken at once, at most.
 const TAKEN: usize = 64;
 
-/// The listener's token; a socket's is its key and one more.
+/// The listener's token, and that of what wakes the door; a socket's is its key and two more.
 const LISTENER: usize = 0;
+
+const WAKER: usize = 1;
 
 /// The system's numbers for want of memory, of descriptors in all and for one process, and of buffers (errno of Linux).
 const ENOMEM: i32 = 12;
@@ -53,6 +60,7 @@ pub(crate) struct Lobby<C, F> {
     listener: TcpListener,
     poll: Poll,
     events: Events,
+    place: Place,
     pub(crate) guests: Guests,
     /// What is to be done, in order, and how much of it before events are asked for again.
     tasks: VecDeque<Task>,
@@ -75,6 +83,7 @@ impl<C: Drop, F: Drop> Drop for Lobby<C, F> {
             listener: _,
             poll: _,
             events: _,
+            place: _,
             guests: _,
             tasks: _,
             round: _,
@@ -105,7 +114,7 @@ fn is_want(error: &io::Error) -> bool {
 
 /// The token of a key.
 fn token_of(key: usize) -> Token {
-    Token(key.saturating_add(1))
+    Token(key.saturating_add(2))
 }
 
 /// Which events of a guest are told.
@@ -125,13 +134,13 @@ fn millis_of(time: Duration) -> u64 {
 }
 
 impl<C: Clock + Drop, F: Framing + Drop> Lobby<C, F> {
-    /// Takes the sockets of this listener, a share of those that the doors of this balance take, and waits by this clock.
+    /// Takes the sockets of this listener, beside the other doors of this share, and waits by this clock.
     pub(crate) fn new(
         net: &impl Net,
         alloc: Global,
         clock: C,
         listener: std::net::TcpListener,
-        balance: Balance,
+        share: Share,
         framing: F,
     ) -> io::Result<Lobby<C, F>>
         ensures { IfOk result (λ lobby. lobby.guests.in_hand ≡ 0) }
@@ -141,6 +150,8 @@ impl<C: Clock + Drop, F: Framing + Drop> Lobby<C, F> {
         let poll = Poll::new(net)?;
         poll.registry()
             .register(&mut listener, Token(LISTENER), Interest::READABLE)?;
+        let waker = Waker::new(poll.registry(), Token(WAKER))?;
+        let place = Place::new(alloc, share.another()?, waker)?;
         let began = Instant::now(&clock).ok();
         Ok(Lobby {
             alloc,
@@ -150,7 +161,8 @@ impl<C: Clock + Drop, F: Framing + Drop> Lobby<C, F> {
             listener,
             poll,
             events: Events::with_capacity(alloc, EVENTS)?,
-            guests: Guests::new(alloc, balance),
+            place,
+            guests: Guests::new(alloc, share),
             tasks: VecDeque::new(alloc),
             round: 0,
             may_come: true,
@@ -196,6 +208,33 @@ impl<C: Clock + Drop, F: Framing + Drop> Lobby<C, F> {
                 return;
             }
         }
+        self.park(guest);
+    }
+
+    /// Holds a guest that is in hand and of whose events no door is told.
+    fn welcome(&mut self, mut guest: Guest)
+        requires { self.old.guests.in_hand ≡ 1 }
+        ensures { self.new.guests.in_hand ≡ 0 }
+    {
+        guest.asks_anew();
+        let token = token_of(self.guests.next_key());
+        let interest = interest_of(&guest);
+        let told = self
+            .poll
+            .registry()
+            .register(guest.stream_mut(), token, interest);
+        if told.is_err() {
+            self.guests.close(guest);
+            return;
+        }
+        self.park(guest);
+    }
+
+    /// Parks a guest that is in hand, and notes whether something is to be done for it.
+    fn park(&mut self, mut guest: Guest)
+        requires { self.old.guests.in_hand ≡ 1 }
+        ensures { self.new.guests.in_hand ≡ 0 }
+    {
         let is_busy = guest.notes_task();
         if let Some(key) = self.guests.park(guest) {
             if is_busy {
@@ -213,6 +252,17 @@ impl<C: Clock + Drop, F: Framing + Drop> Lobby<C, F> {
         }
     }
 
+    /// Whether one more may be held. The one that is missed least goes where there are too many.
+    fn makes_room(&mut self) -> bool
+        ensures same { self.new.guests.in_hand ≡ self.old.guests.in_hand }
+        ensures room { result ≡ true → self.new.guests.parked + self.new.guests.in_hand < sockets }
+    {
+        if self.guests.is_full() {
+            self.guests.shed();
+        }
+        !self.guests.is_full()
+    }
+
     /// Holds a socket that came. The one that is missed least goes where there are too many, or the system lacks something for it.
     fn admit(&mut self, mut stream: TcpStream)
         ensures { self.new.guests.in_hand ≡ self.old.guests.in_hand }
@@ -220,10 +270,7 @@ impl<C: Clock + Drop, F: Framing + Drop> Lobby<C, F> {
         if stream.set_nodelay(true).is_err() {
             return;
         }
-        if self.guests.is_full() {
-            self.guests.shed();
-        }
-        if self.guests.is_full() {
+        if !self.makes_room() {
             return;
         }
         let token = token_of(self.guests.next_key());
@@ -241,10 +288,14 @@ impl<C: Clock + Drop, F: Framing + Drop> Lobby<C, F> {
         }
     }
 
-    /// Whether sockets that came are left to others that hold fewer, for a while.
+    /// Whether sockets that came are left to others: to those that hold fewer, for a while, and where this is the editing door as long
+    /// as another takes any.
     fn leaves_them(&mut self) -> bool
         ensures { self.new.guests.in_hand ≡ self.old.guests.in_hand }
     {
+        if self.place.is_editing() {
+            return !self.place.are_at_rest(self.now);
+        }
         if self.guests.may_take() {
             self.patient_until = 0;
             return false;
@@ -283,12 +334,18 @@ impl<C: Clock + Drop, F: Framing + Drop> Lobby<C, F> {
     }
 
     /// How long may be waited for events.
-    fn patience(&self) -> Option<Duration> {
-        if !self.tasks.is_empty() {
+    fn patience(&mut self) -> Option<Duration>
+        ensures { self.new.guests.in_hand ≡ self.old.guests.in_hand }
+    {
+        let is_editing = self.place.is_editing();
+        let watches = self.place.waits_at_editing() || (is_editing && self.may_come);
+        if !self.tasks.is_empty() || self.place.has_passed() {
             Some(Duration::from_millis(0))
-        } else if self.may_come {
+        } else if self.may_come && !is_editing {
             Some(Duration::from_millis(PATIENCE_MILLIS))
-        } else if self.guests.is_empty() {
+        } else if watches && self.place.may_be_at_rest() {
+            Some(Duration::from_millis(REST_MILLIS))
+        } else if self.guests.is_empty() && !watches {
             None
         } else {
             Some(Duration::from_secs(1))
@@ -306,9 +363,9 @@ impl<C: Clock + Drop, F: Framing + Drop> Lobby<C, F> {
             let Token(token) = event.token();
             if token == LISTENER {
                 self.may_come = true;
-            } else {
+            } else if token != WAKER {
                 let task = Task {
-                    key: token - 1,
+                    key: token - 2,
                     event: Some(event.is_read_closed()),
                 };
                 if self.tasks.push_back(task).is_err() {
@@ -341,6 +398,86 @@ impl<C: Clock + Drop, F: Framing + Drop> Lobby<C, F> {
         true
     }
 
+    /// The connection of a guest that is in hand, with its request.
+    fn give(&mut self, home: Home, mut guest: Guest, parcel: Parcel) -> (Parcel, Outgoing)
+        ensures same { self.new.guests.in_hand ≡ self.old.guests.in_hand }
+        ensures request { result.0 ≡ parcel }
+    {
+        guest.change_room(&mut self.reply_room);
+        (parcel, Outgoing::new(home, guest, self.guests.may_hold()))
+    }
+
+    /// Passes a guest that is in hand to the editing door, with its request. Where that can't be its connection is given here.
+    fn pass_on(
+        &mut self,
+        key: usize,
+        mut guest: Guest,
+        parcel: Parcel,
+    ) -> Option<(Parcel, Outgoing)>
+        requires { self.old.guests.in_hand ≡ 1 }
+        ensures given { OnSome result (self.new.guests.in_hand ≡ 1) }
+        ensures none { IfNone result (self.new.guests.in_hand ≡ 0) }
+        ensures request { IfSome result (λ ends. ends.0 ≡ parcel) }
+    {
+        let home = self.place.number();
+        let now = self.second();
+        if self.poll.registry().deregister(guest.stream_mut()).is_err() {
+            return Some(self.give(Home::Key(key), guest, parcel));
+        }
+        guest.turns_time(now);
+        match self.place.ask(Passed::new(home, guest, parcel)) {
+            Ok(()) => {
+                self.guests.left();
+                None
+            }
+            Err(passed) => {
+                let Passed {
+                    home,
+                    mut guest,
+                    parcel,
+                } = passed;
+                guest.turns_time(now);
+                Some(self.give(Home::Door(home), guest, parcel))
+            }
+        }
+    }
+
+    /// Gives the connection of a socket that was passed here with its request, if there is one. It is closed where none can be held.
+    fn next_passed(&mut self) -> Option<(Parcel, Outgoing)>
+        requires { self.old.guests.in_hand ≡ 0 }
+        ensures given { OnSome result (self.new.guests.in_hand ≡ 1) }
+        ensures none { IfNone result (self.new.guests.in_hand ≡ 0) }
+    {
+        let Passed {
+            home,
+            mut guest,
+            parcel,
+        } = self.place.next_asking(self.now)?;
+        if !self.makes_room() {
+            return None;
+        }
+        self.guests.came();
+        guest.turns_time(self.second());
+        Some(self.give(Home::Door(home), guest, parcel))
+    }
+
+    /// Holds the sockets that came back.
+    fn take_home(&mut self)
+        requires { self.old.guests.in_hand ≡ 0 }
+        ensures { self.new.guests.in_hand ≡ 0 }
+    {
+        'sockets: for _ in 0..u64::MAX {
+            let Some(mut guest) = self.place.next_back() else {
+                return;
+            };
+            if self.makes_room() {
+                self.guests.came();
+                guest.turns_time(self.second());
+                self.welcome(guest);
+            }
+        }
+    }
+
     /// Goes on with a guest that is in hand, and gives its connection where a request is there.
     fn go_on(&mut self, key: usize, mut guest: Guest) -> Option<(Parcel, Outgoing)>
         requires { self.old.guests.in_hand ≡ 1 }
@@ -350,10 +487,13 @@ impl<C: Clock + Drop, F: Framing + Drop> Lobby<C, F> {
         let now = self.second();
         match guest.step(self.alloc, &mut self.room, &mut self.framing, now) {
             Step::Give(parcel) => {
-                guest.change_room(&mut self.reply_room);
-                let outgoing = Outgoing::new(key, guest, self.guests.may_hold());
-                Some((parcel, outgoing))
+                if parcel.begins_get() || !self.place.passes_on(self.now) {
+                    Some(self.give(Home::Key(key), guest, parcel))
+                } else {
+                    self.pass_on(key, guest, parcel)
+                }
             }
+            Step::Refuse(parcel) => Some(self.give(Home::Key(key), guest, parcel)),
             Step::Again | Step::Stay => {
                 self.hold(key, guest);
                 None
@@ -410,8 +550,8 @@ impl<C: Clock + Drop, F: Framing + Drop> Lobby<C, F> {
         None
     }
 
-    /// The next connection.
-    pub(crate) fn next(&mut self) -> io::Result<(Parcel, Outgoing)>
+    /// The next connection, once there is one: of its own sockets and of those that were passed here in turn.
+    fn next_of_all(&mut self) -> io::Result<(Parcel, Outgoing)>
         requires { self.old.guests.in_hand ≡ 0 }
         ensures given { OnOk result (self.new.guests.in_hand ≡ 1) }
         ensures none { OnErr result (self.new.guests.in_hand ≡ 0) }
@@ -421,12 +561,30 @@ impl<C: Clock + Drop, F: Framing + Drop> Lobby<C, F> {
                 return Ok(ends);
             }
             self.wait()?;
+            self.take_home();
             if self.may_come {
                 self.take_in()?;
             }
             self.round = self.tasks.len();
+            if let Some(ends) = self.next_passed() {
+                return Ok(ends);
+            }
         }
         Err(io::Error::from(ErrorKind::TimedOut))
+    }
+
+    /// The next connection.
+    pub(crate) fn next(&mut self) -> io::Result<(Parcel, Outgoing)>
+        requires { self.old.guests.in_hand ≡ 0 }
+        ensures given { OnOk result (self.new.guests.in_hand ≡ 1) }
+        ensures none { OnErr result (self.new.guests.in_hand ≡ 0) }
+    {
+        self.place.note(true);
+        let next = self.next_of_all();
+        if next.is_err() {
+            self.place.note(false);
+        }
+        next
     }
 
     /// Takes back what was given, with its end: where all of it was read and answered the socket stays, and what is left of a reply is
@@ -438,13 +596,35 @@ impl<C: Clock + Drop, F: Framing + Drop> Lobby<C, F> {
         let goes_on = end == Ended::Closed && input.is_read();
         let ends = matches!(end, Ended::Asked | Ended::Spent | Ended::Refused(_));
         self.take_room(input.into_room());
-        let (key, mut guest) = output.into_guest();
+        let (home, mut guest) = output.into_guest();
         let stays = (goes_on || ends) && guest.settle(self.alloc, ends, self.second());
         self.take_reply_room(&mut guest);
         if stays {
-            self.hold(key, guest);
+            self.send_home(home, guest);
         } else {
             self.guests.close(guest);
+        }
+        self.place.note(false);
+    }
+
+    /// Has a guest that is in hand held where it is at home. It is closed where that door has ended.
+    fn send_home(&mut self, home: Home, mut guest: Guest)
+        requires { self.old.guests.in_hand ≡ 1 }
+        ensures { self.new.guests.in_hand ≡ 0 }
+    {
+        match home {
+            Home::Key(key) => self.hold(key, guest),
+            Home::Door(number) => {
+                if number == self.place.number() {
+                    self.welcome(guest);
+                    return;
+                }
+                guest.turns_time(self.second());
+                match self.place.send_back(number, guest) {
+                    Ok(()) => self.guests.left(),
+                    Err(guest) => self.guests.close(guest),
+                }
+            }
         }
     }
 
@@ -466,6 +646,8 @@ impl<C: Clock + Drop, F: Framing + Drop> Lobby<C, F> {
         requires { self.old.guests.in_hand ≡ 0 }
         ensures { self.new.guests.in_hand ≡ 0 }
     {
+        self.place.end();
+        self.take_home();
         'waits: for _ in 0..u64::MAX {
             self.round = self.tasks.len();
             self.end_round();

@@ -4,12 +4,21 @@ ghost use Rattle.std.specs.Prelude.{None};
 use crate::guest::Guest;
 use site_io::{Failed, Sink};
 
+/// Where a guest is parked once it is given back.
+#[derive(Clone, Copy, Debug)]
+pub(crate) enum Home {
+    /// Here, where it has this key and is told of its events.
+    Key(usize),
+    /// At the door of this number, which may be this one. No door is told of its events.
+    Door(usize),
+}
+
 /// The socket of a connection that a door gave. What is written is gathered, and leaves where it is flushed. What the socket doesn't
 /// take at once is kept, and sent once the door has it back: so no write waits. It fails where the socket has failed, where the door
 /// holds too much, or where memory is wanting.
 pub struct Outgoing {
     guest: Guest,
-    key: usize,
+    home: Home,
     /// How many bytes may be kept.
     may_keep: usize,
     faults: u64,
@@ -19,7 +28,7 @@ impl Drop for Outgoing {
     fn drop(self) {
         let Outgoing {
             guest: _,
-            key: _,
+            home: _,
             may_keep: _,
             faults: _,
         } = self;
@@ -27,25 +36,25 @@ impl Drop for Outgoing {
 }
 
 impl Outgoing {
-    /// The socket of the guest of a key. So many bytes may be kept, and nothing has failed.
-    pub(crate) fn new(key: usize, guest: Guest, may_keep: usize) -> Outgoing {
+    /// The socket of a guest with this home. So many bytes may be kept, and nothing has failed.
+    pub(crate) fn new(home: Home, guest: Guest, may_keep: usize) -> Outgoing {
         Outgoing {
             guest,
-            key,
+            home,
             may_keep,
             faults: 0,
         }
     }
 
-    /// The guest, and its key.
-    pub(crate) fn into_guest(self) -> (usize, Guest) {
+    /// The guest, and its home.
+    pub(crate) fn into_guest(self) -> (Home, Guest) {
         let Outgoing {
             guest,
-            key,
+            home,
             may_keep: _,
             faults: _,
         } = self;
-        (key, guest)
+        (home, guest)
     }
 }
 

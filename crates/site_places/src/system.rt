@@ -17,7 +17,7 @@ use crate::framing::HttpFraming;
 use crate::place::{NoDevice, Place};
 use crate::store::StoreFile;
 use keeper_sqlite::{FileKeeper, NoKeeper, open_keeper, open_or_make_keeper};
-use site_doors::{Balance, LobbyDoor, listener_at};
+use site_doors::{LobbyDoor, Share, listener_at};
 use site_io::{
     Door, NoChance, OpenGate, Reading, Seed, Source, SystemClock, SystemEntropy, Writing,
 };
@@ -33,7 +33,7 @@ use std::net::TcpListener;
 struct Listening {
     address: String,
     listener: TcpListener,
-    balance: Balance,
+    share: Share,
 }
 
 /// The place of the real program: the system's clock, streams of chance over one seed of the system's, its files, its
@@ -83,26 +83,23 @@ impl SystemPlace {
     }
 
     /// A share of the listener of an address, which is made where no door of that address is out.
-    fn share_at(&mut self, address: &str) -> io::Result<(TcpListener, Balance)>
+    fn share_at(&mut self, address: &str) -> io::Result<(TcpListener, Share)>
         ensures { self.new ≡ self.old }
     {
         if let Some(listening) = &self.listening {
             if listening.address.as_str() == address {
-                return Ok((
-                    listening.listener.try_clone()?,
-                    listening.balance.with_door()?,
-                ));
+                return Ok((listening.listener.try_clone()?, listening.share.another()?));
             }
         }
         let listener = listener_at(&self.rt, address)?;
-        let balance = Balance::new(self.rt.alloc())?;
-        let share = (listener.try_clone()?, balance.with_door()?);
+        let share = Share::new(self.rt.alloc())?;
+        let theirs = (listener.try_clone()?, share.another()?);
         self.listening = Some(Listening {
             address: String::from_str(self.rt.alloc(), address)?,
             listener,
-            balance,
+            share,
         });
-        Ok(share)
+        Ok(theirs)
     }
 
     /// A door at an address.
@@ -111,16 +108,9 @@ impl SystemPlace {
         ensures faults { IfOk result (λ door. door.faults ≡ 0) }
         ensures none_out { IfOk result (λ door. door.is_out ≡ false) }
     {
-        let (listener, balance) = self.share_at(address)?;
+        let (listener, share) = self.share_at(address)?;
         let framing = HttpFraming::new(self.rt.alloc())?;
-        LobbyDoor::new(
-            &self.rt,
-            self.rt.alloc(),
-            self.rt,
-            listener,
-            balance,
-            framing,
-        )
+        LobbyDoor::new(&self.rt, self.rt.alloc(), self.rt, listener, share, framing)
     }
 
     /// The store of a keeper, where it was opened; what wasn't is counted, but for want of memory.
