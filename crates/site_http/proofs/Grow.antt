@@ -10,6 +10,7 @@ use Rattle.element_entries.specs.Keys.{visit}
 use Rattle.late_pages.specs.Needed.{OfFirst}
 use Rattle.site_late.specs.Sending.{IsLateReply, reader_of}
 use Rattle.site_http.specs.Called.{Called, ToRead, ToLate, ToEdit, Wish, called, ask_of}
+use Rattle.site_http.specs.Kept.{OfParts}
 use Rattle.site_http.specs.Reply.{Story, Says, IsLate, late_story, IsRefused, IsAccepted, IsKeeper, HandedOnce, IsWanting, IsAnswer, IsText, judgement}
 use Rattle.site_http.specs.Connection.{Texts, closes_after, joined, nothing}
 use Rattle.site_house.proofs.Histories.{on_grows, on_lower, state_grows, log_grows, newest_grows}
@@ -98,13 +99,16 @@ late_grows history more low ask closing story r =
       built = r.built;
       count = r.count;
       went = r.went;
+      places = r.places;
+      wents = r.wents;
       text = r.text;
       within = r.within;
       on = on_grows history more low r.number r.on;
-      reply = subst (λ (s : State). IsLateReply s ask r.moment closing r.count r.text) same r.reply;
+      reply = subst (λ (s : State). IsLateReply s ask r.moment closing r.count r.places r.text) same r.reply;
       needed = subst (λ (s : State). OfFirst (visit (reader_of s ask r.moment)) r.went) same r.needed;
       counted = r.counted;
-      story_is = r.story_is ∙ ap (λ (s : State). record (late_story s ask r.moment r.built r.count r.went r.text) { high = r.number }) same;
+      of_parts = subst (λ (s : State). OfParts (visit (reader_of s ask r.moment)) r.places r.wents) same r.of_parts;
+      story_is = r.story_is ∙ ap (λ (s : State). record (late_story s ask r.moment r.built r.count r.went r.wents r.text) { high = r.number }) same;
     }
 
 -- a reply stays one when the history grows
@@ -191,12 +195,15 @@ late_lower history low lower ask closing story less r = record {
   built = r.built;
   count = r.count;
   went = r.went;
+  places = r.places;
+  wents = r.wents;
   text = r.text;
   within = r.within;
   on = on_lower history low lower r.number less r.on;
   reply = r.reply;
   needed = r.needed;
   counted = r.counted;
+  of_parts = r.of_parts;
   story_is = r.story_is;
 }
 

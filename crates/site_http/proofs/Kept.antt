@@ -1,5 +1,5 @@
 -- What became of what is kept, from one reply to the next.
-use Rattle.std.proofs.Common.{◌≡◌, ◌∙◌, ◌++◌, ℕ, zero, suc, List, [], ◌∷◌, Bool, true, false, Option, Some, None, is_some, option_map, replicate, refl, sym, ap, subst}
+use Rattle.std.proofs.Common.{◌≡◌, ◌∙◌, ◌++◌, ℕ, List, [], ◌∷◌, Option, Some, None, is_some, option_map, refl, sym, ap, subst}
 use Rattle.element_entries.specs.Readers.{Reader}
 use Rattle.fragment_cache.specs.Bins.{Bins}
 use Rattle.kept_pages.specs.Went.{Went}
@@ -67,26 +67,3 @@ keeps_page {old} {new} r t moves goes =
 -- nothing was needed
 pub needs_nothing : (house : HouseView) (Holds : List (Option Need) → Type 0) → Holds [] → Needing house house Holds
 needs_nothing house Holds holds = record { needs = []; holds = holds; kept = keeps_nothing (shelves_of house) (shelves_of house) refl }
-
--- ---- a page whose parts are sent late
-
-unknowns : (n : ℕ) (s : Shelves) → GoesThrough (replicate n None) s s
-unknowns zero s = refl
-unknowns (suc n) s = (s, tt, unknowns n s)
-
-some_unknown : (n : ℕ) (old new : Option Shelves) → is_some new ≡ is_some old → KeepsFor (replicate (suc n) None) old new
-some_unknown n None None same = refl
-some_unknown n None (Some new) same = absurd cc
-some_unknown n (Some old) None same = absurd cc
-some_unknown n (Some old) (Some new) same = (new, tt, unknowns n new)
-
--- nothing is told of what so many parts needed; where there were none nothing happened
-all_unknown : {old new : HouseView} (n : ℕ) → Moves old new → (n ≡ 0 → new ≡ old) → KeepsFor (replicate n None) (shelves_of old) (shelves_of new)
-all_unknown {old} {new} zero moves still = keeps_nothing (shelves_of old) (shelves_of new) (ap shelves_of (still refl))
-all_unknown {old} {new} (suc n) moves still =
-    some_unknown n (shelves_of old) (shelves_of new) (told_by new.unkept new.bins ∙ moves.told ∙ sym (told_by old.unkept old.bins))
-
--- what is sent first, and then so many parts
-pub keeps_late : {old mid new : HouseView} (r : Reader) (t : Went) (n : ℕ) → Moves old mid → ((s : Shelves) → IsTold old s → GoesTo r s t mid) → Moves mid new → (n ≡ 0 → new ≡ mid) → KeepsFor (Some (record { reader = r; went = t }) ∷ replicate n None) (shelves_of old) (shelves_of new)
-keeps_late {old} {mid} {new} r t n before goes behind still =
-    keeps_more (Some (record { reader = r; went = t }) ∷ []) (replicate n None) (shelves_of old) (shelves_of mid) (shelves_of new) (keeps_page r t before goes) (all_unknown n behind still)

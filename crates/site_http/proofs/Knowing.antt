@@ -1,5 +1,5 @@
 -- A known request is answered as the request that it is.
-use Rattle.std.proofs.Common.{◌≡◌, ◌++◌, ◌+◌, ◌==◌, ◌||◌, ◌⊎◌, List, [], ℕ, Bool, Option, None, Some, length, sym, subst, inl, inr}
+use Rattle.std.proofs.Common.{◌++◌, ◌+◌, ◌==◌, ◌||◌, ◌⊎◌, List, [], ℕ, Bool, Option, None, Some, length, sym, subst, inl, inr}
 use Rattle.content_state.specs.declared.ask.Ask.{Ask}
 use Rattle.content_state.specs.Ask.{IsAsk}
 use Rattle.http_heads.specs.declared.request.Request.{Request}

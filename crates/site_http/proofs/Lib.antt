@@ -2,6 +2,7 @@ pub mod Asks
 pub mod Fixed
 pub mod Stories
 mod Kept
+mod Parts
 mod Made
 mod Again
 mod Alone

@@ -270,7 +270,7 @@ late_answered_at {old} {now} {new} {history} {limit} {low} {count} {seen} {least
       count = r.count;
       parts = r.parts;
       some = r.some;
-      went = went_on a.more (broken_at r.count r.parts r.story) p.went a.source r.gave;
+      went = went_on a.more (broken_at least r.count r.parts r.story) p.went a.source r.gave;
       reads = rest_reads limit count p.taken buffer a.more p.done p.count_is p.reads;
       texts = p.texts;
       not_above = omega arith;

@@ -166,8 +166,9 @@ pub record Broken (old new : Around) (history : History) (limit low : ℕ) : Typ
   pub next_is : NextReply history limit (length requests) story.high rest last ⊎ NextRefusal story.high rest last
 
 -- A late reply broke off: the first requests of the bytes taken were answered, one whole text each, in order, and of the next, a late
--- reply's, a front was written, at least so many bytes of it. What was told of it was told until then.
-pub record BrokenLate (old new : Around) (history : History) (limit low least : ℕ) : Type 0 where
+-- reply's, a front was written. What was told and needed of it was until then. Memory was wanting for `short` of its parts, none or the
+-- last one that was begun, and where it was something was written before.
+pub record BrokenLate (old new : Around) (history : History) (limit low short : ℕ) : Type 0 where
   pub taken : List ℕ
   pub requests : List Request
   pub story : Story
@@ -175,8 +176,8 @@ pub record BrokenLate (old new : Around) (history : History) (limit low least : 
   pub last : Story
   pub count : ℕ
   pub parts : ℕ
-  pub some : least ≤ count
-  pub went : Went old new taken (joined story (broken_at count parts last))
+  pub some : short ≤ count
+  pub went : Went old new taken (joined story (broken_at short count parts last))
   pub reads : (others : List Request) (end : End) → Reads (limit - length requests) rest others end → Reads limit taken (requests ++ others) end
   pub texts : Texts history limit 0 low requests story
   pub not_above : story.high ≤ newest history

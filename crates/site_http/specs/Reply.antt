@@ -1,9 +1,10 @@
 -- The reply to a request: what it is by the state that it is of, and what it takes and tells besides.
 -- RFC 9110, sections 9.3.1 (GET), 15.5.6 (405) and 10.2.1 (Allow); RFC 4918, section 11.5 (507).
-use Rattle.std.specs.Prelude.{ℕ, suc, List, [], ◌∷◌, ◌++◌, ◌≡◌, ◌≤◌, ◌<◌, ◌==◌, ◌⊎◌, Bool, true, false, Option, Some, None, is_some, codes, length, take, replicate, if◌then◌else◌, min}
+use Rattle.std.specs.Prelude.{ℕ, suc, List, [], ◌∷◌, ◌++◌, ◌≡◌, ◌≤◌, ◌<◌, ◌-◌, ◌==◌, ◌⊎◌, Bool, true, false, Option, Some, None, is_some, codes, length, take, replicate, if◌then◌else◌, min}
 use Rattle.content_state.specs.declared.ask.Ask.{Ask}
 use Rattle.content_state.specs.State.{State}
 use Rattle.content_state.specs.declared.commit.Commit.{Commit}
+use Rattle.content_state.specs.declared.element.Hole.{Hole}
 use Rattle.content_state.specs.Viewer.{viewer_of}
 use Rattle.cache_contexts.specs.Values.{visit_on}
 use Rattle.element_entries.specs.Keys.{visit}
@@ -31,7 +32,7 @@ use Rattle.site_house.specs.History.{History, OnLog, newest, log_to, state_of}
 use Rattle.site_late.specs.Heads.{media_of}
 use Rattle.site_late.specs.Sending.{IsLateReply, late_points, reader_of}
 use Rattle.site_http.specs.Called.{Called, ToRead, ToLate, ToEdit, Wish, called, ask_of}
-use Rattle.site_http.specs.Kept.{Need}
+use Rattle.site_http.specs.Kept.{Need, OfParts, needs_of}
 use Rattle.site_http.specs.declared.call.Reading.{Reading}
 use Rattle.site_http.specs.declared.call.Reading.TheVariants as reading
 
@@ -178,9 +179,9 @@ pub record OnState (history : History) (low : ℕ) (story : Story) (Holds : Stat
 -- ---- pages whose parts are sent late
 
 -- The story of a late reply on a state, of so many parts, for what is sent first of which so many elements were built. It is told
--- what was needed for what is sent first, and of no part.
-abbrev pub late_story : State → Ask → (moment built count : ℕ) → Went → List ℕ → Story
-late_story state ask moment built count went text = record {
+-- what was needed for what is sent first, and then for each part.
+abbrev pub late_story : State → Ask → (moment built count : ℕ) → Went → List Went → List ℕ → Story
+late_story state ask moment built count went wents text = record {
   moments = moment ∷ [];
   words = [];
   points = late_points built count;
@@ -188,31 +189,36 @@ late_story state ask moment built count went text = record {
   handed = [];
   keepers = 0;
   high = state.number;
-  needs = Some (record { reader = reader_of state ask moment; went = went }) ∷ replicate count None;
+  needs = needs_of (reader_of state ask moment) (went ∷ wents);
 }
 
 -- The late reply on one state, whose number is of the history and isn't below the earlier ones: the gate was told of the snapshot,
--- then of the reply, and then of each of its parts.
+-- then of the reply, and then of each of its parts. Of all that is needed for what is sent first, and for each part, each was found,
+-- or built of what stands in its places.
 pub record IsLate (history : History) (low : ℕ) (ask : Ask) (closing : Bool) (story : Story) : Type 0 where
   pub moment : ℕ
   pub number : ℕ
   pub built : ℕ
   pub count : ℕ
   pub went : Went
+  pub places : List Hole
+  pub wents : List Went
   pub text : List ℕ
   pub within : moment ≤ last_moment
   pub on : OnLog history low number
-  pub reply : IsLateReply (state_of history number) ask moment closing count text
+  pub reply : IsLateReply (state_of history number) ask moment closing count places text
   pub needed : OfFirst (visit (reader_of (state_of history number) ask moment)) went
   pub counted : built ≡ min (number_built went) 18446744073709551615
-  pub story_is : story ≡ record (late_story (state_of history number) ask moment built count went text) { high = number }
+  pub of_parts : OfParts (visit (reader_of (state_of history number) ask moment)) places wents
+  pub story_is : story ≡ record (late_story (state_of history number) ask moment built count went wents text) { high = number }
 
 -- A story of a late reply, of which so many bytes were written and so many parts begun: what was told and needed of the others wasn't.
-abbrev pub broken_at : (bytes parts : ℕ) → Story → Story
-broken_at bytes parts story = record story {
+-- Memory was wanting for `short` of these, none or the last one: of what that one needed nothing is said.
+abbrev pub broken_at : (short bytes parts : ℕ) → Story → Story
+broken_at short bytes parts story = record story {
   points = take (suc (suc parts)) story.points;
   text = take bytes story.text;
-  needs = take (suc parts) story.needs;
+  needs = take (suc (parts - short)) story.needs ++ replicate short None;
 }
 
 -- ---- edits

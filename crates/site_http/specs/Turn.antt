@@ -116,7 +116,7 @@ CountsOutcome Written old new = new ≡ old
 CountsOutcome WriteFault old new = Rose old new
 CountsOutcome outcome.OutOfMemory old new = new ≡ old
 
--- the same of a turn, which goes on at none
+-- a turn counts as its end does, and a turn that goes on as one without faults
 abbrev pub TurnReads : Option Ended → ℕ → ℕ → Type 0
 TurnReads None old new = new ≡ old
 TurnReads (Some end) old new = CountsReads end old new
@@ -190,15 +190,16 @@ pub record HalfReplied (old new : Out) (history : History) (low : ℕ) (request 
   pub gave : Gave old new (cut_at count story)
   pub not_above : story.high ≤ newest history
 
--- a request was answered late, and of its text a front was written, at least so many bytes of it
-pub record LateReplied (old new : Out) (history : History) (low : ℕ) (request : Request) (closing : Bool) (least : ℕ) : Type 0 where
+-- A request was answered late, and of its text a front was written. Memory was wanting for `short` of its parts, none or the last one
+-- that was begun, and where it was something was written before.
+pub record LateReplied (old new : Out) (history : History) (low : ℕ) (request : Request) (closing : Bool) (short : ℕ) : Type 0 where
   pub story : Story
   pub count : ℕ
   pub parts : ℕ
-  pub some : least ≤ count
+  pub some : short ≤ count
   pub late : request.late ≡ true
   pub reply : IsLate history low (ask_of request) closing story
-  pub gave : Gave old new (broken_at count parts story)
+  pub gave : Gave old new (broken_at short count parts story)
   pub not_above : story.high ≤ newest history
 
 -- one request was answered, and this became of the reply
@@ -272,15 +273,15 @@ pub record HalfAnswered (old new : Around) (history : History) (limit index low 
   pub parses : Parses (buffer ++ more) (Whole request size)
   pub replied : HalfReplied old.out new.out history low request (closes_after limit index request)
 
--- a late reply was written in part, at least so many bytes of it
-pub record LateAnswered (old new : Around) (history : History) (limit index low : ℕ) (buffer : List ℕ) (least : ℕ) : Type 0 where
+-- a late reply was written in part, where memory was wanting for `short` of its parts
+pub record LateAnswered (old new : Around) (history : History) (limit index low : ℕ) (buffer : List ℕ) (short : ℕ) : Type 0 where
   pub more : List ℕ
   pub request : Request
   pub size : ℕ
   pub source : old.left ≡ before more new.left
   pub needed : ReadInNeed buffer more
   pub parses : Parses (buffer ++ more) (Whole request size)
-  pub replied : LateReplied old.out new.out history low request (closes_after limit index request) least
+  pub replied : LateReplied old.out new.out history low request (closes_after limit index request) short
 
 -- a refusal was written in part
 pub record HalfRefused (old new : Around) (buffer : List ℕ) (low : ℕ) : Type 0 where

@@ -1,5 +1,5 @@
 -- Texts in pieces, of which so many are written.
-use Rattle.std.proofs.Common.{◌≡◌, ◌∙◌, ◌≤◌, ◌<◌, ◌+◌, ◌++◌, List, [], ◌∷◌, ℕ, suc, Option, Some, None, Result, Ok, Err, OnErr, ap, sym, refl, arith, length, length-append, take, drop, get_or}
+use Rattle.std.proofs.Common.{◌≡◌, ◌∙◌, ◌≤◌, ◌<◌, ◌+◌, ◌++◌, List, [], ◌∷◌, ℕ, suc, Option, Result, Ok, Err, OnErr, ap, sym, arith, length, length-append, take, drop, get_or}
 use Rattle.std.proofs.Math.Seq.{split_at, take-length}
 use Rattle.std.proofs.lemmas.List.{append-nil, take-append-le}
 use Rattle.std.proofs.lemmas.Grind.{flat_map-append}

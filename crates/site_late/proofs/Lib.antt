@@ -2,6 +2,7 @@ pub mod Told
 pub mod Joining
 pub mod Statuses
 pub mod Seen
-mod Templates
+mod Making
+pub mod Templates
 mod Sends
 mod Replied

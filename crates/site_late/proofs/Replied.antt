@@ -2,6 +2,7 @@
 use Rattle.std.proofs.Common.{◌≡◌, ◌∙◌, ◌+◌, ◌++◌, ◌<◌, List, [], ◌∷◌, ℕ, suc, Bool, Option, ap, sym, refl, subst, arith, append_assoc, length, length-append, replicate, take}
 use Rattle.content_state.specs.State.{State}
 use Rattle.content_state.specs.declared.ask.Ask.{Ask}
+use Rattle.content_state.specs.declared.element.Hole.{Hole}
 use Rattle.http_heads.specs.Reply.{head_text, version_mark}
 use Rattle.http_heads.specs.declared.reply.ReplyHead.{ReplyHead}
 use Rattle.late_pages.specs.Late.{LatePart, PartsShow, parts_sent}
@@ -15,12 +16,14 @@ use Rattle.site_io.specs.Reached.{and_point}
 use Rattle.site_io.specs.Told.{after, AddsFront}
 use Rattle.site_late.specs.Heads.{late_head, media_of}
 use Rattle.site_late.specs.Ready.{IsReady, SendsRest}
-use Rattle.site_late.specs.Sending.{Around, Begins, IsLateReply, NeededFirst, SaysSome, Sends, Until, and_points, late_points}
+use Rattle.site_late.specs.Making.{MakesBegun}
+use Rattle.site_late.specs.Sending.{Around, Begins, IsLateReply, NeededFirst, SaysSome, Sends, Until, and_points, is_short, late_points, places_sent, reader_of}
 use Rattle.site_late.specs.declared.late.Ready.{Ready}
 use Rattle.site_late.specs.declared.late.Sent.{Sent}
 use Rattle.site_late.specs.declared.late.Sent.TheVariants as sent
 use Rattle.site_house.proofs.Moving.{moves_same}
 use Rattle.site_late.proofs.Joining.{front_in}
+use Rattle.site_late.proofs.Making.{begun_none}
 use Rattle.site_late.proofs.Sends.{Ends, may_end}
 use Rattle.site_late.proofs.Told.{after_after, after_nothing, point_of, points_nothing, points_points}
 
@@ -72,23 +75,25 @@ some_on sent.OutOfMemory done bytes some = omega (arith, some)
 abbrev text_of : Ready → List ℕ → List ℕ
 text_of r rest = r.head.items ++ (r.late.parts ++ rest)
 
-begins : (how : Sent) {old mid new : HouseView} (r : Ready) (state : State) (ask : Ask) (moment : ℕ) (closing : Bool) (points first second later : Option (List Point)) (written later-written : Option (List ℕ)) (rest : List ℕ) (count parts bytes : ℕ)
-    → IsReady state old mid ask moment closing r → Moves old mid → Moves mid new → Ends state.rows ask moment r.late.status (r.late.parts ++ rest) count
+begins : (how : Sent) {old mid new : HouseView} (r : Ready) (state : State) (ask : Ask) (moment : ℕ) (closing : Bool) (points first second later : Option (List Point)) (written later-written : Option (List ℕ)) (rest : List ℕ) (count : ℕ) (places : List Hole) (parts bytes : ℕ)
+    → IsReady state old mid ask moment closing r → Moves old mid → Moves mid new → Ends state.rows ask moment r.late.status (r.late.parts ++ rest) count places
     → first ≡ and_point points AfterSnapshot → second ≡ and_point first (BeforeReply r.late.built) → later ≡ and_points second (replicate parts BeforePart)
-    → later-written ≡ after written (take bytes (text_of r rest)) → Until how count parts (text_of r rest) bytes → SaysSome how bytes → (parts ≡ 0 → new ≡ mid)
+    → later-written ≡ after written (take bytes (text_of r rest)) → Until how count parts (text_of r rest) bytes → SaysSome how bytes → (parts ≡ 0 → new ≡ mid) → MakesBegun (is_short how) (reader_of state ask moment) places parts mid new
     → Begins how (record { house = old; points = points; written = written }) (record { house = new; points = later; written = later-written }) ask moment closing
-begins how {old} {mid} {new} r state ask moment closing points first second later written later-written rest count parts bytes i before behind ends one two three wrote until some still =
+begins how {old} {mid} {new} r state ask moment closing points first second later written later-written rest count places parts bytes i before behind ends one two three wrote until some still made =
     let here : state ≡ state_of (history_of new) i.number = i.state_is ∙ state_on (newest (history_of old)) i.number behind i.on in
     record {
       number = i.number;
       on = moved_on old i.number behind i.on;
       count = count;
+      places = places;
       text = text_of r rest;
-      reply = subst (λ (s : State). IsLateReply s ask moment closing count (text_of r rest)) here (record {
+      reply = subst (λ (s : State). IsLateReply s ask moment closing count places (text_of r rest)) here (record {
         status = r.late.status;
         body = r.late.parts ++ rest;
         page = ends.page;
         count_is = sym ends.parts;
+        places_are = sym ends.places_are;
         text_is = ap (λ (h : List ℕ). h ++ (r.late.parts ++ rest)) i.head_is;
       });
       built = r.late.built;
@@ -103,6 +108,7 @@ begins how {old} {mid} {new} r state ask moment closing points first second late
       until = until;
       some = some;
       still = still;
+      made = subst (λ (s : State). MakesBegun (is_short how) (reader_of s ask moment) places parts mid new) here made;
     }
 
 -- a front of what is sent first was written
@@ -113,8 +119,8 @@ pub sends_front : {old mid : HouseView} (r : Ready) (state : State) (ask : Ask) 
 sends_front {old} {mid} r state ask moment closing points first second written later-written i before parts one two front =
     let e = may_end state.rows ask moment r.late.status r.late.parts r.late.holes.items i.opened.first parts in
     let whole = front_in written written later-written (text_of r e.0) [] (r.head.items ++ r.late.parts) e.0 (sym (append_assoc r.head.items r.late.parts e.0)) (after_nothing written) front in
-    begins sent.WriteFault r state ask moment closing points first second second written later-written e.0 e.1 0 whole.count
-    i before (moves_same mid) e.2 one two (points_nothing second) whole.told (omega arith, whole.within) tt (λ none. refl)
+    begins sent.WriteFault r state ask moment closing points first second second written later-written e.0 e.1 r.late.holes.items 0 whole.count
+    i before (moves_same mid) e.2 one two (points_nothing second) whole.told (omega arith, whole.within) tt (λ none. refl) (begun_none (reader_of state ask moment) r.late.holes.items mid)
 
 -- and so much of what stands behind it
 pub sends_rest : (how : Sent) {old mid new : HouseView} (r : Ready) (state : State) (ask : Ask) (moment : ℕ) (closing : Bool) (points first second later : Option (List Point)) (written now later-written : Option (List ℕ))
@@ -129,12 +135,12 @@ sends_rest how {old} {mid} {new} r state ask moment closing points first second 
     let head : 0 < length r.head.items =
     subst (λ (l : List ℕ). 0 < length l) (sym i.head_is) (head_some (late_head (media_of ask.path) r.late.status state.number closing)) in
     let some : 0 < length done = omega (arith, head, length-append r.head.items r.late.parts) in
-    begins how r state ask moment closing points first second later written later-written s.rest (parts_sent s.page) s.parts (length done + s.bytes)
-    i before behind (record { page = s.page; parts = refl }) one two s.told
+    begins how r state ask moment closing points first second later written later-written s.rest (parts_sent s.page) (places_sent s.page) s.parts (length done + s.bytes)
+    i before behind (record { page = s.page; parts = refl; places_are = refl }) one two s.told
     (s.wrote ∙ ap (λ (o : Option (List ℕ)). after o (take s.bytes s.rest)) wrote ∙ after_after written done (take s.bytes s.rest)
     ∙ ap (after written) (take_behind done s.rest s.bytes ∙ ap (take (length done + s.bytes)) same))
     (until_on how (parts_sent s.page) s.parts (text_of r s.rest) s.rest (length done) s.bytes long s.until)
-    (some_on how (length done) s.bytes some) s.still
+    (some_on how (length done) s.bytes some) s.still s.made
 
 -- what became of it
 pub sends_by : (how : Sent) {old new : Around} (ask : Ask) (moment : ℕ) (closing : Bool) → Begins how old new ask moment closing → Sends how old new ask moment closing

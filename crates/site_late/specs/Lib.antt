@@ -1,4 +1,5 @@
 pub mod Heads
+pub mod Making
 pub mod Sending
 pub mod Parts
 pub mod Ready

@@ -12,7 +12,8 @@ use Rattle.site_io.specs.declared.device.Point.{Point}
 use Rattle.site_io.specs.declared.device.Point.TheVariants.{BeforePart}
 use Rattle.site_io.specs.Told.{after, Rose}
 use Rattle.site_late.specs.Heads.{late_head, media_of}
-use Rattle.site_late.specs.Sending.{NeededFirst, Until, and_points}
+use Rattle.site_late.specs.Making.{MakesBegun}
+use Rattle.site_late.specs.Sending.{NeededFirst, Until, and_points, is_short, places_sent, reader_of}
 use Rattle.site_late.specs.declared.late.Ready.{Ready}
 use Rattle.site_late.specs.declared.late.Sent.{Sent}
 use Rattle.site_late.specs.declared.late.Sent.TheVariants as sent
@@ -43,6 +44,7 @@ pub record SendsRest (how : Sent) (old new : HouseView) (state : State) (ask : A
   pub wrote : written-after ≡ after written (take bytes rest)
   pub until : Until how (parts_sent page) parts rest bytes
   pub still : parts ≡ 0 → new ≡ old
+  pub made : MakesBegun (is_short how) (reader_of state ask moment) (places_sent page) parts old new
 
 -- what was written is counted: a fault exactly where the count rose
 abbrev pub CountsSent : Sent → ℕ → ℕ → Type 0

@@ -1,7 +1,11 @@
 -- Pages whose parts are sent late: what is written of them, and what is told meanwhile.
 -- https://www.drupal.org/docs/8/core/modules/big-pipe/overview
-use Rattle.std.specs.Prelude.{ℕ, List, [], ◌∷◌, ◌++◌, ◌≡◌, ◌≤◌, ◌<◌, ◌⊎◌, Bool, Option, Some, None, length, take, min, replicate}
+use Rattle.std.specs.Prelude.{ℕ, List, [], ◌∷◌, ◌++◌, ◌≡◌, ◌≤◌, ◌<◌, ◌⊎◌, Bool, true, false, Option, Some, None, length, take, min, replicate}
+use Rattle.std.proofs.Common.{inl, inr}
+use Rattle.content_rows.specs.declared.cell.Cell.{Cell}
+use Rattle.content_rows.specs.declared.row.Row.{Row}
 use Rattle.content_state.specs.declared.ask.Ask.{Ask}
+use Rattle.content_state.specs.declared.element.Hole.{Hole}
 use Rattle.content_state.specs.State.{State}
 use Rattle.content_state.specs.Viewer.{viewer_of}
 use Rattle.element_entries.specs.Keys.{visit}
@@ -9,7 +13,7 @@ use Rattle.element_entries.specs.Readers.{Reader}
 use Rattle.http_heads.specs.Reply.{reply_text}
 use Rattle.kept_pages.specs.Held.{Shelves, IsTold, GoesTo}
 use Rattle.kept_pages.specs.Went.{Went, number_built}
-use Rattle.late_pages.specs.Late.{IsSent, parts_sent}
+use Rattle.late_pages.specs.Late.{IsSent, late_places, parts_sent}
 use Rattle.late_pages.specs.Needed.{OfFirst}
 use Rattle.site_house.specs.House.{HouseView, Moves, history_of}
 use Rattle.site_house.specs.History.{OnLog, newest, state_of}
@@ -17,6 +21,7 @@ use Rattle.site_io.specs.declared.device.Point.{Point}
 use Rattle.site_io.specs.declared.device.Point.TheVariants.{AfterSnapshot, BeforeReply, BeforePart}
 use Rattle.site_io.specs.Told.{after}
 use Rattle.site_late.specs.Heads.{late_head, media_of}
+use Rattle.site_late.specs.Making.{MakesBegun}
 use Rattle.site_late.specs.declared.late.Sent.{Sent}
 use Rattle.site_late.specs.declared.late.Sent.TheVariants as sent
 
@@ -34,12 +39,19 @@ ToldOnTheWay points points-after =
 abbrev pub late_points : (built parts : ℕ) → List Point
 late_points built parts = AfterSnapshot ∷ BeforeReply built ∷ replicate parts BeforePart
 
--- The late page of what was asked on a state, at a moment, under its head, of so many parts: all of it is of this one state.
-pub record IsLateReply (state : State) (ask : Ask) (moment : ℕ) (closing : Bool) (count : ℕ) (text : List ℕ) : Type 0 where
+-- the places of the parts that are sent late, in their order
+abbrev pub places_sent : {rows : List (Cell × Row)} {ask : Ask} {moment status : ℕ} {text : List ℕ} → IsSent rows ask moment status text → List Hole
+places_sent (inl whole) = []
+places_sent (inr late) = late_places late.shown
+
+-- The late page of what was asked on a state, at a moment, under its head, of so many parts, which stand in these places: all of it is
+-- of this one state.
+pub record IsLateReply (state : State) (ask : Ask) (moment : ℕ) (closing : Bool) (count : ℕ) (places : List Hole) (text : List ℕ) : Type 0 where
   pub status : ℕ
   pub body : List ℕ
   pub page : IsSent state.rows ask moment status body
   pub count_is : count ≡ parts_sent page
+  pub places_are : places ≡ places_sent page
   pub text_is : text ≡ reply_text (late_head (media_of ask.path) status state.number closing) body
 
 -- how far it was written: all of it, with all parts, or a front of it, where writing failed, or memory was wanting for a part
@@ -55,6 +67,13 @@ SaysSome sent.NotBegun bytes = Unit {0}
 SaysSome sent.Written bytes = Unit {0}
 SaysSome sent.WriteFault bytes = Unit {0}
 SaysSome sent.OutOfMemory bytes = 0 < bytes
+
+-- whether memory was wanting for the part that was begun last
+abbrev pub is_short : Sent → Bool
+is_short sent.NotBegun = false
+is_short sent.Written = false
+is_short sent.WriteFault = false
+is_short sent.OutOfMemory = true
 
 -- for whom the page of what was asked is, on a state, at a moment
 abbrev pub reader_of : State → Ask → ℕ → Reader
@@ -75,13 +94,14 @@ pub record Around : Type 0 where
   pub written : Option (List ℕ)
 
 -- A late reply was begun, on one state, whose number the house has seen and which isn't below what it had seen before; of its text so
--- many bytes were written, and so many of its parts begun.
+-- many bytes were written, and so many of its parts begun. Of what is kept each part took what was found, and added what was built.
 pub record Begins (how : Sent) (old new : Around) (ask : Ask) (moment : ℕ) (closing : Bool) : Type 0 where
   pub number : ℕ
   pub on : OnLog (history_of new.house) (newest (history_of old.house)) number
   pub count : ℕ
+  pub places : List Hole
   pub text : List ℕ
-  pub reply : IsLateReply (state_of (history_of new.house) number) ask moment closing count text
+  pub reply : IsLateReply (state_of (history_of new.house) number) ask moment closing count places text
   pub built : ℕ
   pub middle : HouseView
   pub first : NeededFirst (state_of (history_of new.house) number) ask moment built old.house middle
@@ -90,6 +110,7 @@ pub record Begins (how : Sent) (old new : Around) (ask : Ask) (moment : ℕ) (cl
   pub parts : ℕ
   pub bytes : ℕ
   pub still : parts ≡ 0 → new.house ≡ middle
+  pub made : MakesBegun (is_short how) (reader_of (state_of (history_of new.house) number) ask moment) places parts middle new.house
   pub points : new.points ≡ and_points old.points (late_points built parts)
   pub written : new.written ≡ after old.written (take bytes text)
   pub until : Until how count parts text bytes

@@ -1,5 +1,5 @@
 //! The parts of a page that are sent behind it, each as soon as it is made.
-ghost use Rattle.std.specs.Prelude.{◌≡◌, IfOk, IfErr, OnOk, OnErr};
+ghost use Rattle.std.specs.Prelude.{◌≡◌, ◌∷◌, [], IfOk, IfErr, OnOk, OnErr};
 ghost use Rattle.content_state.specs.Ask.{IsAsk};
 ghost use Rattle.content_state.specs.Viewer.{viewer_of as named_viewer};
 ghost use Rattle.late_pages.specs.Late.{LatePart, PartShows, part_text};
@@ -7,7 +7,9 @@ ghost use Rattle.render_array.specs.Shown.{visit_of};
 ghost use Rattle.site_house.specs.Bins.{IsSeenIn};
 ghost use Rattle.site_house.specs.House.{Moves, Stays};
 ghost use Rattle.site_io.specs.Told.{after, AddsFront};
-ghost use Rattle.site_late.specs.Parts.{CountsStop, WritesAll, WritesSome};
+ghost use Rattle.site_late.specs.Making.{MakesBegun, MakesPart};
+ghost use Rattle.site_late.specs.Parts.{CountsStop, WritesAll, WritesSome, stops_short};
+ghost use Rattle.site_late.specs.Sending.{reader_of};
 
 use crate::pieces::hand_on;
 use content_state::{Ask, Hole, State, Viewer};
@@ -40,6 +42,7 @@ fn made_part<H: House>(
     requires right { IsAsk ask.now }
     ensures moves { Moves (H.sees house.old) (H.sees house.new) }
     ensures stays { Stays (H.sees house.old) (H.sees house.new) }
+    ensures made { OnOk result (MakesPart (reader_of state.now ask.now now) hole.now (H.sees house.old) (H.sees house.new)) }
     ensures part { IfOk result (λ text. (p : LatePart) × PartShows (visit_of state.now.rows ask.now now) hole.now p × (text ≡ part_text number p)) }
 {
     let part = late_part(alloc, house, state, viewer, ask, now, hole)?;
@@ -64,6 +67,8 @@ fn send_part<H: House, O: Sink>(
     requires right { IsAsk ask.now }
     ensures moves { Moves (H.sees house.old) (H.sees house.new) }
     ensures stays { Stays (H.sees house.old) (H.sees house.new) }
+    ensures made { OnOk result (MakesPart (reader_of state.now ask.now now) hole.now (H.sees house.old) (H.sees house.new)) }
+    ensures begun { IfErr result (λ why. MakesBegun (stops_short why) (reader_of state.now ask.now now) (hole.now ∷ []) 1 (H.sees house.old) (H.sees house.new)) }
     ensures whole { OnOk result ((p : LatePart) × PartShows (visit_of state.now.rows ask.now now) hole.now p × (O.written sink.new ≡ after (O.written sink.old) (part_text number p))) }
     ensures front { OnErr result ((p : LatePart) × PartShows (visit_of state.now.rows ask.now now) hole.now p × AddsFront (O.written sink.old) (O.written sink.new) (part_text number p)) }
     ensures cause { IfErr result (λ stop. CountsStop stop (O.faults sink.old) (O.faults sink.new)) }
@@ -96,8 +101,8 @@ pub fn send_parts<H: House, O: Sink, G: Gate>(
     requires right { IsAsk ask.now }
     ensures moves { Moves (H.sees house.old) (H.sees house.new) }
     ensures stays { Stays (H.sees house.old) (H.sees house.new) }
-    ensures whole { OnOk result (WritesAll (visit_of state.now.rows ask.now now) holes.now (G.reached gate.old) (G.reached gate.new) (O.written sink.old) (O.written sink.new)) }
-    ensures some { OnErr result (WritesSome (visit_of state.now.rows ask.now now) holes.now (G.reached gate.old) (G.reached gate.new) (O.written sink.old) (O.written sink.new)) }
+    ensures whole { OnOk result (WritesAll (reader_of state.now ask.now now) holes.now (H.sees house.old) (H.sees house.new) (G.reached gate.old) (G.reached gate.new) (O.written sink.old) (O.written sink.new)) }
+    ensures some { IfErr result (λ why. WritesSome why (reader_of state.now ask.now now) holes.now (H.sees house.old) (H.sees house.new) (G.reached gate.old) (G.reached gate.new) (O.written sink.old) (O.written sink.new)) }
     ensures cause { IfErr result (λ stop. CountsStop stop (O.faults sink.old) (O.faults sink.new)) }
     ensures steady { OnOk result (O.faults sink.new ≡ O.faults sink.old) }
 {

@@ -12,13 +12,13 @@ returns-in-Written-clause-replies g c given words request late asks =
 pub returns-in-WriteFault-clause-replies : goal.returns-in-WriteFault-clause-replies
 returns-in-WriteFault-clause-replies g c given words request late asks =
     let b = c.in-WriteFault.ensures.sends in
-    inr (late_front 0 given words (g.O.Sink.written c.args.sink.now) (g.O.Sink.written c.late_reply.new.sink) (g.G.Gate.reached c.args.gate.now) (g.G.Gate.reached c.late_reply.new.gate) request c.args.ask.now c.args.now c.args.closing c.requires.moment c.in-WriteFault.ensures.stays late asks b b.until.0 (omega arith))
+    inr (late_front given words (g.O.Sink.written c.args.sink.now) (g.O.Sink.written c.late_reply.new.sink) (g.G.Gate.reached c.args.gate.now) (g.G.Gate.reached c.late_reply.new.gate) request c.args.ask.now c.args.now c.args.closing c.requires.moment c.in-WriteFault.ensures.stays late asks b b.until.0 (omega arith))
 
 pub returns-in-OutOfMemory-clause-replies : goal.returns-in-OutOfMemory-clause-replies
 returns-in-OutOfMemory-clause-replies g c given words request late asks =
     let b = c.in-OutOfMemory.ensures.sends in
     let some = b.some in
-    late_front 1 given words (g.O.Sink.written c.args.sink.now) (g.O.Sink.written c.late_reply.new.sink) (g.G.Gate.reached c.args.gate.now) (g.G.Gate.reached c.late_reply.new.gate) request c.args.ask.now c.args.now c.args.closing c.requires.moment c.in-OutOfMemory.ensures.stays late asks b b.until.0 (omega (arith, some))
+    late_front given words (g.O.Sink.written c.args.sink.now) (g.O.Sink.written c.late_reply.new.sink) (g.G.Gate.reached c.args.gate.now) (g.G.Gate.reached c.late_reply.new.gate) request c.args.ask.now c.args.now c.args.closing c.requires.moment c.in-OutOfMemory.ensures.stays late asks b b.until.0 (omega (arith, some))
 
 pub returns-in-Ok-clause-replies : goal.returns-in-Ok-clause-replies
 returns-in-Ok-clause-replies g c given words request late asks =

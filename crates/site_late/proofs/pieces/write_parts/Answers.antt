@@ -1,4 +1,4 @@
-use Rattle.std.proofs.Common.{◌≡◌, ◌∙◌, ◌++◌, List, ℕ, suc, take, drop, ap, sym}
+use Rattle.std.proofs.Common.{◌≡◌, ◌∙◌, ◌++◌, suc, take, drop, ap, sym}
 use Rattle.std.specs.Arc.{arc_value}
 use Rattle.html_out.specs.Segment.{joined}
 use Rattle.site_late.proofs.Joining.{joined_at, front_in, on_err}
