@@ -1,16 +1,14 @@
 -- What the program answers, job by job.
-use Rattle.std.proofs.Common.{◌≡◌, ◌∙◌, ◌⊎◌, ◌==◌, ◌≤◌, ◌<◌, ◌^◌, ℕ, zero, suc, List, [], ◌∷◌, Bool, true, false, Option, Some, None, Result, Ok, Err, All, length, refl, sym, ap, subst, arith, inl, inr}
+use Rattle.std.proofs.Common.{◌≡◌, ◌∙◌, ◌⊎◌, ◌==◌, ◌≤◌, ◌^◌, ℕ, zero, suc, List, [], ◌∷◌, Bool, true, false, Option, Some, None, Result, Ok, Err, refl, sym, ap, subst, arith, inl, inr}
 use Rattle.std.proofs.lemmas.Bool.{eqb-true, eqb-false}
 use Rattle.content_rows.specs.declared.cell.Cell.{Cell}
 use Rattle.content_rows.specs.declared.row.Row.{Row}
 use Rattle.content_state.specs.State.{State}
-use Rattle.content_state.specs.SiteRules.{IsNoSite, IsValidState, MeetsSiteRules, cell_fault}
+use Rattle.content_state.specs.SiteRules.{IsNoSite, MeetsSiteRules, cell_fault}
 use Rattle.content_state.specs.declared.site_rules.NotASite.{NotASite}
-use Rattle.http_heads.specs.declared.request.Request.{Request}
-use Rattle.http_heads.specs.Requests.{End, Reads}
 use Rattle.site_io.specs.declared.ended.Ended.{Ended}
 use Rattle.site_io.specs.declared.ended.Ended.TheVariants as ended
-use Rattle.site_io.specs.Told.{after, AddsFront, Rose}
+use Rattle.site_io.specs.Told.{after}
 use Rattle.site_alone.specs.Sites.{starter_site}
 use Rattle.site_files.specs.Rows.{IsSiteFault}
 use Rattle.site_files.specs.declared.fault.ReadFault.{ReadFault}
@@ -48,7 +46,7 @@ use Rattle.site_targets.specs.Targets.{targets_text}
 use Rattle.run_laws.specs.Complete.{StaysCounted}
 use Rattle.run_laws.proofs.Completing.{steady}
 use Rattle.run_laws.proofs.Servers.{servers}
-use Rattle.job_laws.specs.Answers.{AnswersInput, AnswersOrFaults, AnswersOrWants, AnswersWithCause, Completes, DrillsOrFaults, FaultsStore, ImportsOrFaults, NothingFails, RunsComplete, ServesAll, ServesOrFaults, TellsFaults, TellsOrFaults}
+use Rattle.job_laws.specs.Answers.{AnswersOrFaults, AnswersOrWants, Completes, DrillsOrFaults, FaultsStore, ImportsOrFaults, NothingFails, RunsComplete, ServesAll, ServesOrFaults, TellsFaults, TellsOrFaults}
 use Rattle.job_laws.proofs.Replaying.{replays}
 
 -- ---- faults

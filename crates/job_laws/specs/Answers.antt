@@ -77,7 +77,7 @@ pub record AnswersInput (base : State) (old new : Outside) (status : ℕ) : Type
 abbrev pub AnswersOrWants : State → Outside → Outside → ℕ → Type 0
 AnswersOrWants base old new status = AnswersInput base old new status ⊎ Wants status
 
--- the same over the site of a file
+-- the input was answered over the site of a file
 pub record AnswersFile (bytes : Option (List ℕ)) (old new : Outside) (status : ℕ) : Type 0 where
   pub base : State
   pub site : IsSiteOf bytes base

@@ -23,12 +23,17 @@ use Rattle.warm_pages.specs.Warm.{AreHeld, AreRendered, OnSnapshot, Warms}
 use Rattle.serve_store.specs.Warming.{first_targets, shelves_in, AreWarm, IsFirstMoment, IsNew, OnlyPages}
 
 -- what follows of an answer
-pub on_ok_by : {A E X Y : Type 0} → (r : Result A E) → IfOk r (λ _. X) → (X → Y) → OnOk r Y
-on_ok_by (Ok a) x then_y = then_y x
-on_ok_by (Err e) x then_y = tt
-
 pub on_ok_is : {A E X : Type 0} {r : Result A E} {a : A} → r ≡ Ok a → OnOk r X → X
 on_ok_is {A} {E} {X} is on = subst (λ (r : Result A E). OnOk r X) is on
+
+-- an answer that is passed on
+pub if_ok_same : {A E : Type 0} (P : A → Type 0) (r s : Result A E) → OnOk r (r ≡ s) → IfOk s P → IfOk r P
+if_ok_same {A} {E} P (Ok a) s same is = subst (λ (t : Result A E). IfOk t P) (sym same) is
+if_ok_same P (Err e) s same is = tt
+
+pub if_kept_warm : {A E X Y Z : Type 0} (r s : Result A E) → OnOk r (r ≡ s) → OnOk r X → IfOk s (λ _. Y) → (X → Y → Z) → OnOk r Z
+if_kept_warm {A} {E} {X} {Y} (Ok a) s same none is then_z = then_z none (subst (λ (t : Result A E). IfOk t (λ _. Y)) (sym same) is)
+if_kept_warm (Err e) s same none is then_z = tt
 
 pub if_err_of : {A E X : Type 0} → (r : Result A E) → X → IfErr r (λ _. X)
 if_err_of (Ok a) x = tt
@@ -121,35 +126,34 @@ seen_none (first ∷ others) log begins none = absurd (never (sym none ∙ begin
     never : [] ≡ first ∷ (others ++ begins.0) → ⊥
     never is = cc
 
-shelves_are : (new : HallView) (shelves : Shelves) → shelves.bins ≡ bins_in new.stock → shelves ≡ shelves_in new shelves.unkept
-shelves_are new shelves is = λ i. record { bins = is i; unkept = shelves.unkept }
+shelves_are : (new : HallView) (shelves : Shelves) → shelves.bins ≡ bins_in new.stock → shelves.unkept ≡ 0 → shelves ≡ shelves_in new
+shelves_are new shelves is none = λ i. record { bins = is i; unkept = none i }
 
-warm_by : (moment : ℕ) (hall new : HallView) (house : HouseView) (targets : List (List ℕ)) → house.bins ≡ Some (bins_in new.stock) → targets ≡ first_targets hall
-    → Warms hall.base moment targets (shelves_in hall 0) house → AreWarm moment hall new
-warm_by moment hall new house targets bins is w =
-    let same = shelves_are new w.after (inner (sym w.is.bins ∙ bins)) in
-    let rendered : AreRendered hall.base moment (shelves_in hall 0) (first_targets hall) w.entries w.after =
-    subst (λ (ts : List (List ℕ)). AreRendered hall.base moment (shelves_in hall 0) ts w.entries w.after) is w.rendered in
-    let held : NothingLost (shelves_in hall 0) w.after → AreHeld hall.base moment w.after (first_targets hall) w.entries =
+warm_by : (moment : ℕ) (hall new : HallView) (house : HouseView) (targets : List (List ℕ)) → house.bins ≡ Some (bins_in new.stock) → house.unkept ≡ 0 → targets ≡ first_targets hall
+    → Warms hall.base moment targets (shelves_in hall) house → AreWarm moment hall new
+warm_by moment hall new house targets bins unkept is w =
+    let same = shelves_are new w.after (inner (sym w.is.bins ∙ bins)) (sym w.is.unkept ∙ unkept) in
+    let rendered : AreRendered hall.base moment (shelves_in hall) (first_targets hall) w.entries w.after =
+    subst (λ (ts : List (List ℕ)). AreRendered hall.base moment (shelves_in hall) ts w.entries w.after) is w.rendered in
+    let held : NothingLost (shelves_in hall) w.after → AreHeld hall.base moment w.after (first_targets hall) w.entries =
     λ none. subst (λ (ts : List (List ℕ)). AreHeld hall.base moment w.after ts w.entries) is (w.held none) in
     record {
-      unkept = w.after.unkept;
       entries = w.entries;
-      rendered = subst (AreRendered hall.base moment (shelves_in hall 0) (first_targets hall) w.entries) same rendered;
-      held = subst (λ (s : Shelves). NothingLost (shelves_in hall 0) s → AreHeld hall.base moment s (first_targets hall) w.entries) same held;
+      rendered = subst (AreRendered hall.base moment (shelves_in hall) (first_targets hall) w.entries) same rendered;
+      held = subst (λ (s : Shelves). NothingLost (shelves_in hall) s → AreHeld hall.base moment s (first_targets hall) w.entries) same held;
     }
 
-pub are_warm : (moment : ℕ) (hall new : HallView) (before later : AloneView) (targets : List (List ℕ)) → before.hall.base ≡ hall.base → before.hall.stock ≡ hall.stock → before.unkept ≡ 0
+pub are_warm : (moment : ℕ) (hall new : HallView) (before later : AloneView) (targets : List (List ℕ)) → before.hall.base ≡ hall.base → before.hall.stock ≡ hall.stock → before.unkept ≡ 0 → later.unkept ≡ 0
     → later.hall.log ≡ [] → new.stock ≡ later.hall.stock → targets ≡ targets_of hall.base.rows
     → OnSnapshot (house_of before) (house_of later) (λ (s : State). (shelves : Shelves) → IsTold (house_of before) shelves → Warms s moment (take MOST_PAGES targets) shelves (house_of later))
     → AreWarm moment hall new
 unfolding replay
-are_warm moment hall new before later targets base stock unkept log kept is on =
+are_warm moment hall new before later targets base stock unkept still log kept is on =
     let none = seen_none on.seen later.hall.log on.still log in
     let state : replay before.hall.base on.seen ≡ hall.base = ap (replay before.hall.base) none ∙ base in
-    let told : IsTold (house_of before) (shelves_in hall 0) = record { bins = ap (λ (s : Stock). Some (bins_in s)) stock; unkept = unkept } in
-    warm_by moment hall new (house_of later) (take MOST_PAGES targets) (ap (λ (s : Stock). Some (bins_in s)) (sym kept)) (ap (take MOST_PAGES) is)
-    (subst (λ (s : State). Warms s moment (take MOST_PAGES targets) (shelves_in hall 0) (house_of later)) state (on.holds (shelves_in hall 0) told))
+    let told : IsTold (house_of before) (shelves_in hall) = record { bins = ap (λ (s : Stock). Some (bins_in s)) stock; unkept = unkept } in
+    warm_by moment hall new (house_of later) (take MOST_PAGES targets) (ap (λ (s : Stock). Some (bins_in s)) (sym kept)) still (ap (take MOST_PAGES) is)
+    (subst (λ (s : State). Warms s moment (take MOST_PAGES targets) (shelves_in hall) (house_of later)) state (on.holds (shelves_in hall) told))
 
 -- ---- the moment
 

@@ -1,5 +1,5 @@
 -- What was written, by whether it failed.
-use Rattle.std.proofs.Common.{◌≡◌, ◌∙◌, ℕ, List, Bool, true, false, Option, length, ap, sym, arith}
+use Rattle.std.proofs.Common.{◌≡◌, ◌∙◌, ℕ, List, true, false, Option, length, ap, sym, arith}
 use Rattle.std.proofs.Math.Seq.{take-length}
 use Rattle.std.specs.Prelude.{Result, Ok, Err, is_err, OnOk, OnErr}
 use Rattle.site_io.specs.Told.{after, AddsFront}

@@ -29,22 +29,21 @@ first_targets hall = take MOST_PAGES (targets_of hall.base.rows)
 abbrev pub warmed_count : HallView → ℕ
 warmed_count hall = min (length (targets_of hall.base.rows)) MOST_PAGES
 
--- what an engine keeps of pages, and how often something wasn't kept
-abbrev pub shelves_in : HallView → ℕ → Shelves
-shelves_in hall unkept = record { bins = bins_in hall.stock; unkept = unkept }
+-- what an engine keeps of pages, where memory was never wanting for keeping something
+abbrev pub shelves_in : HallView → Shelves
+shelves_in hall = record { bins = bins_in hall.stock; unkept = 0 }
 
 -- nothing of an engine changed but what it keeps of pages
 pub record OnlyPages (old new : HallView) : Type 0 where
   pub same : new ≡ with_stock old new.stock
   pub is_hall : IsHall new
 
--- The pages of these targets were rendered for nobody's session at a moment, one after the other. Where nothing was lost
--- meanwhile, each that may be kept is held.
+-- The pages of these targets were rendered for nobody's session at a moment, one after the other, and memory was never wanting for
+-- keeping something. Where no bin dropped a key meanwhile, each that may be kept is held.
 pub record AreWarm (moment : ℕ) (old new : HallView) : Type 0 where
-  pub unkept : ℕ
   pub entries : List Entry
-  pub rendered : AreRendered old.base moment (shelves_in old 0) (first_targets old) entries (shelves_in new unkept)
-  pub held : NothingLost (shelves_in old 0) (shelves_in new unkept) → AreHeld old.base moment (shelves_in new unkept) (first_targets old) entries
+  pub rendered : AreRendered old.base moment (shelves_in old) (first_targets old) entries (shelves_in new)
+  pub held : NothingLost (shelves_in old) (shelves_in new) → AreHeld old.base moment (shelves_in new) (first_targets old) entries
 
 -- the first moment of the place's next clock
 abbrev pub IsFirstMoment : PlaceView → ℕ → Type 0

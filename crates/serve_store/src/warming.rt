@@ -12,6 +12,7 @@ use crate::texts::{announce, warmed_text};
 use content_rows::Text;
 use content_state::State;
 use site_hall::{Alone, Engine};
+use site_house::House;
 use site_io::Clock;
 use site_keeper::{Batch, Keeper, KeeperFault, Stored};
 use site_places::Place;
@@ -64,8 +65,16 @@ fn open_targets<K: Keeper>(alloc: Global, hall: &Engine<K>) -> Result<Vec<Text>,
     targets(alloc, state)
 }
 
+/// How many pages were rendered, where nothing of them wasn't kept for want of memory: else memory was wanting.
+fn if_kept(count: Result<u64, AllocError>, unkept: u64) -> Result<u64, AllocError>
+    ensures same { OnOk result (result ≡ count) }
+    ensures none { OnOk result (unkept ≡ 0) }
+{
+    if unkept == 0 { count } else { Err(AllocError) }
+}
+
 /// Renders the pages of the first 1,024 of these targets over an engine, for nobody's session, and answers how many those are. The
-/// keeper is set aside meanwhile. `Err` only where memory is wanting.
+/// keeper is set aside meanwhile. `Err` only where memory is wanting, for rendering a page or for keeping something of it.
 fn warm_hall<K: Keeper + Drop>(
     alloc: Global,
     hall: Engine<K>,
@@ -81,8 +90,9 @@ fn warm_hall<K: Keeper + Drop>(
     let (bare, keeper) = hall.with_keeper(NoKeeper);
     let mut alone = Alone::new(alloc, bare);
     let count = warm(alloc, &mut alone, targets, now);
+    let unkept = alone.unkept();
     let (warmed, _) = alone.into_hall().with_keeper(keeper);
-    (warmed, count)
+    (warmed, if_kept(count, unkept))
 }
 
 /// Renders the pages that anybody may see at a moment, at most 1,024, and makes what is printed of that. `Err` only where memory
@@ -139,7 +149,8 @@ fn warm_first<P: Place>(
 
 /// Where that is asked for, renders the pages that anybody may see, the first 1,024 of them, and prints how many they are.
 ///
-/// They are rendered for nobody's session at one moment, of a clock of their own. Where it isn't asked for, nothing is done.
+/// They are rendered for nobody's session at one moment, of a clock of their own. Where memory is wanting for rendering one, or for
+/// keeping something of it, that is the end. Where it isn't asked for, nothing is done.
 pub(crate) fn made_warm<P: Place>(
     alloc: Global,
     asked: bool,

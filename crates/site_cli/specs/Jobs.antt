@@ -55,7 +55,7 @@ pub record FailsStore (old new : Outside) (status : ℕ) : Type 0 where
   pub place : OpeningFails old.place new.place
   pub status_is : status ≡ 7
 
--- the same, or the store wasn't opened, or memory was wanting before
+-- it was done, or the store wasn't opened, or memory was wanting before
 abbrev pub ImportsOrNot : List ℕ → Outside → Outside → ℕ → Type 0
 ImportsOrNot path old new status = ImportsInto path old new status ⊎ (FailsStore old new status ⊎ Starves old new status)
 

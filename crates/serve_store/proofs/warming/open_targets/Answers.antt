@@ -1,4 +1,4 @@
-use Rattle.std.proofs.Common.{◌≡◌, ◌∙◌, List, ℕ, subst}
+use Rattle.std.proofs.Common.{◌≡◌, ◌∙◌, subst}
 use Rattle.std.specs.Prelude.{IfOk}
 use Rattle.content_state.specs.State.{State}
 use Rattle.site_targets.specs.Targets.{targets_of}

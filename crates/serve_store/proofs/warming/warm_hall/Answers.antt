@@ -1,4 +1,4 @@
-use Rattle.std.proofs.Common.{◌≡◌, ◌∙◌, ℕ, List, [], length, min, Option, None, ap, sym, subst}
+use Rattle.std.proofs.Common.{◌≡◌, ◌∙◌, ℕ, List, length, min, Option, ap, sym, subst}
 use Rattle.std.specs.Prelude.{IfOk}
 use Rattle.content_state.specs.State.{State}
 use Rattle.site_hall.specs.Alone.{AloneView}
@@ -6,7 +6,8 @@ use Rattle.site_hall.specs.Hall.{HallView}
 use Rattle.site_keeper.specs.Keeper.{Kept, IfTold}
 use Rattle.site_keeper.specs.Steps.{stored_of}
 use Rattle.warm_pages.specs.declared.warming.TheConstants.{MOST_PAGES}
-use Rattle.serve_store.proofs.Warmings.{are_warm, none_made, on_ok_by, only_pages, still_told}
+use Rattle.serve_store.specs.Warming.{warmed_count}
+use Rattle.serve_store.proofs.Warmings.{are_warm, if_kept_warm, if_ok_same, none_made, only_pages, still_told}
 use Rattle.serve_store.proofs.warming.warm_hall.Goals as goal
 
 pub with_keeper-bare-requires-clause-new : goal.with_keeper-bare-requires-clause-new
@@ -41,7 +42,8 @@ returns-clause-pages g c =
 
 pub returns-clause-count : goal.returns-clause-count
 returns-clause-count g c =
-    subst (λ (ts : List (List ℕ)). IfOk c.warm-count.result (λ count. count ≡ min (length ts) MOST_PAGES)) c.requires.targets c.warm-count.ensures.count
+    if_ok_same (λ (count : ℕ). count ≡ warmed_count c.args.hall) c.if_kept.result c.warm-count.result c.if_kept.ensures.same
+    (subst (λ (ts : List (List ℕ)). IfOk c.warm-count.result (λ count. count ≡ min (length ts) MOST_PAGES)) c.requires.targets c.warm-count.ensures.count)
 
 pub returns-clause-warm : goal.returns-clause-warm
 returns-clause-warm g c =
@@ -52,5 +54,6 @@ returns-clause-warm g c =
     let base = ap (λ (a : AloneView). a.hall.base) alone ∙ ap (λ (h : HallView). h.base) bare in
     let stock = ap (λ (a : AloneView). a.hall.stock) alone ∙ ap (λ (h : HallView). h.stock) bare in
     let kept = ap (λ (h : HallView). h.stock) c.with_keeper-warmed.ensures.hall ∙ ap (λ (h : HallView). h.stock) c.into_hall.ensures.hall in
-    on_ok_by c.warm-count.result c.warm-count.ensures.held
-    (are_warm c.args.now c.args.hall c.with_keeper-warmed.result.0 c.new-alone.result c.warm-count.new.house c.args.targets.now base stock (ap (λ (a : AloneView). a.unkept) alone) none.0 kept c.requires.targets)
+    let later = c.warm-count.new.house in
+    if_kept_warm c.if_kept.result c.warm-count.result c.if_kept.ensures.same c.if_kept.ensures.none c.warm-count.ensures.held
+    (λ still. are_warm c.args.now c.args.hall c.with_keeper-warmed.result.0 c.new-alone.result later c.args.targets.now base stock (ap (λ (a : AloneView). a.unkept) alone) (sym c.unkept-unkept.ensures.count ∙ still) none.0 kept c.requires.targets)
