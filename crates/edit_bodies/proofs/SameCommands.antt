@@ -35,18 +35,18 @@ use Rattle.edit_bodies.specs.declared.words.Words.{Words}
 
 -- ---- keys
 
-there : (o : Option Data) → is_some (option_map whole o) ≡ is_some o
-there None = refl
-there (Some d) = refl
+there : (k : List ℕ) (o : Option Data) → is_some (option_map (whole k) o) ≡ is_some o
+there k None = refl
+there k (Some d) = refl
 
 pub has_same : (k : List ℕ) (d : Data) → is_key k ≡ true → has k (brief d) ≡ has k d
-has_same k d known = ap is_some (get_brief k d known) ∙ there (get k d)
+has_same k d known = ap is_some (get_brief k d known) ∙ there k (get k d)
 
 names_same : (ms : Members) → names_of (pairs ms) ≡ names_of ms
 names_same no_members = refl
 names_same (member k d ms) = ap (λ ks. k ∷ ks) (names_same ms)
 
-inside_same : (o : Option Data) → names_of (members_in (unwrap_or (option_map whole o) null)) ≡ names_of (members_in (unwrap_or o null))
+inside_same : (o : Option Data) → names_of (members_in (unwrap_or (option_map (whole (codes "fields")) o) null)) ≡ names_of (members_in (unwrap_or o null))
 inside_same None = refl
 inside_same (Some null) = refl
 inside_same (Some (boolean b)) = refl
@@ -59,7 +59,7 @@ field_keys_same : (d : Data) → field_keys (brief d) ≡ field_keys d
 field_keys_same d =
     ap (λ o. filter is_name (names_of (members_in (unwrap_or o null)))) (get_brief (codes "fields") d refl) ∙ ap (filter is_name) (inside_same (get (codes "fields") d))
 
-told_same : (o : Option Data) → name_told (option_map whole o) ≡ name_told o
+told_same : (o : Option Data) → name_told (option_map (whole (codes "type")) o) ≡ name_told o
 told_same None = refl
 told_same (Some null) = refl
 told_same (Some (boolean b)) = refl

@@ -23,42 +23,43 @@ use Rattle.json_keys.specs.declared.shape.Shape.TheVariants as shape
 use Rattle.json_keys.specs.declared.shape.Ask.{Ask}
 use Rattle.json_keys.specs.declared.shape.Ask.TheVariants as ask
 use Rattle.json_keys.proofs.Held.{equal_texts, neither, unfaulted}
-use Rattle.sent_objects.specs.Brief.{inside, flat_items, flat_members, column_members, first_items, flat, known_members, kept, in_list, first_so_many, pairs, whole, brief}
+use Rattle.sent_objects.specs.Brief.{inside, flat_items, flat_members, column_members, first_items, flat, flat_at, known_members, kept, in_list, first_so_many, has_pairs, pairs, pairs_at, whole, brief}
 use Rattle.sent_objects.specs.Keys.{is_key, is_column}
 
 -- ---- values are found where their keys are known
 
-module _ (known : List ℕ → Bool) (short : Data → Data) where
-  found_at : (o : Ordering) (k l : List ℕ) (d : Data) (a b : Option Data) → a ≡ option_map short b → match_ordering o a (Some (short d)) a ≡ option_map short (match_ordering o b (Some d) b)
-  found_at Less k l d a b more = more
-  found_at Equal k l d a b more = refl
-  found_at Greater k l d a b more = more
+module _ (known : List ℕ → Bool) (short : List ℕ → Data → Data) where
+  found_at : (o : Ordering) (k l : List ℕ) (d : Data) (a b : Option Data) → slice_cmp nat_cmp k l ≡ o → a ≡ option_map (short k) b
+      → match_ordering o a (Some (short l d)) a ≡ option_map (short k) (match_ordering o b (Some d) b)
+  found_at Less k l d a b is more = more
+  found_at Equal k l d a b is more = ap (λ q. Some (short q d)) (sym (equal_texts k l is))
+  found_at Greater k l d a b is more = more
 
-  passed_at : (o : Ordering) (k l : List ℕ) (d e : Data) (a b : Option Data) → slice_cmp nat_cmp k l ≡ o → known k ≡ true → known l ≡ false → a ≡ option_map short b
-      → (match_ordering o a (Some e) a ≡ option_map short (match_ordering o b (Some d) b)) × (a ≡ option_map short (match_ordering o b (Some d) b))
+  passed_at : (o : Ordering) (k l : List ℕ) (d e : Data) (a b : Option Data) → slice_cmp nat_cmp k l ≡ o → known k ≡ true → known l ≡ false → a ≡ option_map (short k) b
+      → (match_ordering o a (Some e) a ≡ option_map (short k) (match_ordering o b (Some d) b)) × (a ≡ option_map (short k) (match_ordering o b (Some d) b))
   passed_at Less k l d e a b is at other more = (more, more)
   passed_at Equal k l d e a b is at other more = let never : true ≡ false = sym at ∙ ap known (equal_texts k l is) ∙ other in absurd (cc)
   passed_at Greater k l d e a b is at other more = (more, more)
 
-  get_known_at : (b : Bool) (k l : List ℕ) (d : Data) (ms : Members) → known l ≡ b → known k ≡ true → get_member k (known_members known short ms) ≡ option_map short (get_member k ms)
-      → get_member k (known_members known short (member l d ms)) ≡ option_map short (get_member k (member l d ms))
-  get_known_at true k l d ms is at more = rw is (found_at (slice_cmp nat_cmp k l) k l d _ _ more)
+  get_known_at : (b : Bool) (k l : List ℕ) (d : Data) (ms : Members) → known l ≡ b → known k ≡ true → get_member k (known_members known short ms) ≡ option_map (short k) (get_member k ms)
+      → get_member k (known_members known short (member l d ms)) ≡ option_map (short k) (get_member k (member l d ms))
+  get_known_at true k l d ms is at more = rw is (found_at (slice_cmp nat_cmp k l) k l d _ _ refl more)
   get_known_at false k l d ms is at more = rw is ((passed_at (slice_cmp nat_cmp k l) k l d null _ _ refl at is more).1)
 
-  get_known : (k : List ℕ) (ms : Members) → known k ≡ true → get_member k (known_members known short ms) ≡ option_map short (get_member k ms)
+  get_known : (k : List ℕ) (ms : Members) → known k ≡ true → get_member k (known_members known short ms) ≡ option_map (short k) (get_member k ms)
   get_known k no_members at = refl
   get_known k (member l d ms) at = get_known_at (known l) k l d ms refl at (get_known k ms at)
 
-  get_kept_at : (b : Bool) (k l : List ℕ) (d : Data) (ms : Members) → known l ≡ b → known k ≡ true → get_member k (kept known short ms) ≡ option_map short (get_member k ms)
-      → get_member k (kept known short (member l d ms)) ≡ option_map short (get_member k (member l d ms))
-  get_kept_at true k l d ms is at more = rw is (found_at (slice_cmp nat_cmp k l) k l d _ _ more)
+  get_kept_at : (b : Bool) (k l : List ℕ) (d : Data) (ms : Members) → known l ≡ b → known k ≡ true → get_member k (kept known short ms) ≡ option_map (short k) (get_member k ms)
+      → get_member k (kept known short (member l d ms)) ≡ option_map (short k) (get_member k (member l d ms))
+  get_kept_at true k l d ms is at more = rw is (found_at (slice_cmp nat_cmp k l) k l d _ _ refl more)
   get_kept_at false k l d ms is at more = rw is ((passed_at (slice_cmp nat_cmp k l) k l d null _ _ refl at is (get_known k ms at)).0)
 
-  pub get_kept : (k : List ℕ) (ms : Members) → known k ≡ true → get_member k (kept known short ms) ≡ option_map short (get_member k ms)
+  pub get_kept : (k : List ℕ) (ms : Members) → known k ≡ true → get_member k (kept known short ms) ≡ option_map (short k) (get_member k ms)
   get_kept k no_members at = refl
   get_kept k (member l d ms) at = get_kept_at (known l) k l d ms refl at (get_kept k ms at)
 
-pub get_brief : (k : List ℕ) (d : Data) → is_key k ≡ true → get k (brief d) ≡ option_map whole (get k d)
+pub get_brief : (k : List ℕ) (d : Data) → is_key k ≡ true → get k (brief d) ≡ option_map (whole k) (get k d)
 get_brief k null at = refl
 get_brief k (boolean b) at = refl
 get_brief k (number n) at = refl
@@ -69,9 +70,9 @@ get_brief k (object ms) at = get_kept is_key whole k ms at
 -- ---- by a table whose keys are known, and whose values are judged in brief
 
 -- each key of a table is known, and what is asked of its value meets a test
-abbrev pub fits : {X : Type 0} → (List ℕ → Bool) → (X → Bool) → List (List ℕ × X) → Bool
+abbrev pub fits : {X : Type 0} → (List ℕ → Bool) → (List ℕ → X → Bool) → List (List ℕ × X) → Bool
 fits known ok [] = true
-fits known ok (k ∷ ks) = known k.0 && (ok k.1 && fits known ok ks)
+fits known ok (k ∷ ks) = known k.0 && (ok k.0 k.1 && fits known ok ks)
 
 no_key_at : {X : Type 0} (b : Bool) (known : List ℕ → Bool) (e : List ℕ × X) (ks : List (List ℕ × X)) (k : List ℕ) → bytes_eq e.0 k ≡ b → known e.0 ≡ true → known k ≡ false → named ks k ≡ None
     → cond b (Some e.1) (named ks k) ≡ None
@@ -79,37 +80,38 @@ no_key_at true known e ks k is at other more = let never : true ≡ false = sym 
 no_key_at false known e ks k is at other more = more
 
 -- what is not known is no key of the table
-no_key : {X : Type 0} (known : List ℕ → Bool) (ok : X → Bool) (ks : List (List ℕ × X)) (k : List ℕ) → fits known ok ks ≡ true → known k ≡ false → named ks k ≡ None
+no_key : {X : Type 0} (known : List ℕ → Bool) (ok : List ℕ → X → Bool) (ks : List (List ℕ × X)) (k : List ℕ) → fits known ok ks ≡ true → known k ≡ false → named ks k ≡ None
 no_key known ok [] k fit other = refl
 no_key known ok (e ∷ ks) k fit other =
-    let one = and_parts (known e.0) (ok e.1 && fits known ok ks) fit in
-    let two = and_parts (ok e.1) (fits known ok ks) one.1 in
+    let one = and_parts (known e.0) (ok e.0 e.1 && fits known ok ks) fit in
+    let two = and_parts (ok e.0 e.1) (fits known ok ks) one.1 in
     no_key_at (bytes_eq e.0 k) known e ks k refl one.0 other (no_key known ok ks k two.1 other)
 
-meets_at : {X : Type 0} (b : Bool) (ok : X → Bool) (e : X) (rest : Option X) (x : X) → ok e ≡ true → cond b (Some e) rest ≡ Some x → (rest ≡ Some x → ok x ≡ true) → ok x ≡ true
-meets_at true ok e rest x at is more = let same : e ≡ x = cc in ap ok (sym same) ∙ at
-meets_at false ok e rest x at is more = more is
+meets_at : {X : Type 0} (b : Bool) (ok : List ℕ → X → Bool) (e : List ℕ × X) (rest : Option X) (k : List ℕ) (x : X) → bytes_eq e.0 k ≡ b → ok e.0 e.1 ≡ true → cond b (Some e.1) rest ≡ Some x
+    → (rest ≡ Some x → ok k x ≡ true) → ok k x ≡ true
+meets_at true ok e rest k x here at is more = let same : e.1 ≡ x = cc in sym (ap₂ ok ((bytes_eq-Decides e.0 k).0 here) same) ∙ at
+meets_at false ok e rest k x here at is more = more is
 
 -- what is asked of a key meets the test
-meets : {X : Type 0} (known : List ℕ → Bool) (ok : X → Bool) (ks : List (List ℕ × X)) (k : List ℕ) (x : X) → fits known ok ks ≡ true → named ks k ≡ Some x → ok x ≡ true
+meets : {X : Type 0} (known : List ℕ → Bool) (ok : List ℕ → X → Bool) (ks : List (List ℕ × X)) (k : List ℕ) (x : X) → fits known ok ks ≡ true → named ks k ≡ Some x → ok k x ≡ true
 meets known ok [] k x fit is = absurd (cc)
 meets known ok (e ∷ ks) k x fit is =
-    let one = and_parts (known e.0) (ok e.1 && fits known ok ks) fit in
-    let two = and_parts (ok e.1) (fits known ok ks) one.1 in
-    meets_at (bytes_eq e.0 k) ok e.1 (named ks k) x two.0 is (meets known ok ks k x two.1)
+    let one = and_parts (known e.0) (ok e.0 e.1 && fits known ok ks) fit in
+    let two = and_parts (ok e.0 e.1) (fits known ok ks) one.1 in
+    meets_at (bytes_eq e.0 k) ok e (named ks k) k x refl two.0 is (meets known ok ks k x two.1)
 
 some_none : {X Y : Type 0} (x : X) (o : Option X) → o ≡ Some x → o ≡ None → Y
 some_none x o a b = absurd (cc)
 
 -- what is asked, values in brief, and that they are judged alike
-pub record Judges {X : Type 0} (fault : X → Data → Option Rule) (short : Data → Data) (ok : X → Bool) : Type 0 where
-  pub same : (x : X) (d : Data) → ok x ≡ true → fault x (short d) ≡ fault x d
-  pub whole : (x : X) (d : Data) → ok x ≡ true → fault x d ≡ None → short d ≡ d
+pub record Judges {X : Type 0} (fault : X → Data → Option Rule) (short : List ℕ → Data → Data) (ok : List ℕ → X → Bool) : Type 0 where
+  pub same : (k : List ℕ) (x : X) (d : Data) → ok k x ≡ true → fault x (short k d) ≡ fault x d
+  pub whole : (k : List ℕ) (x : X) (d : Data) → ok k x ≡ true → fault x d ≡ None → short k d ≡ d
 
-module _ {X : Type 0} (fault : X → Data → Option Rule) (known : List ℕ → Bool) (short : Data → Data) (ok : X → Bool) (judges : Judges fault short ok) where
-  asked_at : (o : Option X) (ks : List (List ℕ × X)) (k : List ℕ) (d : Data) → named ks k ≡ o → fits known ok ks ≡ true → asked_fault fault o (short d) ≡ asked_fault fault o d
+module _ {X : Type 0} (fault : X → Data → Option Rule) (known : List ℕ → Bool) (short : List ℕ → Data → Data) (ok : List ℕ → X → Bool) (judges : Judges fault short ok) where
+  asked_at : (o : Option X) (ks : List (List ℕ × X)) (k : List ℕ) (d : Data) → named ks k ≡ o → fits known ok ks ≡ true → asked_fault fault o (short k d) ≡ asked_fault fault o d
   asked_at None ks k d is fit = refl
-  asked_at (Some x) ks k d is fit = judges.same x d (meets known ok ks k x fit is)
+  asked_at (Some x) ks k d is fit = judges.same k x d (meets known ok ks k x fit is)
 
   same_member_at : (b : Bool) (ks : List (List ℕ × X)) (l : List ℕ) (e : Data) (ms : Members) → known l ≡ b → fits known ok ks ≡ true
       → members_fault fault ks (kept known short ms) ≡ members_fault fault ks ms
@@ -121,17 +123,17 @@ module _ {X : Type 0} (fault : X → Data → Option Rule) (known : List ℕ →
   same_members ks no_members fit = refl
   same_members ks (member l e ms) fit = same_member_at (known l) ks l e ms refl fit (same_members ks ms fit)
 
-  none_mapped : (o : Option Data) → is_none (option_map short o) ≡ is_none o
-  none_mapped None = refl
-  none_mapped (Some d) = refl
+  none_mapped : (k : List ℕ) (o : Option Data) → is_none (option_map (short k) o) ≡ is_none o
+  none_mapped k None = refl
+  none_mapped k (Some d) = refl
 
   same_missing : (wanted : X → Bool) (ks : List (List ℕ × X)) (ms : Members) → fits known ok ks ≡ true
       → missing_key wanted ks (object (kept known short ms)) ≡ missing_key wanted ks (object ms)
   same_missing wanted [] ms fit = refl
   same_missing wanted (k ∷ ks) ms fit =
-      let one = and_parts (known k.0) (ok k.1 && fits known ok ks) fit in
-      let two = and_parts (ok k.1) (fits known ok ks) one.1 in
-      let there : is_none (get_member k.0 (kept known short ms)) ≡ is_none (get_member k.0 ms) = ap is_none (get_kept known short k.0 ms one.0) ∙ none_mapped (get_member k.0 ms) in
+      let one = and_parts (known k.0) (ok k.0 k.1 && fits known ok ks) fit in
+      let two = and_parts (ok k.0 k.1) (fits known ok ks) one.1 in
+      let there : is_none (get_member k.0 (kept known short ms)) ≡ is_none (get_member k.0 ms) = ap is_none (get_kept known short k.0 ms one.0) ∙ none_mapped k.0 (get_member k.0 ms) in
       ap₂ (λ b o. cond (wanted k.1 && b) (Some (k.0, rule.Missing)) o) there (same_missing wanted ks ms two.1)
 
   pub same_object : (wanted : X → Bool) (ks : List (List ℕ × X)) (ms : Members) → fits known ok ks ≡ true
@@ -141,7 +143,7 @@ module _ {X : Type 0} (fault : X → Data → Option Rule) (known : List ℕ →
   whole_at : (b : Bool) (o : Option X) (ks : List (List ℕ × X)) (l : List ℕ) (e : Data) (ms : Members) → known l ≡ b → named ks l ≡ o → fits known ok ks ≡ true → asked_fault fault o e ≡ None
       → kept known short ms ≡ ms → kept known short (member l e ms) ≡ member l e ms
   whole_at b None ks l e ms is found fit fine more = absurd (cc)
-  whole_at true (Some x) ks l e ms is found fit fine more = rw is (ap₂ (member l) (judges.whole x e (meets known ok ks l x fit found) fine) more)
+  whole_at true (Some x) ks l e ms is found fit fine more = rw is (ap₂ (member l) (judges.whole l x e (meets known ok ks l x fit found) fine) more)
   whole_at false (Some x) ks l e ms is found fit fine more = some_none x (named ks l) found (no_key known ok ks l fit is)
 
   whole_members : (ks : List (List ℕ × X)) (ms : Members) → fits known ok ks ≡ true → members_fault fault ks ms ≡ None → kept known short ms ≡ ms
@@ -195,12 +197,15 @@ entry_whole e f g (string s) fine = refl
 entry_whole e f g (array ds) fine = broken rule.Kind _ (entry_array e ds) fine
 entry_whole e f g (object ms) fine = broken rule.Kind _ (entry_object e ms) fine
 
-flat_judges : Judges entry_fault flat always
-flat_judges = record { same = λ e d at. entry_same e flat_items flat_members d; whole = λ e d at fine. entry_whole e flat_items flat_members d fine }
+abbrev any_entry : List ℕ → Entry → Bool
+any_entry k e = true
+
+flat_judges : Judges entry_fault flat_at any_entry
+flat_judges = record { same = λ k e d at. entry_same e flat_items flat_members d; whole = λ k e d at fine. entry_whole e flat_items flat_members d fine }
 
 -- ---- rows in lists
 
-columns_fit : (cs : Columns) → fits is_column always (columns_of cs) ≡ true
+columns_fit : (cs : Columns) → fits is_column any_entry (columns_of cs) ≡ true
 columns_fit columns.Grant = refl
 columns_fit columns.GrantRow = refl
 columns_fit columns.Field = refl
@@ -212,7 +217,7 @@ row_same cs (boolean b) = refl
 row_same cs (number n) = refl
 row_same cs (string s) = refl
 row_same cs (array ds) = refl
-row_same cs (object ms) = ap (option_map (λ f. f.1)) (same_object entry_fault is_column flat always flat_judges always (columns_of cs) ms (columns_fit cs))
+row_same cs (object ms) = ap (option_map (λ f. f.1)) (same_object entry_fault is_column flat_at any_entry flat_judges always (columns_of cs) ms (columns_fit cs))
 
 unmapped : {X Y : Type 0} (f : X → Y) (o : Option X) → option_map f o ≡ None → o ≡ None
 unmapped f None e = refl
@@ -224,7 +229,7 @@ row_whole cs (boolean b) fine = refl
 row_whole cs (number n) fine = refl
 row_whole cs (string s) fine = refl
 row_whole cs (array ds) fine = absurd (cc)
-row_whole cs (object ms) fine = ap object (whole_object entry_fault is_column flat always flat_judges always (columns_of cs) ms (columns_fit cs) (unmapped (λ f. f.1) _ fine))
+row_whole cs (object ms) fine = ap object (whole_object entry_fault is_column flat_at any_entry flat_judges always (columns_of cs) ms (columns_fit cs) (unmapped (λ f. f.1) _ fine))
 
 -- ---- lists
 
@@ -301,16 +306,16 @@ abbrev pub is_short : ℕ → Bool
 is_short most = nat_lt most 257
 
 -- a list that may have no more items than are kept, or a value that is judged at all
-abbrev pub is_judged_shape : Shape → Bool
-is_judged_shape shape.Any = false
-is_judged_shape (shape.Of e) = true
-is_judged_shape (shape.Each most e) = is_short most
-is_judged_shape (shape.Table most cs) = is_short most
-is_judged_shape (shape.Texts nulls) = true
+abbrev pub is_judged_shape : List ℕ → Shape → Bool
+is_judged_shape k shape.Any = false
+is_judged_shape k (shape.Of e) = true
+is_judged_shape k (shape.Each most e) = is_short most
+is_judged_shape k (shape.Table most cs) = is_short most
+is_judged_shape k (shape.Texts nulls) = has_pairs k
 
-abbrev pub is_judged : Ask → Bool
-is_judged (ask.Must s) = is_judged_shape s
-is_judged (ask.May s) = is_judged_shape s
+abbrev pub is_judged : List ℕ → Ask → Bool
+is_judged k (ask.Must s) = is_judged_shape k s
+is_judged k (ask.May s) = is_judged_shape k s
 
 less_than : (a b : ℕ) → nat_lt a b ≡ true → a < b
 less_than a b h = ltb-true a b h
@@ -321,52 +326,52 @@ in_list_entry e d = entry_same e flat_items column_members d
 in_list_entry_whole : (e : Entry) (d : Data) → entry_fault e d ≡ None → in_list d ≡ d
 in_list_entry_whole e d fine = entry_whole e flat_items column_members d fine
 
-shape_same : (s : Shape) (d : Data) → is_judged_shape s ≡ true → shape_fault s (whole d) ≡ shape_fault s d
-shape_same shape.Any d at = absurd (cc)
-shape_same (shape.Of e) d at = entry_same e first_items pairs d
-shape_same (shape.Each most e) (array ds) at = (list_same (entry_fault e) (in_list_entry e) (in_list_entry_whole e) 257 most ds (less_than most 257 at)).0
-shape_same (shape.Each most e) null at = refl
-shape_same (shape.Each most e) (boolean b) at = refl
-shape_same (shape.Each most e) (number n) at = refl
-shape_same (shape.Each most e) (string s) at = refl
-shape_same (shape.Each most e) (object ms) at = refl
-shape_same (shape.Table most cs) (array ds) at = (list_same (row_fault cs) (row_same cs) (row_whole cs) 257 most ds (less_than most 257 at)).0
-shape_same (shape.Table most cs) null at = refl
-shape_same (shape.Table most cs) (boolean b) at = refl
-shape_same (shape.Table most cs) (number n) at = refl
-shape_same (shape.Table most cs) (string s) at = refl
-shape_same (shape.Table most cs) (object ms) at = refl
-shape_same (shape.Texts nulls) (object ms) at = pairs_same nulls ms
-shape_same (shape.Texts nulls) null at = refl
-shape_same (shape.Texts nulls) (boolean b) at = refl
-shape_same (shape.Texts nulls) (number n) at = refl
-shape_same (shape.Texts nulls) (string s) at = refl
-shape_same (shape.Texts nulls) (array ds) at = refl
+shape_same : (k : List ℕ) (s : Shape) (d : Data) → is_judged_shape k s ≡ true → shape_fault s (whole k d) ≡ shape_fault s d
+shape_same k shape.Any d at = absurd (cc)
+shape_same k (shape.Of e) d at = entry_same e first_items (pairs_at k) d
+shape_same k (shape.Each most e) (array ds) at = (list_same (entry_fault e) (in_list_entry e) (in_list_entry_whole e) 257 most ds (less_than most 257 at)).0
+shape_same k (shape.Each most e) null at = refl
+shape_same k (shape.Each most e) (boolean b) at = refl
+shape_same k (shape.Each most e) (number n) at = refl
+shape_same k (shape.Each most e) (string s) at = refl
+shape_same k (shape.Each most e) (object ms) at = refl
+shape_same k (shape.Table most cs) (array ds) at = (list_same (row_fault cs) (row_same cs) (row_whole cs) 257 most ds (less_than most 257 at)).0
+shape_same k (shape.Table most cs) null at = refl
+shape_same k (shape.Table most cs) (boolean b) at = refl
+shape_same k (shape.Table most cs) (number n) at = refl
+shape_same k (shape.Table most cs) (string s) at = refl
+shape_same k (shape.Table most cs) (object ms) at = refl
+shape_same k (shape.Texts nulls) (object ms) at = rw at (pairs_same nulls ms)
+shape_same k (shape.Texts nulls) null at = refl
+shape_same k (shape.Texts nulls) (boolean b) at = refl
+shape_same k (shape.Texts nulls) (number n) at = refl
+shape_same k (shape.Texts nulls) (string s) at = refl
+shape_same k (shape.Texts nulls) (array ds) at = refl
 
-shape_whole : (s : Shape) (d : Data) → is_judged_shape s ≡ true → shape_fault s d ≡ None → whole d ≡ d
-shape_whole s null at fine = refl
-shape_whole s (boolean b) at fine = refl
-shape_whole s (number n) at fine = refl
-shape_whole s (string t) at fine = refl
-shape_whole shape.Any (array ds) at fine = absurd (cc)
-shape_whole shape.Any (object ms) at fine = absurd (cc)
-shape_whole (shape.Of e) (array ds) at fine = entry_whole e first_items pairs (array ds) fine
-shape_whole (shape.Of e) (object ms) at fine = entry_whole e first_items pairs (object ms) fine
-shape_whole (shape.Each most e) (array ds) at fine =
+shape_whole : (k : List ℕ) (s : Shape) (d : Data) → is_judged_shape k s ≡ true → shape_fault s d ≡ None → whole k d ≡ d
+shape_whole k s null at fine = refl
+shape_whole k s (boolean b) at fine = refl
+shape_whole k s (number n) at fine = refl
+shape_whole k s (string t) at fine = refl
+shape_whole k shape.Any (array ds) at fine = absurd (cc)
+shape_whole k shape.Any (object ms) at fine = absurd (cc)
+shape_whole k (shape.Of e) (array ds) at fine = entry_whole e first_items (pairs_at k) (array ds) fine
+shape_whole k (shape.Of e) (object ms) at fine = entry_whole e first_items (pairs_at k) (object ms) fine
+shape_whole k (shape.Each most e) (array ds) at fine =
     ap array ((list_same (entry_fault e) (in_list_entry e) (in_list_entry_whole e) 257 most ds (less_than most 257 at)).1 fine)
-shape_whole (shape.Each most e) (object ms) at fine = absurd (cc)
-shape_whole (shape.Table most cs) (array ds) at fine = ap array ((list_same (row_fault cs) (row_same cs) (row_whole cs) 257 most ds (less_than most 257 at)).1 fine)
-shape_whole (shape.Table most cs) (object ms) at fine = absurd (cc)
-shape_whole (shape.Texts nulls) (array ds) at fine = absurd (cc)
-shape_whole (shape.Texts nulls) (object ms) at fine = ap object (pairs_whole nulls ms fine)
+shape_whole k (shape.Each most e) (object ms) at fine = absurd (cc)
+shape_whole k (shape.Table most cs) (array ds) at fine = ap array ((list_same (row_fault cs) (row_same cs) (row_whole cs) 257 most ds (less_than most 257 at)).1 fine)
+shape_whole k (shape.Table most cs) (object ms) at fine = absurd (cc)
+shape_whole k (shape.Texts nulls) (array ds) at fine = absurd (cc)
+shape_whole k (shape.Texts nulls) (object ms) at fine = rw at (ap object (pairs_whole nulls ms fine))
 
-ask_same : (a : Ask) (d : Data) → is_judged a ≡ true → ask_fault a (whole d) ≡ ask_fault a d
-ask_same (ask.Must s) d at = shape_same s d at
-ask_same (ask.May s) d at = shape_same s d at
+ask_same : (k : List ℕ) (a : Ask) (d : Data) → is_judged k a ≡ true → ask_fault a (whole k d) ≡ ask_fault a d
+ask_same k (ask.Must s) d at = shape_same k s d at
+ask_same k (ask.May s) d at = shape_same k s d at
 
-ask_whole : (a : Ask) (d : Data) → is_judged a ≡ true → ask_fault a d ≡ None → whole d ≡ d
-ask_whole (ask.Must s) d at fine = shape_whole s d at fine
-ask_whole (ask.May s) d at fine = shape_whole s d at fine
+ask_whole : (k : List ℕ) (a : Ask) (d : Data) → is_judged k a ≡ true → ask_fault a d ≡ None → whole k d ≡ d
+ask_whole k (ask.Must s) d at fine = shape_whole k s d at fine
+ask_whole k (ask.May s) d at fine = shape_whole k s d at fine
 
 ask_judges : Judges ask_fault whole is_judged
 ask_judges = record { same = ask_same; whole = ask_whole }

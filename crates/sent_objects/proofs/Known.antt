@@ -6,21 +6,21 @@ use Rattle.std.specs.Ordering.{match_ordering, ordering_reverse}
 use Rattle.serde_json.specs.Data.{Data, null, Members, no_members, member, put}
 use Rattle.json_keys.specs.Order.{IsInOrder}
 use Rattle.json_keys.proofs.Held.{equal_texts}
-use Rattle.sent_objects.specs.Brief.{known_members, kept, first_unknown, with_least, lower}
+use Rattle.sent_objects.specs.Brief.{every, known_members, kept, first_unknown, with_least, lower}
 use Rattle.sent_objects.proofs.InOrder.{text_cmp, IsBelow, below_more, turned, put_first}
 
 back : (k l : List ℕ) → text_cmp k l ≡ Less → text_cmp l k ≡ Greater
 back k l is = nat_list_cmp_total.antisymm l k ∙ ap ordering_reverse is
 
 module _ (known : List ℕ → Bool) where
-  module _ (brief : Data → Data) where
+  module _ (brief : List ℕ → Data → Data) where
     -- ---- a key that is not known changes nothing
 
     skipped_at : (o : Ordering) (k l : List ℕ) (d e : Data) (ms : Members) → text_cmp k l ≡ o → known k ≡ false → known_members known brief (put k d ms) ≡ known_members known brief ms
         → known_members known brief (match_ordering o (member k d (member l e ms)) (member l d ms) (member l e (put k d ms))) ≡ known_members known brief (member l e ms)
     skipped_at Less k l d e ms is other more = rw other
     skipped_at Equal k l d e ms is other more = let same : known l ≡ false = ap known (sym (equal_texts k l is)) ∙ other in rw same
-    skipped_at Greater k l d e ms is other more = ap (λ xs. cond (known l) (member l (brief e) xs) xs) more
+    skipped_at Greater k l d e ms is other more = ap (λ xs. cond (known l) (member l (brief l e) xs) xs) more
 
     pub skipped : (k : List ℕ) (d : Data) (ms : Members) → known k ≡ false → known_members known brief (put k d ms) ≡ known_members known brief ms
     skipped k d no_members other = rw other
@@ -28,7 +28,7 @@ module _ (known : List ℕ → Bool) where
 
     -- ---- one that is known is put among those that are
 
-    below_at : (b : Bool) (q l : List ℕ) (e : Data) (ms rest : Members) → IsBelow q (member l e ms) → IsBelow q rest → IsBelow q (cond b (member l (brief e) rest) rest)
+    below_at : (b : Bool) (q l : List ℕ) (e : Data) (ms rest : Members) → IsBelow q (member l e ms) → IsBelow q rest → IsBelow q (cond b (member l (brief l e) rest) rest)
     below_at true q l e ms rest below more = (below.0, more)
     below_at false q l e ms rest below more = more
 
@@ -37,19 +37,19 @@ module _ (known : List ℕ → Bool) where
     below_known q (member l e ms) below = below_at (known l) q l e ms (known_members known brief ms) below (below_known q ms below.1)
 
     added_at : (o : Ordering) (b : Bool) (k l : List ℕ) (d e : Data) (ms : Members) → text_cmp k l ≡ o → known l ≡ b → known k ≡ true → IsInOrder (member l e ms)
-        → known_members known brief (put k d ms) ≡ put k (brief d) (known_members known brief ms)
-        → known_members known brief (match_ordering o (member k d (member l e ms)) (member l d ms) (member l e (put k d ms))) ≡ put k (brief d) (known_members known brief (member l e ms))
+        → known_members known brief (put k d ms) ≡ put k (brief k d) (known_members known brief ms)
+        → known_members known brief (match_ordering o (member k d (member l e ms)) (member l d ms) (member l e (put k d ms))) ≡ put k (brief k d) (known_members known brief (member l e ms))
     unfolding IsStrictlySortedBy
     added_at Less b k l d e ms is at here order more =
         let below : IsBelow k (member l e ms) = (is, below_more k l ms is order.0) in
-        rw here (sym (put_first k (brief d) (known_members known brief (member l e ms)) (below_known k (member l e ms) below)))
-    added_at Equal true k l d e ms is at here order more = rw (at, is) refl
+        rw here (sym (put_first k (brief k d) (known_members known brief (member l e ms)) (below_known k (member l e ms) below)))
+    added_at Equal true k l d e ms is at here order more = rw (at, is) (ap (λ q. member l (brief q d) (known_members known brief ms)) (sym (equal_texts k l is)))
     added_at Equal false k l d e ms is at here order more =
         let never : true ≡ false = sym here ∙ ap known (equal_texts k l is) ∙ at in absurd (cc)
     added_at Greater true k l d e ms is at here order more = rw (at, is, more) refl
     added_at Greater false k l d e ms is at here order more = rw (at, more) refl
 
-    pub added : (k : List ℕ) (d : Data) (ms : Members) → known k ≡ true → IsInOrder ms → known_members known brief (put k d ms) ≡ put k (brief d) (known_members known brief ms)
+    pub added : (k : List ℕ) (d : Data) (ms : Members) → known k ≡ true → IsInOrder ms → known_members known brief (put k d ms) ≡ put k (brief k d) (known_members known brief ms)
     unfolding IsStrictlySortedBy
     added k d no_members here order = rw here
     added k d (member l e ms) here order = added_at (text_cmp k l) (known l) k l d e ms refl refl here order (added k d ms here order.1)
@@ -70,7 +70,7 @@ module _ (known : List ℕ → Bool) where
         → with_least (first_unknown known ms) (known_members known brief ms) ≡ kept known brief ms
         → with_least (first_unknown known (member l e ms)) (known_members known brief (member l e ms)) ≡ kept known brief (member l e ms)
     unfolding IsStrictlySortedBy
-    completed_at true l e ms at order more = rw at (past l (brief e) ms (known_members known brief ms) order.0 ∙ ap (member l (brief e)) more)
+    completed_at true l e ms at order more = rw at (past l (brief l e) ms (known_members known brief ms) order.0 ∙ ap (member l (brief l e)) more)
     completed_at false l e ms at order more = rw at (put_first l null (known_members known brief ms) (below_known l ms order.0))
 
     pub completed : (ms : Members) → IsInOrder ms → with_least (first_unknown known ms) (known_members known brief ms) ≡ kept known brief ms
@@ -115,3 +115,8 @@ module _ (known : List ℕ → Bool) where
   unfolding IsStrictlySortedBy
   lowered k d no_members other order = rw other refl
   lowered k d (member l e ms) other order = lowered_at (text_cmp k l) (known l) k l d e ms refl refl other order (lowered k d ms other order.1)
+
+-- where each key is known all are kept
+pub all_known : (brief : List ℕ → Data → Data) (ms : Members) → known_members every brief ms ≡ kept every brief ms
+all_known brief no_members = refl
+all_known brief (member l e ms) = ap (member l (brief l e)) (all_known brief ms)

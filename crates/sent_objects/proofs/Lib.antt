@@ -1,4 +1,5 @@
 mod FirstItems
+mod Gathered
 mod InOrder
 pub mod Judged
 mod Known

@@ -1,7 +1,8 @@
 -- What is kept of an object: as much as decides what any edit makes of it.
-use Rattle.std.specs.Prelude.{ℕ, zero, suc, List, Bool, true, Option, None, Some, if◌then◌else◌}
+use Rattle.std.specs.Prelude.{ℕ, zero, suc, List, Bool, true, Option, None, Some, if◌then◌else◌, codes}
 use Rattle.std.specs.Cmp.Lexicographic.{slice_cmp}
 use Rattle.std.specs.Ordering.{nat_cmp, is_lt}
+use Rattle.std.specs.Str.{bytes_eq}
 use Rattle.serde_json.specs.Data.{Data, null, array, object, Items, no_items, item, Members, no_members, member, put}
 use Rattle.sent_objects.specs.Keys.{is_key, is_column}
 
@@ -24,16 +25,20 @@ flat d = inside flat_items flat_members d
 
 -- ---- members
 
+-- a list or an object where none belongs, at any key
+abbrev pub flat_at : List ℕ → Data → Data
+flat_at k d = flat d
+
 -- those whose keys are known
-abbrev pub known_members : (List ℕ → Bool) → (Data → Data) → Members → Members
+abbrev pub known_members : (List ℕ → Bool) → (List ℕ → Data → Data) → Members → Members
 known_members known brief no_members = no_members
-known_members known brief (member k d ms) = if known k then member k (brief d) (known_members known brief ms) else known_members known brief ms
+known_members known brief (member k d ms) = if known k then member k (brief k d) (known_members known brief ms) else known_members known brief ms
 
 -- In the order of their keys: those whose keys are known, and the first of the others. What this one's value is does not
 -- matter, and of the others it alone is told.
-abbrev pub kept : (List ℕ → Bool) → (Data → Data) → Members → Members
+abbrev pub kept : (List ℕ → Bool) → (List ℕ → Data → Data) → Members → Members
 kept known brief no_members = no_members
-kept known brief (member k d ms) = if known k then member k (brief d) (kept known brief ms) else member k null (known_members known brief ms)
+kept known brief (member k d ms) = if known k then member k (brief k d) (kept known brief ms) else member k null (known_members known brief ms)
 
 -- the first that is not known
 abbrev pub first_unknown : (List ℕ → Bool) → Members → Option (List ℕ)
@@ -57,7 +62,7 @@ every k = true
 
 -- the members of an object that stands in a list
 abbrev pub column_members : Members → Members
-column_members ms = kept is_column flat ms
+column_members ms = kept is_column flat_at ms
 
 -- an item of a list
 abbrev pub in_list : Data → Data
@@ -77,11 +82,18 @@ first_items ds = first_so_many most ds
 
 -- texts by names
 abbrev pub pairs : Members → Members
-pairs ms = kept every flat ms
+pairs ms = kept every flat_at ms
+
+-- the one key below which an object belongs
+abbrev pub has_pairs : List ℕ → Bool
+has_pairs k = bytes_eq k (codes "fields")
+
+abbrev pub pairs_at : List ℕ → Members → Members
+pairs_at k ms = if has_pairs k then pairs ms else no_members
 
 -- the value of a key
-abbrev pub whole : Data → Data
-whole d = inside first_items pairs d
+abbrev pub whole : List ℕ → Data → Data
+whole k d = inside first_items (pairs_at k) d
 
 abbrev pub brief_members : Members → Members
 brief_members ms = kept is_key whole ms

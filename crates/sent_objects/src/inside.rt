@@ -6,8 +6,9 @@ ghost use Rattle.serde_json.specs.View.{items_view, view};
 ghost use Rattle.sent_objects.specs.Brief.{column_members, first_items, flat_items, flat_members, inside, pairs};
 ghost use Rattle.sent_objects.specs.Reads.{IsRefusal};
 
-use crate::members::{Column, Pair, read_members};
+use crate::members::{Column, read_members};
 use crate::number::number_of;
+use crate::pairs::read_pairs;
 use crate::skip::{skip, skip_items, skip_members};
 use json::{Invalid, Reader, Token};
 use serde_json::{Map, Value};
@@ -159,10 +160,32 @@ impl Inside for Item {
     }
 }
 
-/// Of the value of a key: the first items of a list, and all members of an object.
-pub(crate) struct Whole;
+/// Of the value of a key: the first items of a list.
+pub(crate) struct Listed;
 
-impl Inside for Whole {
+impl Inside for Listed {
+    ghost of_array = { first_items };
+
+    ghost of_object = { flat_members };
+
+    fn items(alloc: Global, reader: &mut Reader<'_>, depth: usize) -> Result<Vec<Value>, Fault> {
+        read_items(alloc, reader, depth)
+    }
+
+    fn members(
+        alloc: Global,
+        reader: &mut Reader<'_>,
+        depth: usize,
+    ) -> Result<Map<String, Value>, Fault> {
+        skip_members(reader, depth)?;
+        Ok(Map::new(alloc))
+    }
+}
+
+/// The same, and all members of an object.
+pub(crate) struct Named;
+
+impl Inside for Named {
     ghost of_array = { first_items };
 
     ghost of_object = { pairs };
@@ -176,7 +199,7 @@ impl Inside for Whole {
         reader: &mut Reader<'_>,
         depth: usize,
     ) -> Result<Map<String, Value>, Fault> {
-        read_members::<Pair>(alloc, reader, depth)
+        read_pairs(alloc, reader, depth)
     }
 }
 

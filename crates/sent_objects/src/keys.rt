@@ -1,5 +1,6 @@
 //! The keys that edits know.
 ghost use Rattle.std.specs.Prelude.{◌≡◌};
+ghost use Rattle.sent_objects.specs.Brief.{has_pairs};
 ghost use Rattle.sent_objects.specs.Keys.{is_among, is_column, is_key, texts_of};
 
 /// The keys of all bodies, in the order of their bytes.
@@ -73,4 +74,11 @@ pub(crate) fn is_column(name: &str) -> bool
     ensures { result ≡ is_column name.now }
 {
     is_among(&COLUMNS, name)
+}
+
+/// Whether an object belongs below a key.
+pub(crate) fn has_pairs(name: &str) -> bool
+    ensures { result ≡ has_pairs name.now }
+{
+    name == "fields"
 }

@@ -11,6 +11,7 @@ mod keys;
 mod members;
 mod number;
 mod object;
+mod pairs;
 mod skip;
 
 pub use object::SentObject;

@@ -4,12 +4,12 @@ ghost use Rattle.json.specs.Json.{members, parse_map, value};
 ghost use Rattle.serde_json.specs.Data.{no_members, put};
 ghost use Rattle.serde_json.specs.Read.{converted, of_members};
 ghost use Rattle.serde_json.specs.View.{members_view, view};
-ghost use Rattle.sent_objects.specs.Brief.{every, flat, kept, lower, whole, with_least};
+ghost use Rattle.sent_objects.specs.Brief.{flat_at, kept, lower, whole, with_least};
 ghost use Rattle.sent_objects.specs.Keys.{is_column, is_key};
 ghost use Rattle.sent_objects.specs.Reads.{IsRefusal, text_in};
 
-use crate::inside::{Fault, Flat, Whole, read_value};
-use crate::keys::{is_column, is_key};
+use crate::inside::{Fault, Flat, Listed, Named, read_value};
+use crate::keys::{has_pairs, is_column, is_key};
 use crate::skip::skip;
 use json::Reader;
 use serde_json::{Map, Value};
@@ -28,15 +28,20 @@ pub(crate) trait Member {
     ghost known: { List ℕ → Bool };
 
     /// What is kept of the value of a known key.
-    ghost brief: { Data → Data };
+    ghost brief: { List ℕ → Data → Data };
 
     /// Whether a key is known.
     fn is_known(name: &str) -> bool
         ensures { result ≡ known name.now };
 
     /// Reads the value of a known key.
-    fn read(alloc: Global, reader: &mut Reader<'_>, depth: usize) -> Result<Value, Fault>
-        ensures ok { IfOk result (λ v. parse_map brief (converted of_json (value depth reader.old)) ≡ Some (view v, reader.new)) }
+    fn read(
+        alloc: Global,
+        name: &str,
+        reader: &mut Reader<'_>,
+        depth: usize,
+    ) -> Result<Value, Fault>
+        ensures ok { IfOk result (λ v. parse_map (brief name.now) (converted of_json (value depth reader.old)) ≡ Some (view v, reader.new)) }
         ensures shorter { OnOk result (length reader.new < length reader.old) }
         ensures err { IsRefusal result → converted of_json (value depth reader.old) ≡ None };
 }
@@ -53,8 +58,17 @@ impl Member for Key {
         is_key(name)
     }
 
-    fn read(alloc: Global, reader: &mut Reader<'_>, depth: usize) -> Result<Value, Fault> {
-        read_value::<Whole>(alloc, reader, depth)
+    fn read(
+        alloc: Global,
+        name: &str,
+        reader: &mut Reader<'_>,
+        depth: usize,
+    ) -> Result<Value, Fault> {
+        if has_pairs(name) {
+            read_value::<Named>(alloc, reader, depth)
+        } else {
+            read_value::<Listed>(alloc, reader, depth)
+        }
     }
 }
 
@@ -64,30 +78,13 @@ pub(crate) struct Column;
 impl Member for Column {
     ghost known = { is_column };
 
-    ghost brief = { flat };
+    ghost brief = { flat_at };
 
     fn is_known(name: &str) -> bool {
         is_column(name)
     }
 
-    fn read(alloc: Global, reader: &mut Reader<'_>, depth: usize) -> Result<Value, Fault> {
-        read_value::<Flat>(alloc, reader, depth)
-    }
-}
-
-/// A name with its value: each is known.
-pub(crate) struct Pair;
-
-impl Member for Pair {
-    ghost known = { every };
-
-    ghost brief = { flat };
-
-    fn is_known(_: &str) -> bool {
-        true
-    }
-
-    fn read(alloc: Global, reader: &mut Reader<'_>, depth: usize) -> Result<Value, Fault> {
+    fn read(alloc: Global, _: &str, reader: &mut Reader<'_>, depth: usize) -> Result<Value, Fault> {
         read_value::<Flat>(alloc, reader, depth)
     }
 }
@@ -140,7 +137,7 @@ pub(crate) fn read_members<T: Member>(
     'members: while let Some(name) = reader.next_key()? {
         if T::is_known(name) {
             let key = String::from_str(alloc, name)?;
-            let member = T::read(alloc, reader, depth)?;
+            let member = T::read(alloc, name, reader, depth)?;
             put(&mut found, key, member)?;
         } else {
             least = lower(alloc, least, name)?;
