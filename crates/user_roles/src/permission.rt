@@ -1,12 +1,15 @@
 //! What the roles of a user permit.
-ghost use Rattle.std.specs.Prelude.{◌≡◌, ℕ, List, IfOk, map};
+ghost use Rattle.std.specs.Prelude.{◌≡◌, ◌↔◌, ℕ, List, IfOk, IsTrue, map};
 ghost use Rattle.std.specs.List.{flat_map, list_any};
+ghost use Rattle.std.specs.List.Sorted.{IsStrictlySortedBy};
+ghost use Rattle.std.specs.Ordering.{nat_cmp};
+ghost use Rattle.std.specs.Cmp.Lexicographic.{slice_cmp};
 ghost use Rattle.std.specs.Str.{bytes_eq};
 ghost use Rattle.content_rows.specs.Permission.{permissions_of as permissions_by, has as is_held, text_set};
 ghost use Rattle.user_roles.specs.Permitted.{is_permitted, permits};
 
 use crate::sorted::{add_all, listed};
-use content_rows::{Items, Permissions, Role, Text};
+use content_rows::{Duplicate, Items, Permissions, Role, Text};
 use std::alloc::{AllocError, Global};
 use std::collections::BTreeSet;
 
@@ -35,8 +38,26 @@ fn is_any_admin(roles: &[&Role]) -> bool
     false
 }
 
-/// What any of the roles permits, in order, each once.
+/// What any of the roles permits, in order, each once. One role's permissions mostly stand in order in its row, and are then
+/// copied as they stand: so it is for each visitor without a session.
 fn texts_of(alloc: Global, roles: &[&Role]) -> Result<Items<Text>, AllocError>
+    ensures { IfOk result (λ texts. texts ≡ text_set (flat_map (λ role. role.permissions) (map (λ role. role.now) roles.now))) }
+{
+    match roles {
+        [role] if are_in_order(role.permissions.as_slice()) => role.permissions.duplicate(alloc),
+        _ => texts_put_in_order(alloc, roles),
+    }
+}
+
+/// Whether texts stand in order, each once.
+fn are_in_order(texts: &[Text]) -> bool
+    ensures { IsTrue result ↔ IsStrictlySortedBy (slice_cmp nat_cmp) texts.now }
+{
+    texts.is_sorted_by(|before, after| before < after)
+}
+
+/// What any of the roles permits, put in order by a set.
+fn texts_put_in_order(alloc: Global, roles: &[&Role]) -> Result<Items<Text>, AllocError>
     ensures { IfOk result (λ texts. texts ≡ text_set (flat_map (λ role. role.permissions) (map (λ role. role.now) roles.now))) }
 {
     let mut texts: BTreeSet<Text> = BTreeSet::new(alloc);
