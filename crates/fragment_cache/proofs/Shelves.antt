@@ -1,6 +1,6 @@
 -- A map in the order of use does what is said of a bin.
 use Rattle.std.proofs.Common.{ℕ, zero, suc, List, [], ◌∷◌, ◌++◌, ◌≡◌, ◌<◌, ◌≤◌, ◌-◌, ◌==◌, Bool, true, false, not, ◌&&◌, true≢false, cond, inl, inr, refl, sym, ◌∙◌, ap, subst, arith, length, take, take_all, Option, Some, None, is_some}
-use Rattle.std.specs.List.{IsDistinct}
+use Rattle.std.specs.List.{IsDistinct, slice_get}
 use Rattle.std.specs.Option.{option_map, option_map_or}
 use Rattle.std.specs.Map.{keys_of, lookup, lookup_entry, remove_entry}
 use Rattle.std.proofs.lemmas.Bool.Decides.{Decides-eqb, not_from_Decides}
@@ -12,7 +12,7 @@ use Rattle.cache_entries.specs.declared.key.Key.{Key}
 use Rattle.cache_entries.specs.declared.kept.Kept.{Kept}
 use Rattle.cache_entries.specs.Keys.{same_key}
 use Rattle.cache_entries.specs.KeyLaws.{key_decided, keys_equiv}
-use Rattle.fragment_cache.specs.Bins.{Thing, thing_of, things_of, seen, IsShelf, IsAbsent, LooksFor, Looks, Replaces, Adds, Drops, up, KeepsAt, Keeps, must_drop}
+use Rattle.fragment_cache.specs.Bins.{Thing, thing_of, things_of, thing_entry, seen, IsShelf, IsAbsent, MovesUp, LooksFor, Looks, Replaces, Adds, Drops, up, KeepsAt, Keeps, must_drop}
 use Rattle.fragment_cache.proofs.Seen.{seen_value, seen_promoted, seen_put}
 
 value_of : {A : Type 0} (a b : A) → Some a ≡ Some b → a ≡ b
@@ -149,6 +149,28 @@ looked_seen cache new key found valid told is = record {
       (seen_promoted (same_key key) cache.entries ∙ sym (ap (λ (c : LruCache Key Kept). things_of c.entries) is))
       (looked key (things_of cache.entries) valid.distinct found told);
 }
+
+-- what stands first already stays there
+first_stays : (key : Key) (kept : Kept) (es : List (Key × Kept)) → IsDistinct same_key (keys_of (things_of es)) → slice_get es 0 ≡ Some (key, kept) → MovesUp (things_of es) key (thing_of kept) (things_of es)
+first_stays key kept [] distinct first = cc
+first_stays key kept (e ∷ es) distinct first =
+    let thing = thing_of kept in
+    let whole : things_of (e ∷ es) ≡ (key, thing) ∷ things_of es = ap (λ x. thing_entry x ∷ things_of es) (value_of e (key, kept) first) in
+    let found : lookup (same_key key) (things_of (e ∷ es)) ≡ Some thing =
+    ap (λ l. lookup (same_key key) l) whole ∙ ap (λ b. cond b (Some thing) (lookup (same_key key) (things_of es))) ((key_decided key key).1 refl) in
+    record {
+      front = [];
+      rest = things_of es;
+      before = whole;
+      after = whole;
+      only = λ other there. value_of other thing (sym (lookup-from_Contains keys_equiv key other (things_of (e ∷ es)) distinct there) ∙ found);
+    }
+
+pub first_seen : (cache : LruCache Key Kept) (key : Key) (kept : Kept) (found : Option Thing) → IsShelf (seen cache) → slice_get cache.entries 0 ≡ Some (key, kept) → found ≡ Some (thing_of kept)
+    → Looks (seen cache) key found (seen cache)
+first_seen cache key kept found valid first is =
+    subst (λ o. Looks (seen cache) key o (seen cache)) (sym is)
+    (record { room = refl; things = first_stays key kept cache.entries valid.distinct first })
 
 -- where nothing is found all stays
 pub missed_seen : (cache : LruCache Key Kept) (key : Key) (found : Option Thing) → is_some found ≡ false → found ≡ lookup (same_key key) (things_of cache.entries)

@@ -1,5 +1,5 @@
 //! Bins of bounded size, in the order of use.
-ghost use Rattle.std.specs.Prelude.{◌≡◌, Some, is_some, IfOk, IfErr, OnOk, OnErr};
+ghost use Rattle.std.specs.Prelude.{◌≡◌, Some, is_some, slice_get, IfOk, IfErr, IfSome, OnOk, OnErr};
 ghost use Rattle.std.specs.NonZero.{non_zero_usize_get};
 ghost use Rattle.std.specs.Map.{lookup};
 ghost use Rattle.cache_entries.specs.Keys.{same_key};
@@ -125,17 +125,31 @@ fn is_bounded(cache: &LruCache<Key, Kept>)
     let _length = cache.len();
 }
 
-/// What stands under a key, which then goes first. Where nothing does, the key isn't looked for again.
+/// What stands under a key, which then goes first. Where it stands first already, as what is asked for again and again, its key is
+/// compared and not hashed. Where nothing does, the key isn't looked for again.
 fn look_at(cache: &mut LruCache<Key, Kept>, key: &Key) -> Result<Found, AllocError>
     ensures looks { IfOk result (λ found. Looks (seen cache.old) key.now (thing_found found) (seen cache.new)) }
     ensures refused { OnErr result (cache.new ≡ cache.old) }
 {
     is_bounded(cache);
+    if let Some(kept) = first_at(cache, key) {
+        return found_of(kept);
+    }
     let found = found_at(cache, key)?;
     if is_something(&found) {
         cache.promote(key);
     }
     Ok(found)
+}
+
+/// What was used last, where it stands under a key.
+fn first_at<'a>(cache: &'a LruCache<Key, Kept>, key: &Key) -> Option<&'a Kept>
+    ensures { IfSome result (λ kept. slice_get cache.now.entries 0 ≡ Some (key.now, kept.now)) }
+{
+    match cache.peek_mru() {
+        Some((first, kept)) if first.equals(key) => Some(kept),
+        _ => None,
+    }
 }
 
 /// Whether something was found.
