@@ -49,7 +49,7 @@ impl Parcel {
     pub fn begins_get(&self) -> bool
         ensures { result ≡ begins_get self.now }
     {
-        self.left().starts_with(b"GET ")
+        matches!(self.left(), [b'G', b'E', b'T', b' ', ..])
     }
 
     /// How many bytes of memory it takes.

@@ -151,7 +151,7 @@ impl Waiting {
         match framing.extent(piece) {
             Extent::Whole(size) => {
                 let (_, rest) = piece.split_at(size);
-                if self.bytes.add(rest).is_err() {
+                if !rest.is_empty() && self.bytes.add(rest).is_err() {
                     return Came::NoMemory;
                 }
                 let bytes = mem::replace(room, Vec::new(alloc));

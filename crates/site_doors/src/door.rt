@@ -4,7 +4,7 @@ ghost use Rattle.site_io.specs.Told.{Rose};
 
 use crate::lobby::Lobby;
 use crate::reply::Outgoing;
-use crate::share::Share;
+use door_sockets::Share;
 use request_framing::{Framing, Parcel};
 use site_io::{Door, Ended, Failed};
 use std::alloc::Global;

@@ -3,8 +3,7 @@ ghost use Rattle.std.specs.Prelude.{◌≡◌, ◌<◌, ◌+◌, false, true, If
 ghost use Rattle.site_doors.specs.Charge.{HasCome, HasLeft, IsClosed, IsParked, IsTaken};
 ghost use Rattle.request_framing.specs.Limits.{sockets};
 
-use crate::guest::Guest;
-use crate::share::Share;
+use door_sockets::{Guest, Share};
 use request_framing::{HELD_BYTES, SOCKETS};
 use slab::Slab;
 use std::alloc::Global;
@@ -13,7 +12,7 @@ use std::marker::Model;
 /// The sockets that a door has charge of: those that are parked, each under a key, and those in hand. There are no others: a socket
 /// in hand is parked, or closed. Contracts see how many there are of both.
 pub(crate) struct Guests {
-    parked: Slab<Guest>,
+    parked: Slab<Box<Guest>>,
     in_hand: usize,
     /// How many there are in all.
     count: usize,
@@ -89,7 +88,7 @@ impl Guests {
     }
 
     /// Parks one that came. Whether there was memory; else it is let go, and nothing changed.
-    pub(crate) fn admit(&mut self, guest: Guest) -> bool
+    pub(crate) fn admit(&mut self, guest: Box<Guest>) -> bool
         requires { self.old.parked + self.old.in_hand < sockets }
         ensures parked { result ≡ true → self.new ≡ record self.old { parked = self.old.parked + 1 } }
         ensures same { result ≡ false → self.new ≡ self.old }
@@ -103,7 +102,7 @@ impl Guests {
     }
 
     /// Takes the one of a key in hand, if there is one.
-    pub(crate) fn take(&mut self, key: usize) -> Option<Guest>
+    pub(crate) fn take(&mut self, key: usize) -> Option<Box<Guest>>
         ensures taken { OnSome result (IsTaken self.old self.new) }
         ensures none { IfNone result (self.new ≡ self.old) }
     {
@@ -114,7 +113,7 @@ impl Guests {
     }
 
     /// Closes one that is in hand.
-    pub(crate) fn close(&mut self, guest: Guest)
+    pub(crate) fn close(&mut self, guest: Box<Guest>)
         requires { 0 < self.old.in_hand }
         ensures { IsClosed self.old self.new }
     {
@@ -145,7 +144,7 @@ impl Guests {
     }
 
     /// Parks one that is in hand, and tells its key. `None` where memory is wanting or too much is held, and then it is closed.
-    pub(crate) fn park(&mut self, guest: Guest) -> Option<usize>
+    pub(crate) fn park(&mut self, guest: Box<Guest>) -> Option<usize>
         requires { 0 < self.old.in_hand }
         ensures parked { OnSome result (IsParked self.old self.new) }
         ensures closed { IfNone result (IsClosed self.old self.new) }

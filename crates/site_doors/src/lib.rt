@@ -9,18 +9,13 @@
 
 mod crossing;
 mod door;
-mod guest;
 mod guests;
-mod hatch;
 mod listener;
 mod lobby;
-mod place;
 mod reply;
-mod share;
-mod wire;
 
 pub use crossing::doors_go_between_threads;
 pub use door::LobbyDoor;
+pub use door_sockets::Share;
 pub use listener::listener_at;
 pub use reply::Outgoing;
-pub use share::Share;

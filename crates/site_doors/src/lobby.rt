@@ -2,19 +2,16 @@
 ghost use Rattle.std.specs.Prelude.{◌≡◌, ◌<◌, ◌+◌, true, IfNone, IfOk, IfSome, OnOk, OnErr, OnSome};
 ghost use Rattle.request_framing.specs.Limits.{sockets};
 
-use crate::guest::{Guest, Step};
 use crate::guests::Guests;
-use crate::hatch::Passed;
-use crate::place::Place;
 use crate::reply::{Home, Outgoing};
-use crate::share::Share;
+use door_sockets::{Guest, Passed, Place, Share, Step};
 use mio::net::{TcpListener, TcpStream};
 use mio::{Events, Interest, Poll, Token, Waker};
 use request_framing::{
     Bytes, Framing, GATHERED_BYTES, HEAD_BYTES, PATIENCE_MILLIS, Parcel, REST_MILLIS,
 };
 use site_io::Ended;
-use std::alloc::Global;
+use std::alloc::{AllocError, Global};
 use std::collections::VecDeque;
 use std::io;
 use std::io::ErrorKind;
@@ -191,7 +188,7 @@ impl<C: Clock + Drop, F: Framing + Drop> Lobby<C, F> {
 
     /// Holds a guest that is in hand again, which had that key. It is closed where the system doesn't let it be watched, memory is
     /// wanting, or too much is held.
-    fn hold(&mut self, key: usize, mut guest: Guest)
+    fn hold(&mut self, key: usize, mut guest: Box<Guest>)
         requires { self.old.guests.in_hand ≡ 1 }
         ensures { self.new.guests.in_hand ≡ 0 }
     {
@@ -212,7 +209,7 @@ impl<C: Clock + Drop, F: Framing + Drop> Lobby<C, F> {
     }
 
     /// Holds a guest that is in hand and of whose events no door is told.
-    fn welcome(&mut self, mut guest: Guest)
+    fn welcome(&mut self, mut guest: Box<Guest>)
         requires { self.old.guests.in_hand ≡ 1 }
         ensures { self.new.guests.in_hand ≡ 0 }
     {
@@ -231,7 +228,7 @@ impl<C: Clock + Drop, F: Framing + Drop> Lobby<C, F> {
     }
 
     /// Parks a guest that is in hand, and notes whether something is to be done for it.
-    fn park(&mut self, mut guest: Guest)
+    fn park(&mut self, mut guest: Box<Guest>)
         requires { self.old.guests.in_hand ≡ 1 }
         ensures { self.new.guests.in_hand ≡ 0 }
     {
@@ -282,9 +279,13 @@ impl<C: Clock + Drop, F: Framing + Drop> Lobby<C, F> {
             self.guests.shed();
             return;
         }
-        let guest = Guest::new(self.alloc, stream, self.second());
-        if !self.guests.admit(guest) {
-            self.guests.shed();
+        match Guest::new(self.alloc, stream, self.second()) {
+            Ok(guest) => {
+                if !self.guests.admit(guest) {
+                    self.guests.shed();
+                }
+            }
+            Err(AllocError) => self.guests.shed(),
         }
     }
 
@@ -399,7 +400,7 @@ impl<C: Clock + Drop, F: Framing + Drop> Lobby<C, F> {
     }
 
     /// The connection of a guest that is in hand, with its request.
-    fn give(&mut self, home: Home, mut guest: Guest, parcel: Parcel) -> (Parcel, Outgoing)
+    fn give(&mut self, home: Home, mut guest: Box<Guest>, parcel: Parcel) -> (Parcel, Outgoing)
         ensures same { self.new.guests.in_hand ≡ self.old.guests.in_hand }
         ensures request { result.0 ≡ parcel }
     {
@@ -411,7 +412,7 @@ impl<C: Clock + Drop, F: Framing + Drop> Lobby<C, F> {
     fn pass_on(
         &mut self,
         key: usize,
-        mut guest: Guest,
+        mut guest: Box<Guest>,
         parcel: Parcel,
     ) -> Option<(Parcel, Outgoing)>
         requires { self.old.guests.in_hand ≡ 1 }
@@ -479,7 +480,7 @@ impl<C: Clock + Drop, F: Framing + Drop> Lobby<C, F> {
     }
 
     /// Goes on with a guest that is in hand, and gives its connection where a request is there.
-    fn go_on(&mut self, key: usize, mut guest: Guest) -> Option<(Parcel, Outgoing)>
+    fn go_on(&mut self, key: usize, mut guest: Box<Guest>) -> Option<(Parcel, Outgoing)>
         requires { self.old.guests.in_hand ≡ 1 }
         ensures given { OnSome result (self.new.guests.in_hand ≡ 1) }
         ensures none { IfNone result (self.new.guests.in_hand ≡ 0) }
@@ -561,13 +562,17 @@ impl<C: Clock + Drop, F: Framing + Drop> Lobby<C, F> {
                 return Ok(ends);
             }
             self.wait()?;
-            self.take_home();
+            if self.place.has_passed() {
+                self.take_home();
+            }
             if self.may_come {
                 self.take_in()?;
             }
             self.round = self.tasks.len();
-            if let Some(ends) = self.next_passed() {
-                return Ok(ends);
+            if self.place.has_asking() {
+                if let Some(ends) = self.next_passed() {
+                    return Ok(ends);
+                }
             }
         }
         Err(io::Error::from(ErrorKind::TimedOut))
@@ -608,7 +613,7 @@ impl<C: Clock + Drop, F: Framing + Drop> Lobby<C, F> {
     }
 
     /// Has a guest that is in hand held where it is at home. It is closed where that door has ended.
-    fn send_home(&mut self, home: Home, mut guest: Guest)
+    fn send_home(&mut self, home: Home, mut guest: Box<Guest>)
         requires { self.old.guests.in_hand ≡ 1 }
         ensures { self.new.guests.in_hand ≡ 0 }
     {

@@ -1,7 +1,7 @@
 //! What replies of a connection are written to.
 ghost use Rattle.std.specs.Prelude.{None};
 
-use crate::guest::Guest;
+use door_sockets::Guest;
 use site_io::{Failed, Sink};
 
 /// Where a guest is parked once it is given back.
@@ -17,7 +17,7 @@ pub(crate) enum Home {
 /// take at once is kept, and sent once the door has it back: so no write waits. It fails where the socket has failed, where the door
 /// holds too much, or where memory is wanting.
 pub struct Outgoing {
-    guest: Guest,
+    guest: Box<Guest>,
     home: Home,
     /// How many bytes may be kept.
     may_keep: usize,
@@ -37,7 +37,7 @@ impl Drop for Outgoing {
 
 impl Outgoing {
     /// The socket of a guest with this home. So many bytes may be kept, and nothing has failed.
-    pub(crate) fn new(home: Home, guest: Guest, may_keep: usize) -> Outgoing {
+    pub(crate) fn new(home: Home, guest: Box<Guest>, may_keep: usize) -> Outgoing {
         Outgoing {
             guest,
             home,
@@ -47,7 +47,7 @@ impl Outgoing {
     }
 
     /// The guest, and its home.
-    pub(crate) fn into_guest(self) -> (Home, Guest) {
+    pub(crate) fn into_guest(self) -> (Home, Box<Guest>) {
         let Outgoing {
             guest,
             home,
