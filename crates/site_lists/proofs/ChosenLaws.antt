@@ -78,11 +78,11 @@ both false b h g = cc
 
 -- ---- what an index gives, and the nodes that fit
 
-untyped : (type : List ℕ) (ranks : List NodeRank) → map (λ (k : TypeKey). k.rank) (map (λ (r : NodeRank). record { node_type = type; rank = r }) ranks) ≡ ranks
+pub untyped : (type : List ℕ) (ranks : List NodeRank) → map (λ (k : TypeKey). k.rank) (map (λ (r : NodeRank). record { node_type = type; rank = r }) ranks) ≡ ranks
 untyped type [] = refl
 untyped type (r ∷ rs) = ap (λ l. r ∷ l) (untyped type rs)
 
-untermed : (term : ℕ) (ranks : List NodeRank) → map (λ (k : TermKey). k.rank) (map (λ (r : NodeRank). record { term = term; rank = r }) ranks) ≡ ranks
+pub untermed : (term : ℕ) (ranks : List NodeRank) → map (λ (k : TermKey). k.rank) (map (λ (r : NodeRank). record { term = term; rank = r }) ranks) ≡ ranks
 untermed term [] = refl
 untermed term (r ∷ rs) = ap (λ l. r ∷ l) (untermed term rs)
 

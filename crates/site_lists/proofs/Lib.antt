@@ -11,3 +11,4 @@ pub mod Terms
 pub mod ChosenLaws
 pub mod DecodedFirst
 pub mod OnlyFirst
+pub mod OneIndex

@@ -30,7 +30,7 @@ use Rattle.site_lists.specs.Listed.{candidates, in_order, is_listed, rank_cmp, r
 -- ---- what holds of each member of a list
 
 module _ {X : Type 0} (P : X → Type 0) where
-  weaker : (Q : X → Type 0) → ((x : X) → P x → Q x) → (xs : List X) → AllByRecursion P xs → AllByRecursion Q xs
+  pub weaker : (Q : X → Type 0) → ((x : X) → P x → Q x) → (xs : List X) → AllByRecursion P xs → AllByRecursion Q xs
   weaker Q gives [] all = tt
   weaker Q gives (x ∷ xs) all = (gives x all.0, weaker Q gives xs all.1)
 
@@ -41,7 +41,7 @@ module _ {X : Type 0} (P : X → Type 0) where
     | false ↦ filter_all p xs all.1
   ]
 
-  map_all : {Y : Type 0} (f : Y → X) (ys : List Y) → AllByRecursion (λ y. P (f y)) ys → AllByRecursion P (map f ys)
+  pub map_all : {Y : Type 0} (f : Y → X) (ys : List Y) → AllByRecursion (λ y. P (f y)) ys → AllByRecursion P (map f ys)
   map_all f [] all = tt
   map_all f (y ∷ ys) all = (all.0, map_all f ys all.1)
 
@@ -53,7 +53,7 @@ module _ {X : Type 0} (P : X → Type 0) where
     | Greater ↦ (all.0, insert_all cmp xs k all.1 one)
   ]
 
-  fold_all : (cmp : X → X → Ordering) (before xs : List X) → AllByRecursion P before → AllByRecursion P xs → AllByRecursion P (fold (insert_key cmp) before xs)
+  pub fold_all : (cmp : X → X → Ordering) (before xs : List X) → AllByRecursion P before → AllByRecursion P xs → AllByRecursion P (fold (insert_key cmp) before xs)
   fold_all cmp before [] first all = first
   fold_all cmp before (x ∷ xs) first all = fold_all cmp (insert_key cmp before x) xs (insert_all cmp before x first all.0) all.1
 

@@ -1,5 +1,5 @@
 -- Among which nodes a listing's are sought, by the indexes of a state.
-use Rattle.std.specs.Prelude.{ℕ, List, [], ◌∷◌, Bool, false, ◌==◌, ◌&&◌, Option, Some, None, map, length}
+use Rattle.std.specs.Prelude.{ℕ, List, [], ◌∷◌, Bool, false, ◌==◌, ◌&&◌, ◌||◌, not, Option, Some, None, map, length}
 use Rattle.std.specs.List.{filter, flat_map, list_any, sum_by}
 use Rattle.std.specs.Str.{bytes_eq}
 use Rattle.content_rows.specs.declared.cell.Cell.{Cell}
@@ -9,7 +9,7 @@ use Rattle.content_rows.specs.declared.row.Listing.{Listing}
 use Rattle.row_keys.specs.declared.rank.NodeRank.{NodeRank}
 use Rattle.indexed_rows.specs.Rows.{node_of, nodes_of}
 use Rattle.content_state.specs.Ranked.{published, published_of, published_with}
-use Rattle.site_lists.specs.Listed.{is_fit}
+use Rattle.site_lists.specs.Listed.{is_fit, is_recent}
 use Rattle.site_lists.specs.Below.{terms_within}
 
 -- whether the node of a rank, if it is there, is what a listing asks for, but for its term
@@ -19,6 +19,17 @@ has_node listing moment (Some node) = is_fit listing moment node
 
 abbrev pub passes : List (Cell × Row) → Listing → ℕ → NodeRank → Bool
 passes rows listing moment rank = has_node listing moment (node_of rows rank.id.0)
+
+-- the same, but for its type too
+abbrev pub is_due : Listing → ℕ → Node → Bool
+is_due listing moment node = node.status && (not listing.promoted || node.promote) && is_recent listing.recent moment node.created
+
+abbrev pub has_due : Listing → ℕ → Option Node → Bool
+has_due listing moment None = false
+has_due listing moment (Some node) = is_due listing moment node
+
+abbrev pub passes_of_type : List (Cell × Row) → Listing → ℕ → NodeRank → Bool
+passes_of_type rows listing moment rank = has_due listing moment (node_of rows rank.id.0)
 
 -- the ranks of the published nodes with a term, and of those of a type
 abbrev pub ranks_with : List (Cell × Row) → ℕ → List NodeRank

@@ -1,5 +1,5 @@
 //! A term and its descendants.
-ghost use Rattle.std.specs.Prelude.{◌≡◌, IfOk, OnOk, fold};
+ghost use Rattle.std.specs.Prelude.{◌≡◌, ◌∷◌, [], IfOk, IsTrue, OnOk, fold};
 ghost use Rattle.std.specs.BTreeSet.{insert_key};
 ghost use Rattle.std.specs.Ordering.{nat_cmp};
 ghost use Rattle.site_lists.specs.Below.{below, ids_under, terms_within};
@@ -21,6 +21,17 @@ pub fn terms_within(alloc: Global, state: &State, top: u32) -> Result<BTreeSet<u
     let mut terms = BTreeSet::new(alloc);
     add_below(&mut terms, state, top, LEVELS)?;
     Ok(terms)
+}
+
+/// Whether no term stands below a term.
+pub fn is_alone(state: &State, top: u32) -> bool
+    ensures { IsTrue result → (terms_within state.now.rows top ≡ top ∷ []) }
+{
+    state.stands_in_order();
+    match state.children(top).next() {
+        None => true,
+        Some(_) => false,
+    }
 }
 
 /// Adds a term and what stands below it, so many levels down.

@@ -1,13 +1,13 @@
 //! The nodes of a listing, sought in the least fitting index.
-ghost use Rattle.std.specs.Prelude.{◌≡◌, ◌+◌, ◌≤◌, IfOk, OnOk, cond, fold, length};
+ghost use Rattle.std.specs.Prelude.{◌≡◌, ◌+◌, ◌≤◌, IfOk, OnOk, Some, None, cond, fold, length, map};
 ghost use Rattle.std.specs.BTreeSet.{insert_key};
 ghost use Rattle.std.specs.List.{filter, flat_map};
-ghost use Rattle.content_state.specs.Ranked.{published};
 ghost use Rattle.site_lists.specs.Chosen.{passes, ranks_with, ranks_typed, ranks_among};
 ghost use Rattle.site_lists.specs.Listed.{in_order, rank_cmp};
 
-use crate::below::terms_within;
+use crate::below::{is_alone, terms_within};
 use crate::listed::is_fit;
+use crate::one_index::{all_nodes, nodes_of, nodes_with};
 use cacheability::Name;
 use content_rows::Listing;
 use content_state::{NodeReads, State};
@@ -33,42 +33,71 @@ impl<'a> Drop for Asked<'a> {
     }
 }
 
-/// What places the nodes that the listing has, in their order. Nodes are read with its term or a descendant of it alone, where
-/// it has one, else of its types alone, where it has any.
+/// The ids of the nodes that the listing has, in their order. Nodes are read with its term or a descendant of it alone, where
+/// it has one, else of its types alone, where it has any. Those that one index gives in order are not put in order again.
 pub fn chosen<L: Ledger>(
     alloc: Global,
     asked: &Asked<'_>,
     reads: &mut NodeReads<L>,
-) -> Result<BTreeSet<NodeRank>, AllocError>
-    ensures ranks { IfOk result (λ ranks. ranks.keys ≡ in_order rank_cmp (filter (passes asked.now.state.now.rows asked.now.listing.now asked.now.moment) (ranks_among asked.now.state.now.rows asked.now.listing.now.term asked.now.listing.now.types))) }
-    ensures reads { reads.new ≤ reads.old + length (ranks_among asked.now.state.now.rows asked.now.listing.now.term asked.now.listing.now.types) }
-{
-    let mut ranks = BTreeSet::new(alloc);
-    add_among(alloc, &mut ranks, asked, reads)?;
-    Ok(ranks)
-}
-
-/// Adds the nodes with the listing's term or a descendant of it, where it has one, else those of its types, where it has any,
-/// else all.
-fn add_among<L: Ledger>(
-    alloc: Global,
-    ranks: &mut BTreeSet<NodeRank>,
-    asked: &Asked<'_>,
-    reads: &mut NodeReads<L>,
-) -> Result<(), AllocError>
-    ensures ranks { OnOk result (ranks.new.keys ≡ fold (insert_key rank_cmp) ranks.old.keys (filter (passes asked.now.state.now.rows asked.now.listing.now asked.now.moment) (ranks_among asked.now.state.now.rows asked.now.listing.now.term asked.now.listing.now.types))) }
+) -> Result<Vec<u32>, AllocError>
+    ensures ids { IfOk result (λ ids. ids.items ≡ map (λ r. r.id.0) (in_order rank_cmp (filter (passes asked.now.state.now.rows asked.now.listing.now asked.now.moment) (ranks_among asked.now.state.now.rows asked.now.listing.now.term asked.now.listing.now.types)))) }
     ensures reads { reads.new ≤ reads.old + length (ranks_among asked.now.state.now.rows asked.now.listing.now.term asked.now.listing.now.types) }
 {
     match asked.listing.term {
-        Some(top) => {
-            let terms = terms_within(alloc, asked.state, top)?;
-            add_within(ranks, asked, &terms, reads)
-        }
+        Some(top) => chosen_within(alloc, asked, top, reads),
         None => match asked.listing.types.as_slice() {
-            [] => add_all(ranks, asked, reads),
-            [_, ..] => add_of(ranks, asked, asked.listing.types.as_slice(), reads),
+            [] => all_nodes(alloc, asked, reads),
+            [node_type] => {
+                asked.state.stands_in_order();
+                nodes_of(alloc, asked, *node_type, reads)
+            }
+            [_, _, ..] => chosen_of(alloc, asked, reads),
         },
     }
+}
+
+/// The ids of the nodes with a term or a descendant of it.
+fn chosen_within<L: Ledger>(
+    alloc: Global,
+    asked: &Asked<'_>,
+    top: u32,
+    reads: &mut NodeReads<L>,
+) -> Result<Vec<u32>, AllocError>
+    ensures ids { IfOk result (λ ids. ids.items ≡ map (λ r. r.id.0) (in_order rank_cmp (filter (passes asked.now.state.now.rows asked.now.listing.now asked.now.moment) (ranks_among asked.now.state.now.rows (Some top) asked.now.listing.now.types)))) }
+    ensures reads { reads.new ≤ reads.old + length (ranks_among asked.now.state.now.rows (Some top) asked.now.listing.now.types) }
+{
+    if is_alone(asked.state, top) {
+        return nodes_with(alloc, asked, top, reads);
+    }
+    let terms = terms_within(alloc, asked.state, top)?;
+    let mut ranks = BTreeSet::new(alloc);
+    add_within(&mut ranks, asked, &terms, reads)?;
+    ids_of(alloc, &ranks)
+}
+
+/// The ids of the nodes of the listing's types.
+fn chosen_of<L: Ledger>(
+    alloc: Global,
+    asked: &Asked<'_>,
+    reads: &mut NodeReads<L>,
+) -> Result<Vec<u32>, AllocError>
+    ensures ids { IfOk result (λ ids. ids.items ≡ map (λ r. r.id.0) (in_order rank_cmp (filter (passes asked.now.state.now.rows asked.now.listing.now asked.now.moment) (flat_map (ranks_typed asked.now.state.now.rows) asked.now.listing.now.types)))) }
+    ensures reads { reads.new ≤ reads.old + length (flat_map (ranks_typed asked.now.state.now.rows) asked.now.listing.now.types) }
+{
+    let mut ranks = BTreeSet::new(alloc);
+    add_of(&mut ranks, asked, asked.listing.types.as_slice(), reads)?;
+    ids_of(alloc, &ranks)
+}
+
+/// The ids of nodes by what places them.
+fn ids_of(alloc: Global, ranks: &BTreeSet<NodeRank>) -> Result<Vec<u32>, AllocError>
+    ensures { IfOk result (λ ids. ids.items ≡ map (λ r. r.id.0) ranks.now.keys) }
+{
+    let mut ids = Vec::new(alloc);
+    'ranks: for rank in ranks {
+        ids.push(rank.id.0)?;
+    }
+    Ok(ids)
 }
 
 /// Adds the node of a rank, where it is what the listing asks for.
@@ -89,7 +118,7 @@ fn add_rank<L: Ledger>(
 }
 
 /// Whether the node of a rank, which is read, is what the listing asks for, but for its term.
-fn is_there<L: Ledger>(asked: &Asked<'_>, rank: &NodeRank, reads: &mut NodeReads<L>) -> bool
+pub fn is_there<L: Ledger>(asked: &Asked<'_>, rank: &NodeRank, reads: &mut NodeReads<L>) -> bool
     ensures there { result ≡ passes asked.now.state.now.rows asked.now.listing.now asked.now.moment rank.now }
     ensures reads { reads.new ≡ reads.old + 1 }
 {
@@ -128,22 +157,6 @@ fn add_with<L: Ledger>(
 {
     'keys: for key in asked.state.published_with(term) {
         add_rank(ranks, asked, &key.rank, reads)?;
-    }
-    Ok(())
-}
-
-/// Adds all nodes.
-#[tactic(auto, using(crate::proofs::ChosenLaws::one_more))]
-fn add_all<L: Ledger>(
-    ranks: &mut BTreeSet<NodeRank>,
-    asked: &Asked<'_>,
-    reads: &mut NodeReads<L>,
-) -> Result<(), AllocError>
-    ensures ranks { OnOk result (ranks.new.keys ≡ fold (insert_key rank_cmp) ranks.old.keys (filter (passes asked.now.state.now.rows asked.now.listing.now asked.now.moment) (published asked.now.state.now.rows))) }
-    ensures reads { reads.new ≤ reads.old + length (published asked.now.state.now.rows) }
-{
-    'keys: for rank in asked.state.published() {
-        add_rank(ranks, asked, rank, reads)?;
     }
     Ok(())
 }

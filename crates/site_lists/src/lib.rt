@@ -9,6 +9,7 @@ mod front;
 mod laws;
 mod listed;
 mod names;
+mod one_index;
 mod paging;
 mod query;
 mod trail;

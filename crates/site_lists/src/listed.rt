@@ -1,7 +1,7 @@
 //! The nodes of a listing.
 ghost use Rattle.std.specs.Prelude.{◌≡◌, ◌<◌, ◌≤◌, ◌+◌, All, IfOk, IsSome, map};
 ghost use Rattle.indexed_rows.specs.Rows.{node_of};
-ghost use Rattle.site_lists.specs.Chosen.{published_count};
+ghost use Rattle.site_lists.specs.Chosen.{is_due, published_count};
 ghost use Rattle.site_lists.specs.Listed.{
   candidates as listed_ids,
   term_listing as listing_of_term,
@@ -16,9 +16,7 @@ use crate::names::is_among;
 use cacheability::{Name, Tag};
 use content_rows::{Items, Listing, Node, Text};
 use content_state::{NodeReads, State};
-use row_keys::NodeRank;
 use std::alloc::{AllocError, Global};
-use std::collections::BTreeSet;
 use std::marker::Brand;
 use std::sync::ledger::{Blank, Ledger};
 
@@ -78,19 +76,7 @@ pub fn candidates_counted<L: Ledger>(
         listing,
         moment,
     };
-    let ranks = chosen(alloc, &asked, reads)?;
-    ids_of(alloc, &ranks)
-}
-
-/// The ids of nodes by what places them.
-fn ids_of(alloc: Global, ranks: &BTreeSet<NodeRank>) -> Result<Vec<u32>, AllocError>
-    ensures { IfOk result (λ ids. ids.items ≡ map (λ r. r.id.0) ranks.now.keys) }
-{
-    let mut ids = Vec::new(alloc);
-    'ranks: for rank in ranks {
-        ids.push(rank.id.0)?;
-    }
-    Ok(ids)
+    chosen(alloc, &asked, reads)
 }
 
 /// Whether a node is what a listing asks for at a moment, but for its term.
@@ -100,6 +86,15 @@ pub fn is_fit(listing: &Listing, moment: u64, node: &Node) -> bool
     node.status
         && (!listing.promoted || node.promote)
         && is_of_types(listing.types.as_slice(), &node.node_type)
+        && is_recent(listing.recent, moment, node.created)
+}
+
+/// The same, but for its type too.
+pub fn is_due(listing: &Listing, moment: u64, node: &Node) -> bool
+    ensures { result ≡ is_due listing.now moment node.now }
+{
+    node.status
+        && (!listing.promoted || node.promote)
         && is_recent(listing.recent, moment, node.created)
 }
 
