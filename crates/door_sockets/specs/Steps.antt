@@ -1,5 +1,5 @@
 -- What becomes of a socket that its door goes on with, and of the bytes that came there.
-use Rattle.std.specs.Prelude.{ℕ, List, ◌≡◌, ◌++◌}
+use Rattle.std.specs.Prelude.{ℕ, List, ◌≡◌, ◌≤◌, ◌<◌, ◌++◌}
 use Rattle.request_framing.specs.declared.framing.Extent.{Extent}
 use Rattle.door_sockets.specs.declared.guest.Step.{Step}
 use Rattle.door_sockets.specs.declared.guest.Step.TheVariants.{Give, Refuse, Again, Stay, NoMemory, Close}
@@ -28,6 +28,23 @@ Steps reaches old Again new = KeepsAll old new
 Steps reaches old Stay new = KeepsAll old new
 Steps reaches old NoMemory new = Unit {0}
 Steps reaches old Close new = Unit {0}
+
+-- of what comes after the last reply no more than this is read away before the socket is let go
+abbrev pub linger_bytes : ℕ
+linger_bytes = 16777216
+
+-- so many bytes of a reply are gathered
+abbrev pub gathered_bytes : ℕ
+gathered_bytes = 65536
+
+-- a socket of which more is read away stays only as long as what was read away is counted and within the limit
+abbrev pub ReadsAway : Step → ℕ → ℕ → Type 0
+ReadsAway (Give given) old new = ⊥
+ReadsAway (Refuse given) old new = ⊥
+ReadsAway Again old new = (old < new) × (new ≤ linger_bytes)
+ReadsAway Stay old new = new ≡ old
+ReadsAway NoMemory old new = ⊥
+ReadsAway Close old new = Unit {0}
 
 -- nothing is given, and all stays
 abbrev pub Kept : Step → List ℕ → List ℕ → Type 0

@@ -1,6 +1,6 @@
 //! A socket that stays with its door.
-ghost use Rattle.std.specs.Prelude.{◌≡◌, ◌≤◌, ◌<◌, false, length, IfSome};
-ghost use Rattle.door_sockets.specs.Steps.{IsRest, Kept, Steps};
+ghost use Rattle.std.specs.Prelude.{◌≡◌, ◌≤◌, ◌<◌, ◌+◌, true, false, length, IfNone, IfSome, OnSome};
+ghost use Rattle.door_sockets.specs.Steps.{IsRest, Kept, ReadsAway, Steps, gathered_bytes, linger_bytes};
 
 use crate::wire::{Moved, read_from, write_to};
 use mio::net::TcpStream;
@@ -257,17 +257,28 @@ impl Guest {
         }
     }
 
+    /// Counts so many bytes more that were read away. Whether they are no more than may be.
+    fn counts_away(&mut self, n: usize) -> bool
+        ensures counted { result ≡ true → self.new.away ≡ self.old.away + n }
+        ensures within { result ≡ true → self.new.away ≤ linger_bytes }
+        ensures beyond { result ≡ false → linger_bytes < self.old.away + n }
+        ensures waiting { self.new.waiting ≡ self.old.waiting }
+    {
+        self.away = self.away.saturating_add(n);
+        self.away <= LINGER_BYTES
+    }
+
     /// Reads away what comes, up to so much.
     fn read_away(&mut self, room: &mut [u8]) -> Step
-        ensures { Kept result self.old.waiting self.new.waiting }
+        ensures kept { Kept result self.old.waiting self.new.waiting }
+        ensures away { ReadsAway result self.old.away self.new.away }
     {
         match read_from(&self.stream, room) {
             Moved::Bytes(n) => {
-                self.away = self.away.saturating_add(n);
-                if self.away > LINGER_BYTES {
-                    Step::Close
-                } else {
+                if self.counts_away(n) {
                     Step::Again
+                } else {
+                    Step::Close
                 }
             }
             Moved::Waits => {
@@ -280,7 +291,8 @@ impl Guest {
 
     /// Sends what is unsent as far as the socket takes it. Whether it has not failed.
     fn push_out(&mut self) -> bool
-        ensures { self.new.waiting ≡ self.old.waiting }
+        ensures waiting { self.new.waiting ≡ self.old.waiting }
+        ensures fewer { length self.new.unsent ≤ length self.old.unsent }
     {
         if self.unsent.len() == 0 {
             return true;
@@ -371,30 +383,43 @@ impl Guest {
         }
     }
 
+    /// Keeps a piece of a reply behind what is unsent. `None` where memory is wanting.
+    fn keep(&mut self, piece: &[u8]) -> Option<usize>
+        ensures all { IfSome result (λ n. n ≡ length piece.now) }
+        ensures kept { OnSome result (length self.new.unsent ≡ length self.old.unsent + length piece.now) }
+        ensures same { IfNone result (length self.new.unsent ≡ length self.old.unsent) }
+    {
+        match self.unsent.add(piece) {
+            Ok(()) => Some(piece.len()),
+            Err(AllocError) => None,
+        }
+    }
+
     /// Takes a front of a piece of a reply, which is not empty: it is kept, where so many bytes may be, and else sent. `None` where
     /// the socket has failed or too much is kept.
     pub fn take_piece(&mut self, piece: &[u8], may_keep: usize) -> Option<usize>
         requires { 0 < length piece.now }
-        ensures { IfSome result (λ n. (0 < n) × (n ≤ length piece.now)) }
+        ensures taken { IfSome result (λ n. (0 < n) × (n ≤ length piece.now)) }
+        ensures kept { OnSome result (gathered_bytes < length self.new.unsent → length self.new.unsent ≤ may_keep) }
+        ensures no_more { IfNone result (length self.new.unsent ≤ length self.old.unsent) }
     {
-        if self.unsent.len().saturating_add(piece.len()) > GATHERED_BYTES {
-            if !self.push_out() {
-                return None;
-            }
-            if self.unsent.len() == 0 {
-                match write_to(&self.stream, piece) {
-                    Moved::Bytes(n) => return Some(n),
-                    Moved::Waits => {}
-                    Moved::End | Moved::Failed => return None,
-                }
-            }
-            if self.unsent.len().saturating_add(piece.len()) > may_keep {
-                return None;
+        if self.unsent.len().saturating_add(piece.len()) <= GATHERED_BYTES {
+            return self.keep(piece);
+        }
+        if !self.push_out() {
+            return None;
+        }
+        if self.unsent.len() == 0 {
+            match write_to(&self.stream, piece) {
+                Moved::Bytes(n) => return Some(n),
+                Moved::Waits => {}
+                Moved::End | Moved::Failed => return None,
             }
         }
-        match self.unsent.add(piece) {
-            Ok(()) => Some(piece.len()),
-            Err(AllocError) => None,
+        if piece.len() > may_keep.saturating_sub(self.unsent.len()) {
+            None
+        } else {
+            self.keep(piece)
         }
     }
 
