@@ -2,30 +2,37 @@
 ghost use Rattle.std.specs.Prelude.{◌≡◌, ◌≤◌, ◌++◌, ◌∷◌, [], IfErr, IfNone, IfSome, OnErr, OnOk};
 ghost use Rattle.std.specs.VecDeque.{deque_len};
 ghost use Rattle.request_framing.specs.Limits.{passed_sockets, passed_bytes};
+ghost use Rattle.request_framing.specs.Gives.{IsRequest};
 
 use crate::guest::Guest;
 use mio::Waker;
-use request_framing::{PASSED_BYTES, PASSED_SOCKETS, Parcel};
+use request_framing::{Framing, PASSED_BYTES, PASSED_SOCKETS, Parcel};
 use std::alloc::Global;
 use std::collections::VecDeque;
+use std::marker::PhantomData;
 use std::sync::atomic::{AtomicU64, Ordering};
 use std::sync::{Mutex, MutexGuard};
 use std::thread;
 
-/// A socket with a request that was found there, on its way from door to door.
+/// A socket with a request that was found there, on its way from door to door. Whoever takes it out of a queue knows of its request
+/// what was known where it was found: that it is whole, or refused.
 #[derive(Drop)]
-pub struct Passed {
+pub struct Passed<F: Framing> {
     /// The number of the door where it is parked once it was answered.
     pub home: usize,
     /// The socket. Its time is told in seconds since it began to be at what it is at.
     pub guest: Box<Guest>,
     /// Its request.
     pub parcel: Parcel,
+    /// What told that it is one.
+    pub of: PhantomData<F>,
+    ghost request: { IsRequest F.reaches parcel },
 }
 
-impl Passed {
+impl<F: Framing> Passed<F> {
     /// A guest of the door of this number, and its request.
-    pub fn new(home: usize, guest: Box<Guest>, parcel: Parcel) -> Passed
+    pub fn new(home: usize, guest: Box<Guest>, parcel: Parcel) -> Passed<F>
+        requires { IsRequest F.reaches parcel }
         ensures home { result.home ≡ home }
         ensures request { result.parcel ≡ parcel }
         ensures behind { result.guest ≡ guest }
@@ -34,6 +41,7 @@ impl Passed {
             home,
             guest,
             parcel,
+            of: PhantomData,
         }
     }
 
@@ -45,8 +53,8 @@ impl Passed {
 
 /// What waits at a hatch, in the order in which it came. Each step of a queue is exact; no clause follows it through the lock.
 #[derive(Drop)]
-struct Queues {
-    asking: VecDeque<Passed>,
+struct Queues<F: Framing> {
+    asking: VecDeque<Passed<F>>,
     /// How many bytes of memory those take.
     held: usize,
     back: VecDeque<Box<Guest>>,
@@ -55,9 +63,9 @@ struct Queues {
     ghost bytes: { held ≤ passed_bytes },
 }
 
-impl Queues {
+impl<F: Framing> Queues<F> {
     /// A request more waits, behind the others, where there may be one more. Else it comes back.
-    fn ask(&mut self, passed: Passed) -> Result<(), Passed>
+    fn ask(&mut self, passed: Passed<F>) -> Result<(), Passed<F>>
         ensures last { OnOk result (self.new.asking.items ≡ self.old.asking.items ++ passed ∷ []) }
         ensures same { OnErr result (self.new.asking.items ≡ self.old.asking.items) }
         ensures others { self.new.back.items ≡ self.old.back.items }
@@ -93,7 +101,7 @@ impl Queues {
     }
 
     /// The request that has waited for longest. `None` where none waits.
-    fn next_asking(&mut self) -> Option<Passed>
+    fn next_asking(&mut self) -> Option<Passed<F>>
         ensures first { IfSome result (λ passed. self.old.asking.items ≡ passed ∷ self.new.asking.items) }
         ensures none { IfNone result (deque_len self.old.asking ≡ 0) }
         ensures others { self.new.back.items ≡ self.old.back.items }
@@ -120,13 +128,13 @@ impl Queues {
 
 /// Where sockets wait that other doors pass to a door: with a request that its worker is to answer, or on their way back.
 #[derive(Drop)]
-pub(crate) struct Hatch {
+pub(crate) struct Hatch<F: Framing> {
     waker: Waker,
     /// How often its worker began to ask for a connection, and how often it was done with one: odd from the one to the other.
     calls: AtomicU64,
     /// How much waits.
     waiting: AtomicU64,
-    queues: Mutex<Queues>,
+    queues: Mutex<Queues<F>>,
 }
 
 /// Takes a lock that nobody holds for longer than a step. `None` after 2^64 tries, which no run makes.
@@ -140,9 +148,9 @@ pub(crate) fn locked<T>(mutex: &Mutex<T>) -> Option<MutexGuard<'_, T>> {
     None
 }
 
-impl Hatch {
+impl<F: Framing> Hatch<F> {
     /// The hatch of a door that is woken so.
-    pub(crate) fn new(alloc: Global, waker: Waker) -> Hatch {
+    pub(crate) fn new(alloc: Global, waker: Waker) -> Hatch<F> {
         Hatch {
             waker,
             calls: AtomicU64::new(0),
@@ -164,7 +172,7 @@ impl Hatch {
 
     /// Passes a request to the door, and wakes it. The request comes back where as many wait as may, the door has ended, or memory is
     /// wanting.
-    pub(crate) fn ask(&self, passed: Passed) -> Result<(), Passed>
+    pub(crate) fn ask(&self, passed: Passed<F>) -> Result<(), Passed<F>>
         ensures { IfErr result (λ back. back ≡ passed) }
     {
         let Some(mut queues) = locked(&self.queues) else {
@@ -197,7 +205,7 @@ impl Hatch {
     }
 
     /// The request that has waited for longest.
-    pub(crate) fn next_asking(&self) -> Option<Passed> {
+    pub(crate) fn next_asking(&self) -> Option<Passed<F>> {
         if self.waiting() == 0 {
             return None;
         }

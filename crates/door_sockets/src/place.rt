@@ -5,7 +5,7 @@ use crate::guest::Guest;
 use crate::hatch::{Hatch, Passed};
 use crate::share::Share;
 use mio::Waker;
-use request_framing::REST_MILLIS;
+use request_framing::{Framing, REST_MILLIS};
 use std::alloc::Global;
 use std::io;
 use std::io::ErrorKind;
@@ -19,18 +19,18 @@ struct Rest {
 }
 
 /// The place of a door among those of its address: its number, its hatch, and that of the editing door, where that is another.
-pub struct Place {
-    share: Share,
+pub struct Place<F: Framing> {
+    share: Share<F>,
     number: usize,
-    hatch: Arc<Hatch>,
-    editing: Option<Arc<Hatch>>,
+    hatch: Arc<Hatch<F>>,
+    editing: Option<Arc<Hatch<F>>>,
     /// The number of the editing door when it was last looked for.
     editing_number: Option<usize>,
     rest: Option<Rest>,
     has_ended: bool,
 }
 
-impl Drop for Place {
+impl<F: Framing> Drop for Place<F> {
     fn drop(self) {
         let Place {
             share,
@@ -47,7 +47,7 @@ impl Drop for Place {
 
 /// The door of a number ends: nothing is passed to it from here on, and the requests that wait at its hatch go to the doors where
 /// they came, those of ended doors excepted.
-fn end(share: &Share, number: usize, hatch: &Hatch) {
+fn end<F: Framing>(share: &Share<F>, number: usize, hatch: &Hatch<F>) {
     share.end(number);
     hatch.end();
     'passed: for _ in 0..u64::MAX {
@@ -60,9 +60,9 @@ fn end(share: &Share, number: usize, hatch: &Hatch) {
     }
 }
 
-impl Place {
+impl<F: Framing> Place<F> {
     /// The place of one door more, which is woken so.
-    pub fn new(alloc: Global, share: Share, waker: Waker) -> io::Result<Place> {
+    pub fn new(alloc: Global, share: Share<F>, waker: Waker) -> io::Result<Place<F>> {
         let hatch = Arc::new(alloc, Hatch::new(alloc, waker))?;
         let Some(number) = share.open(Arc::try_clone(&hatch)?) else {
             return Err(io::Error::from(ErrorKind::OutOfMemory));
@@ -144,7 +144,7 @@ impl Place {
     }
 
     /// Passes a request to the editing door. It comes back where that has as many as it may have, or memory is wanting.
-    pub fn ask(&self, passed: Passed) -> Result<(), Passed>
+    pub fn ask(&self, passed: Passed<F>) -> Result<(), Passed<F>>
         ensures { IfErr result (λ back. back ≡ passed) }
     {
         match &self.editing {
@@ -164,7 +164,7 @@ impl Place {
     }
 
     /// The next request that was passed here, or that waits at the editing door, whose worker is at rest in this millisecond.
-    pub fn next_asking(&mut self, now: u64) -> Option<Passed> {
+    pub fn next_asking(&mut self, now: u64) -> Option<Passed<F>> {
         if let Some(passed) = self.hatch.next_asking() {
             return Some(passed);
         }

@@ -2,6 +2,7 @@
 ghost use Rattle.std.specs.Prelude.{◌≡◌};
 
 use crate::hatch::{Hatch, locked};
+use request_framing::Framing;
 use std::alloc::{AllocError, Global};
 use std::sync::atomic::{AtomicU64, Ordering};
 use std::sync::{Arc, Mutex};
@@ -11,9 +12,9 @@ const NO_DOOR: u64 = u64::MAX;
 
 /// The doors that are open, how many of them take sockets, which is the editing door, and how many sockets all hold.
 #[derive(Drop)]
-struct Address {
+struct Address<F: Framing> {
     /// The hatch of each door, by its number. `None` once it has ended.
-    hatches: Mutex<Vec<Option<Arc<Hatch>>>>,
+    hatches: Mutex<Vec<Option<Arc<Hatch<F>>>>>,
     takers: AtomicU64,
     editing: AtomicU64,
     sockets: AtomicU64,
@@ -22,12 +23,12 @@ struct Address {
 /// What the doors of one address share: through it each takes its part of the sockets, and passes what may be an edit to the editing
 /// door. That is the last that was opened of those that are open, where there are two or more.
 #[derive(Drop)]
-pub struct Share {
-    address: Arc<Address>,
+pub struct Share<F: Framing> {
+    address: Arc<Address<F>>,
 }
 
 /// How many doors are open, and the number of the last.
-fn open_of(hatches: &[Option<Arc<Hatch>>]) -> (u64, u64) {
+fn open_of<F: Framing>(hatches: &[Option<Arc<Hatch<F>>>]) -> (u64, u64) {
     let mut count: u64 = 0;
     let mut last = NO_DOOR;
     let mut number: u64 = 0;
@@ -41,9 +42,9 @@ fn open_of(hatches: &[Option<Arc<Hatch>>]) -> (u64, u64) {
     (count, last)
 }
 
-impl Share {
+impl<F: Framing> Share<F> {
     /// Of an address with no door. `Err` only where memory is wanting.
-    pub fn new(alloc: Global) -> Result<Share, AllocError> {
+    pub fn new(alloc: Global) -> Result<Share<F>, AllocError> {
         let address = Address {
             hatches: Mutex::new(Vec::new(alloc)),
             takers: AtomicU64::new(0),
@@ -56,14 +57,14 @@ impl Share {
     }
 
     /// The same, for one door more. `Err` only where memory is wanting.
-    pub fn another(&self) -> Result<Share, AllocError> {
+    pub fn another(&self) -> Result<Share<F>, AllocError> {
         Ok(Share {
             address: Arc::try_clone(&self.address)?,
         })
     }
 
     /// Notes how many doors are open, and which is the last.
-    fn note_open(&self, hatches: &[Option<Arc<Hatch>>]) {
+    fn note_open(&self, hatches: &[Option<Arc<Hatch<F>>>]) {
         let (count, last) = open_of(hatches);
         let has_editing = count > 1;
         let editing = if has_editing { last } else { NO_DOOR };
@@ -73,7 +74,7 @@ impl Share {
     }
 
     /// A door more is open, with this hatch. Its number. `None` where memory is wanting.
-    pub(crate) fn open(&self, hatch: Arc<Hatch>) -> Option<usize> {
+    pub(crate) fn open(&self, hatch: Arc<Hatch<F>>) -> Option<usize> {
         let mut hatches = locked(&self.address.hatches)?;
         let doors = &mut *hatches;
         let number = doors.len();
@@ -102,7 +103,7 @@ impl Share {
     }
 
     /// The hatch of a door that is open.
-    pub(crate) fn hatch(&self, number: usize) -> Option<Arc<Hatch>> {
+    pub(crate) fn hatch(&self, number: usize) -> Option<Arc<Hatch<F>>> {
         let hatches = locked(&self.address.hatches)?;
         match hatches.get(number) {
             Some(Some(hatch)) => Arc::try_clone(hatch).ok(),

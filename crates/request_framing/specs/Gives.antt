@@ -1,5 +1,5 @@
 -- What a door may give of the bytes that came on a socket, and what stays with the socket.
-use Rattle.std.specs.Prelude.{ℕ, List, [], ◌≡◌, ◌≤◌, ◌++◌, length, take, drop}
+use Rattle.std.specs.Prelude.{ℕ, List, [], ◌≡◌, ◌≤◌, ◌++◌, ◌⊎◌, length, take, drop}
 use Rattle.request_framing.specs.declared.framing.Extent.{Extent}
 use Rattle.request_framing.specs.declared.framing.Extent.TheVariants.{Whole, Head, Body, Refused}
 use Rattle.request_framing.specs.declared.waiting.Came.{Came}
@@ -29,6 +29,18 @@ pub record GivesRefused (reaches : List ℕ → Extent → Type 0) (bytes given 
   pub told : reaches bytes Refused
   pub all : given ≡ bytes
   pub none : kept ≡ []
+
+-- What is given is one whole request: the front of bytes of which the framing told that they begin with it.
+pub record IsWhole (reaches : List ℕ → Extent → Type 0) (given : List ℕ) : Type 0 where
+  pub bytes : List ℕ
+  pub size : ℕ
+  pub told : reaches bytes (Whole size)
+  pub within : size ≤ length bytes
+  pub front : given ≡ take size bytes
+
+-- what a door may give: one whole request, or what the framing told to be refused
+abbrev pub IsRequest : (List ℕ → Extent → Type 0) → List ℕ → Type 0
+IsRequest reaches given = ∥ IsWhole reaches given ⊎ reaches given Refused ∥₁
 
 -- What comes of bytes: a whole request is given, or what is refused, or all stay. Where memory is wanting the socket is let go.
 abbrev pub Comes : (List ℕ → Extent → Type 0) → List ℕ → Came → List ℕ → Type 0

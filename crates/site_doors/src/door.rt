@@ -1,6 +1,9 @@
 //! A door that holds many sockets.
-ghost use Rattle.std.specs.Prelude.{◌≡◌, ◌≤◌, true, false, None, IfOk, if◌then◌else◌};
+ghost use Rattle.std.specs.Prelude.{◌≡◌, ◌≤◌, true, false, None, Some, IfOk, OnErr, OnOk, if◌then◌else◌};
 ghost use Rattle.site_io.specs.Told.{Rose};
+ghost use Rattle.site_io.specs.Memory.{up};
+ghost use Rattle.site_io.specs.Doors.{IsNext};
+ghost use Rattle.request_framing.specs.Gives.{IsRequest, no_faults};
 
 use crate::lobby::Lobby;
 use crate::reply::Outgoing;
@@ -16,14 +19,14 @@ use std::time::Clock;
 /// whole, or what is refused, and its socket; so whoever serves it never waits for a peer. It fails where the system doesn't let it
 /// wait for events or take what came. While a connection is out exactly one socket is in hand, and else none: each that was given back
 /// is parked again, or closed.
-pub struct LobbyDoor<C, F> {
+pub struct LobbyDoor<C, F: Framing> {
     lobby: Lobby<C, F>,
     is_out: bool,
     faults: u64,
     ghost charge: { lobby.guests.in_hand ≡ (if is_out then 1 else 0) },
 }
 
-impl<C: Drop, F: Drop> Drop for LobbyDoor<C, F> {
+impl<C: Drop, F: Framing + Drop> Drop for LobbyDoor<C, F> {
     fn drop(self) {
         let LobbyDoor {
             lobby: _,
@@ -41,7 +44,7 @@ impl<C: Clock + Drop, F: Framing + Drop> LobbyDoor<C, F> {
         alloc: Global,
         clock: C,
         listener: TcpListener,
-        share: Share,
+        share: Share<F>,
         framing: F,
     ) -> io::Result<LobbyDoor<C, F>>
         ensures faults { IfOk result (λ door. door.faults ≡ 0) }
@@ -79,7 +82,17 @@ impl<C: Clock + Drop, F: Framing + Drop> Door for LobbyDoor<C, F> {
 
     ghost faults = { λ d. d.faults };
 
-    fn accept(&mut self) -> Result<(Parcel, Outgoing), Failed> {
+    fn accept(&mut self) -> Result<(Parcel, Outgoing), Failed>
+        requires { self.old.is_out ≡ false }
+        ensures next { IfOk result (λ line. IsNext None (record { left = Some line.0; written = None; reading = no_faults; writing = line.1.faults })) }
+        ensures request { IfOk result (λ line. IsRequest F.reaches line.0) }
+        ensures out { OnOk result (self.new.is_out ≡ true) }
+        ensures none_out { OnErr result (self.new.is_out ≡ self.old.is_out) }
+        ensures cause { OnErr result (Rose self.old.faults self.new.faults) }
+        ensures once { OnErr result (self.new.faults ≡ up self.old.faults) }
+        ensures steady { OnOk result (self.new.faults ≡ self.old.faults) }
+        ensures never_falls { self.old.faults ≤ self.new.faults }
+    {
         match self.lobby.next() {
             Ok(ends) => {
                 self.is_out = true;

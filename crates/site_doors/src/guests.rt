@@ -4,24 +4,24 @@ ghost use Rattle.site_doors.specs.Charge.{HasCome, HasLeft, IsClosed, IsParked, 
 ghost use Rattle.request_framing.specs.Limits.{sockets};
 
 use door_sockets::{Guest, Share};
-use request_framing::{HELD_BYTES, SOCKETS};
+use request_framing::{Framing, HELD_BYTES, SOCKETS};
 use slab::Slab;
 use std::alloc::Global;
 use std::marker::Model;
 
 /// The sockets that a door has charge of: those that are parked, each under a key, and those in hand. There are no others: a socket
 /// in hand is parked, or closed. Contracts see how many there are of both.
-pub(crate) struct Guests {
+pub(crate) struct Guests<F: Framing> {
     parked: Slab<Box<Guest>>,
     in_hand: usize,
     /// How many there are in all.
     count: usize,
     /// How many bytes of memory those hold that are parked.
     held: usize,
-    share: Share,
+    share: Share<F>,
 }
 
-impl Model for Guests {
+impl<F: Framing> Model for Guests<F> {
     ghost use Rattle.std.specs.Prelude.{◌≡◌, ◌≤◌, ◌+◌};
     ghost use Rattle.slab.specs.Slab.{slab_len};
     ghost use Rattle.site_doors.specs.Charge.{Charge};
@@ -34,7 +34,7 @@ impl Model for Guests {
     ghost invariant = { λ g. ((g.count ≡ slab_len g.parked + g.in_hand) × (g.count ≤ sockets)) × (g.held ≤ held_bytes) };
 }
 
-impl Drop for Guests {
+impl<F: Framing> Drop for Guests<F> {
     fn drop(self) {
         let Guests {
             parked: _,
@@ -46,9 +46,9 @@ impl Drop for Guests {
     }
 }
 
-impl Guests {
+impl<F: Framing> Guests<F> {
     /// None yet, for a door with this share.
-    pub(crate) fn new(alloc: Global, share: Share) -> Guests
+    pub(crate) fn new(alloc: Global, share: Share<F>) -> Guests<F>
         ensures { result ≡ record { parked = 0; in_hand = 0 } }
     {
         Guests {

@@ -1,6 +1,7 @@
 //! A listener and the sockets that came there.
 ghost use Rattle.std.specs.Prelude.{◌≡◌, ◌<◌, ◌+◌, true, IfNone, IfOk, IfSome, OnOk, OnErr, OnSome};
 ghost use Rattle.request_framing.specs.Limits.{sockets};
+ghost use Rattle.request_framing.specs.Gives.{IsRequest};
 
 use crate::guests::Guests;
 use crate::reply::{Home, Outgoing};
@@ -48,7 +49,7 @@ struct Task {
 
 /// A listener and the sockets that came there, which stay until they end. What is handed out is a request that is there as a whole, or
 /// what is refused, with its socket.
-pub(crate) struct Lobby<C, F> {
+pub(crate) struct Lobby<C, F: Framing> {
     alloc: Global,
     clock: C,
     began: Option<Instant>,
@@ -57,8 +58,8 @@ pub(crate) struct Lobby<C, F> {
     listener: TcpListener,
     poll: Poll,
     events: Events,
-    place: Place,
-    pub(crate) guests: Guests,
+    place: Place<F>,
+    pub(crate) guests: Guests<F>,
     /// What is to be done, in order, and how much of it before events are asked for again.
     tasks: VecDeque<Task>,
     round: usize,
@@ -70,7 +71,7 @@ pub(crate) struct Lobby<C, F> {
     framing: F,
 }
 
-impl<C: Drop, F: Drop> Drop for Lobby<C, F> {
+impl<C: Drop, F: Framing + Drop> Drop for Lobby<C, F> {
     fn drop(self) {
         let Lobby {
             alloc: _,
@@ -137,7 +138,7 @@ impl<C: Clock + Drop, F: Framing + Drop> Lobby<C, F> {
         alloc: Global,
         clock: C,
         listener: std::net::TcpListener,
-        share: Share,
+        share: Share<F>,
         framing: F,
     ) -> io::Result<Lobby<C, F>>
         ensures { IfOk result (λ lobby. lobby.guests.in_hand ≡ 0) }
@@ -401,8 +402,10 @@ impl<C: Clock + Drop, F: Framing + Drop> Lobby<C, F> {
 
     /// The connection of a guest that is in hand, with its request.
     fn give(&mut self, home: Home, mut guest: Box<Guest>, parcel: Parcel) -> (Parcel, Outgoing)
+        requires { IsRequest F.reaches parcel }
         ensures same { self.new.guests.in_hand ≡ self.old.guests.in_hand }
-        ensures request { result.0 ≡ parcel }
+        ensures given { result.0 ≡ parcel }
+        ensures request { IsRequest F.reaches result.0 }
     {
         guest.change_room(&mut self.reply_room);
         (parcel, Outgoing::new(home, guest, self.guests.may_hold()))
@@ -415,10 +418,12 @@ impl<C: Clock + Drop, F: Framing + Drop> Lobby<C, F> {
         mut guest: Box<Guest>,
         parcel: Parcel,
     ) -> Option<(Parcel, Outgoing)>
-        requires { self.old.guests.in_hand ≡ 1 }
+        requires one { self.old.guests.in_hand ≡ 1 }
+        requires request { IsRequest F.reaches parcel }
         ensures given { OnSome result (self.new.guests.in_hand ≡ 1) }
         ensures none { IfNone result (self.new.guests.in_hand ≡ 0) }
-        ensures request { IfSome result (λ ends. ends.0 ≡ parcel) }
+        ensures same { IfSome result (λ ends. ends.0 ≡ parcel) }
+        ensures request { IfSome result (λ ends. IsRequest F.reaches ends.0) }
     {
         let home = self.place.number();
         let now = self.second();
@@ -436,6 +441,7 @@ impl<C: Clock + Drop, F: Framing + Drop> Lobby<C, F> {
                     home,
                     mut guest,
                     parcel,
+                    of: _,
                 } = passed;
                 guest.turns_time(now);
                 Some(self.give(Home::Door(home), guest, parcel))
@@ -448,11 +454,13 @@ impl<C: Clock + Drop, F: Framing + Drop> Lobby<C, F> {
         requires { self.old.guests.in_hand ≡ 0 }
         ensures given { OnSome result (self.new.guests.in_hand ≡ 1) }
         ensures none { IfNone result (self.new.guests.in_hand ≡ 0) }
+        ensures request { IfSome result (λ ends. IsRequest F.reaches ends.0) }
     {
         let Passed {
             home,
             mut guest,
             parcel,
+            of: _,
         } = self.place.next_asking(self.now)?;
         if !self.makes_room() {
             return None;
@@ -480,10 +488,12 @@ impl<C: Clock + Drop, F: Framing + Drop> Lobby<C, F> {
     }
 
     /// Goes on with a guest that is in hand, and gives its connection where a request is there.
+    #[tactic(auto, using(door_sockets::proofs::Asking::whole_asks, door_sockets::proofs::Asking::refused_asks))]
     fn go_on(&mut self, key: usize, mut guest: Box<Guest>) -> Option<(Parcel, Outgoing)>
         requires { self.old.guests.in_hand ≡ 1 }
         ensures given { OnSome result (self.new.guests.in_hand ≡ 1) }
         ensures none { IfNone result (self.new.guests.in_hand ≡ 0) }
+        ensures request { IfSome result (λ ends. IsRequest F.reaches ends.0) }
     {
         let now = self.second();
         match guest.step(self.alloc, &mut self.room, &mut self.framing, now) {
@@ -516,6 +526,7 @@ impl<C: Clock + Drop, F: Framing + Drop> Lobby<C, F> {
         requires { self.old.guests.in_hand ≡ 0 }
         ensures given { OnSome result (self.new.guests.in_hand ≡ 1) }
         ensures none { IfNone result (self.new.guests.in_hand ≡ 0) }
+        ensures request { IfSome result (λ ends. IsRequest F.reaches ends.0) }
     {
         let Some(mut guest) = self.guests.take(task.key) else {
             return None;
@@ -538,6 +549,7 @@ impl<C: Clock + Drop, F: Framing + Drop> Lobby<C, F> {
         requires { self.old.guests.in_hand ≡ 0 }
         ensures given { OnSome result (self.new.guests.in_hand ≡ 1) }
         ensures none { IfNone result (self.new.guests.in_hand ≡ 0) }
+        ensures request { IfSome result (λ ends. IsRequest F.reaches ends.0) }
     {
         'round: for _ in 0..self.round {
             self.round = self.round.saturating_sub(1);
@@ -556,6 +568,7 @@ impl<C: Clock + Drop, F: Framing + Drop> Lobby<C, F> {
         requires { self.old.guests.in_hand ≡ 0 }
         ensures given { OnOk result (self.new.guests.in_hand ≡ 1) }
         ensures none { OnErr result (self.new.guests.in_hand ≡ 0) }
+        ensures request { IfOk result (λ ends. IsRequest F.reaches ends.0) }
     {
         'waits: for _ in 0..u64::MAX {
             if let Some(ends) = self.next_of_round() {
@@ -583,6 +596,7 @@ impl<C: Clock + Drop, F: Framing + Drop> Lobby<C, F> {
         requires { self.old.guests.in_hand ≡ 0 }
         ensures given { OnOk result (self.new.guests.in_hand ≡ 1) }
         ensures none { OnErr result (self.new.guests.in_hand ≡ 0) }
+        ensures request { IfOk result (λ ends. IsRequest F.reaches ends.0) }
     {
         self.place.note(true);
         let next = self.next_of_all();

@@ -33,7 +33,7 @@ use std::net::TcpListener;
 struct Listening {
     address: String,
     listener: TcpListener,
-    share: Share,
+    share: Share<HttpFraming>,
 }
 
 /// The place of the real program: the system's clock, streams of chance over one seed of the system's, its files, its
@@ -83,7 +83,7 @@ impl SystemPlace {
     }
 
     /// A share of the listener of an address, which is made where no door of that address is out.
-    fn share_at(&mut self, address: &str) -> io::Result<(TcpListener, Share)>
+    fn share_at(&mut self, address: &str) -> io::Result<(TcpListener, Share<HttpFraming>)>
         ensures { self.new ≡ self.old }
     {
         if let Some(listening) = &self.listening {
