@@ -27,14 +27,14 @@ no_counts (line ∷ lines) = no_counts lines
 
 module _ {X Y : Type 0} (Shown : Y → Type 0) (Wanted : X → Type 0) (Unreadable : Type 0) (a b : Tells) where
   pub refused : (e : StoreFault) → SixReads Shown a b (Err e) → Reads Wanted Unreadable a b (Err (fault_of e))
-  refused store_fault.Failed call = record { passes = call.passes; kept = call.kept; ok = λ c. tt; steady = tt; cause = inl call.cause }
-  refused store_fault.OutOfMemory call = record { passes = call.passes; kept = call.kept; ok = λ c. tt; steady = tt; cause = call.cause }
+  refused store_fault.Failed call = record { passes = call.passes; kept = call.kept; outside = call.outside; ok = λ c. tt; steady = tt; cause = inl call.cause }
+  refused store_fault.OutOfMemory call = record { passes = call.passes; kept = call.kept; outside = call.outside; ok = λ c. tt; steady = tt; cause = call.cause }
 
   -- what was shown is taken, or it isn't readable
   pub taken : (y : Y) (r : Result X KeeperFault) → SixReads Shown a b (Ok y) → (Shown y → IfOk r Wanted) → (Shown y → r ≡ Err keeper_fault.Failed → Unreadable) → Reads Wanted Unreadable a b r
-  taken y (Ok x) call told fault = record { passes = call.passes; kept = call.kept; ok = λ c. let them = call.ok c in (them.0, told them.1); steady = call.steady; cause = tt }
-  taken y (Err keeper_fault.Failed) call told fault = record { passes = call.passes; kept = call.kept; ok = λ c. tt; steady = tt; cause = inr (λ c. let them = call.ok c in (them.0, fault them.1 refl)) }
-  taken y (Err keeper_fault.OutOfMemory) call told fault = record { passes = call.passes; kept = call.kept; ok = λ c. tt; steady = tt; cause = call.steady }
+  taken y (Ok x) call told fault = record { passes = call.passes; kept = call.kept; outside = call.outside; ok = λ c. let them = call.ok c in (them.0, told them.1); steady = call.steady; cause = tt }
+  taken y (Err keeper_fault.Failed) call told fault = record { passes = call.passes; kept = call.kept; outside = call.outside; ok = λ c. tt; steady = tt; cause = inr (λ c. let them = call.ok c in (them.0, fault them.1 refl)) }
+  taken y (Err keeper_fault.OutOfMemory) call told fault = record { passes = call.passes; kept = call.kept; outside = call.outside; ok = λ c. tt; steady = tt; cause = call.steady }
 
 -- ---- two calls
 
@@ -48,6 +48,7 @@ module _ (a b c : Tells) (before half after : Stored) where
   both x (Ok y) same first second = record {
     passes = nothing_then a b c Nothing first.passes second.passes;
     kept = λ clean o. second.kept clean o ∙ first.kept (second.passes.clean clean) (second.passes.was_open clean o);
+    outside = λ clean off. second.outside clean (first.outside (second.passes.clean clean) off);
     ok = λ clean.
         let one = first.ok (second.passes.clean clean) in
         let two = second.ok clean in
@@ -59,6 +60,7 @@ module _ (a b c : Tells) (before half after : Stored) where
   both x (Err keeper_fault.Failed) same first second = record {
     passes = nothing_then a b c Nothing first.passes second.passes;
     kept = λ clean o. second.kept clean o ∙ first.kept (second.passes.clean clean) (second.passes.was_open clean o);
+    outside = λ clean off. second.outside clean (first.outside (second.passes.clean clean) off);
     ok = λ clean. tt;
     steady = tt;
     cause = elim second.cause [
@@ -73,6 +75,7 @@ module _ (a b c : Tells) (before half after : Stored) where
   both x (Err keeper_fault.OutOfMemory) same first second = record {
     passes = nothing_then a b c Nothing first.passes second.passes;
     kept = λ clean o. second.kept clean o ∙ first.kept (second.passes.clean clean) (second.passes.was_open clean o);
+    outside = λ clean off. second.outside clean (first.outside (second.passes.clean clean) off);
     ok = λ clean. tt;
     steady = tt;
     cause = second.cause ∙ first.steady;
@@ -84,14 +87,15 @@ pub rows_refused : {X Y : Type 0} (a b : Tells) (before half after : Stored) (e 
 rows_refused a b before half after keeper_fault.Failed first = record {
   passes = first.passes;
   kept = first.kept;
+  outside = first.outside;
   ok = λ c. tt;
   steady = tt;
   cause = elim first.cause [ inl rose ↦ inl rose | inr unreadable ↦ inr (λ clean. let it = unreadable clean in (it.0, inl it.1)) ];
 }
-rows_refused a b before half after keeper_fault.OutOfMemory first = record { passes = first.passes; kept = first.kept; ok = λ c. tt; steady = tt; cause = first.cause }
+rows_refused a b before half after keeper_fault.OutOfMemory first = record { passes = first.passes; kept = first.kept; outside = first.outside; ok = λ c. tt; steady = tt; cause = first.cause }
 
 -- the same refusal of a call that was to give something else, and began with this
 pub as_refused : {X Y : Type 0} (a b : Tells) (before now : Stored) (Wanted : X → Type 0) (Other : Y → Type 0) (e : KeeperFault) → Reads Wanted (CannotFill a.kept before) a b (Err e) → before ≡ now
     → Reads Other (CannotFill a.kept now) a b (Err e)
 as_refused a b before now Wanted Other e call same =
-    subst (λ (held : Stored). Reads Other (CannotFill a.kept held) a b (Err e)) same (record { passes = call.passes; kept = call.kept; ok = λ c. tt; steady = tt; cause = call.cause })
+    subst (λ (held : Stored). Reads Other (CannotFill a.kept held) a b (Err e)) same (record { passes = call.passes; kept = call.kept; outside = call.outside; ok = λ c. tt; steady = tt; cause = call.cause })

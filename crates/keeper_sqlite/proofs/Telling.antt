@@ -24,9 +24,9 @@ module _ {X : Type 0} (Shown Wanted : X → Type 0) (Unreadable : Type 0) (a b :
   failed_to_read because = elim because [ inl rose ↦ inl rose | inr unreadable ↦ inr (λ clean. nothing (unreadable clean).1) ]
 
   pub reads_by : (r : Result X KeeperFault) → FoundReads Shown Unreadable a b r → Reads Wanted a b r
-  reads_by (Ok x) call = record { passes = call.passes; stays = call.kept; ok = λ clean. shows x (call.ok clean).1; failed = λ is. absurd cc }
-  reads_by (Err keeper_fault.Failed) call = record { passes = call.passes; stays = call.kept; ok = λ clean. tt; failed = λ is. failed_to_read call.cause }
-  reads_by (Err keeper_fault.OutOfMemory) call = record { passes = call.passes; stays = call.kept; ok = λ clean. tt; failed = λ is. absurd cc }
+  reads_by (Ok x) call = record { passes = call.passes; stays = call.kept; outside = call.outside; ok = λ clean. shows x (call.ok clean).1; failed = λ is. absurd cc }
+  reads_by (Err keeper_fault.Failed) call = record { passes = call.passes; stays = call.kept; outside = call.outside; ok = λ clean. tt; failed = λ is. failed_to_read call.cause }
+  reads_by (Err keeper_fault.OutOfMemory) call = record { passes = call.passes; stays = call.kept; outside = call.outside; ok = λ clean. tt; failed = λ is. absurd cc }
 
 pub loads_by : (a b : Tells) (r : Result Stored KeeperFault) → FoundReads (AreReadAs a.kept) (AreUnreadable a.kept) a b r → Loads a b r
 loads_by a b r call =
@@ -55,17 +55,19 @@ module _ {X : Type 0} (batch : Batch) (a b : Tells) (settled : b.clean → b.is_
         let done = call.ok clean in
         record { is_open = done.is_open; stands = batches_stand batch a.kept b.kept done.kept; crash = settled clean done.is_open };
     err = λ clean. tt;
+    outside = call.outside;
     failed = λ is. absurd cc;
   }
 
   pub applies_err : (e : StoreFault) → Keeps {X = X} batch a b (Err e) → Applies {X = X} batch a b (Err (fault_of e))
-  applies_err store_fault.Failed call = record { passes = passes_by batch a b call.passes; ok = λ clean. tt; err = call.err; failed = λ is. call.cause }
-  applies_err store_fault.OutOfMemory call = record { passes = passes_by batch a b call.passes; ok = λ clean. tt; err = call.err; failed = λ is. absurd cc }
+  applies_err store_fault.Failed call = record { passes = passes_by batch a b call.passes; ok = λ clean. tt; err = call.err; outside = call.outside; failed = λ is. call.cause }
+  applies_err store_fault.OutOfMemory call = record { passes = passes_by batch a b call.passes; ok = λ clean. tt; err = call.err; outside = call.outside; failed = λ is. absurd cc }
 
 -- ---- a new keeper
 
 pub begins_over : (old new : State) (faults : ℕ) → IsOver old new → BeginsOver old (told faults new)
 begins_over old new faults over = record {
+  outside = over.outside;
   crash = λ clean t left. elim (over.passes.crash clean t left) [
     | inl was ↦ inl was
     | inr none ↦ inr (subst (λ (x : Tables). StandFor x nothing_held) (sym none) new_stand_for_none)

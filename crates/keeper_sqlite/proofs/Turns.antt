@@ -1,5 +1,5 @@
 -- Calls of a store one after the other, in a transaction.
-use Rattle.std.proofs.Common.{inl, inr, ◌≡◌, ◌⊎◌, ◌≤◌, ℕ, List, [], ◌∷◌, Some, None, Ok, Err, Result, refl, sym, ap, subst, ◌∙◌, arith, true, false}
+use Rattle.std.proofs.Common.{inl, inr, ◌≡◌, ◌⊎◌, ◌≤◌, OnErr, ℕ, List, [], ◌∷◌, Some, None, Ok, Err, Result, refl, sym, ap, subst, ◌∙◌, arith, true, false}
 use Rattle.keeper_sqlite.specs.Cells.{HasTypedNumber}
 use Rattle.keeper_sqlite.specs.Batches.{InTurn, PutsRow, SetsRow, MakesWrite, KeepsBatch, IsInside, Wrote, Makes, Undoes, IsKept, Keeps}
 use Rattle.site_keeper.specs.Batch.{Batch}
@@ -150,8 +150,8 @@ module _ {X : Type 0} (Does : X → Tables → Tables → Type 0) (all : List X)
 
 module _ {X : Type 0} (batch : Batch) (a b c d : Tells) where
   -- it was committed, or the commit was refused
-  pub kept_by : {Y Z : Type 0} (y : Y) (z : Z) (r : Result X StoreFault) → Runs Nothing Begins a b (Ok y) → Makes (KeepsBatch batch) b c (Ok z) → Runs (λ t. t ≡ c.seen) Commits c d r → Keeps batch a d r
-  kept_by y z r begin write commit =
+  pub kept_by : {Y Z : Type 0} (y : Y) (z : Z) (r : Result X StoreFault) → Runs Nothing Begins a b (Ok y) → Makes (KeepsBatch batch) b c (Ok z) → Runs (λ t. t ≡ c.seen) Commits c d r → (d.clean → OnErr r (d.inside ≡ false)) → Keeps batch a d r
+  kept_by y z r begin write commit out =
       let inside : b.clean → IsInside b = λ clean. let on = begin.ok clean in (on.is_open, on.inside) in
       let change = λ (clean : c.clean). write.ok.changes clean (inside (write.passes.clean clean)) in
       let seen = λ (clean : c.clean). subst (λ t. KeepsBatch batch t c.seen) (begin.ok (write.passes.clean clean)).seen (change clean).seen in
@@ -159,10 +159,10 @@ module _ {X : Type 0} (batch : Batch) (a b c d : Tells) where
       (passes_then c c d Nothing (λ t. t ≡ c.seen) (KeepsBatch batch a.kept) (λ clean t none. absurd none) (λ clean t is. subst (KeepsBatch batch a.kept) (sym is) (seen (commit.passes.clean clean))) (passes_itself c Nothing) commit.passes) in
       let kept = λ (clean : c.clean). (change clean).kept ∙ (begin.ok (write.passes.clean clean)).kept in
       let steady : c.faults ≡ a.faults = write.ok.steady ∙ begin.steady in
-      at r commit passes seen kept steady
+      at r commit out passes seen kept steady
     where
-      at : (r : Result X StoreFault) → Runs (λ t. t ≡ c.seen) Commits c d r → Passes (KeepsBatch batch a.kept) a d → (c.clean → KeepsBatch batch a.kept c.seen) → (c.clean → c.kept ≡ a.kept) → c.faults ≡ a.faults → Keeps batch a d r
-      at (Ok x) commit passes seen kept steady = record {
+      at : (r : Result X StoreFault) → Runs (λ t. t ≡ c.seen) Commits c d r → (d.clean → OnErr r (d.inside ≡ false)) → Passes (KeepsBatch batch a.kept) a d → (c.clean → KeepsBatch batch a.kept c.seen) → (c.clean → c.kept ≡ a.kept) → c.faults ≡ a.faults → Keeps batch a d r
+      at (Ok x) commit out passes seen kept steady = record {
         passes = passes;
         ok = λ clean. let done = commit.ok clean in record {
           was_open = passes.was_open clean done.is_open;
@@ -171,13 +171,15 @@ module _ {X : Type 0} (batch : Batch) (a b c d : Tells) where
           kept = subst (KeepsBatch batch a.kept) (sym done.kept) (seen (commit.passes.clean clean));
         };
         err = λ clean. tt;
+        outside = λ clean off. (commit.ok clean).inside;
         steady = commit.steady ∙ steady;
         cause = tt;
       }
-      at (Err e) commit passes seen kept steady = record {
+      at (Err e) commit out passes seen kept steady = record {
         passes = passes;
         ok = λ clean. tt;
         err = λ clean o. commit.err clean o ∙ kept (commit.passes.clean clean);
+        outside = λ clean off. out clean;
         steady = tt;
         cause = subst (λ f. CountsFault e f d.faults) steady commit.cause;
       }
@@ -191,6 +193,7 @@ module _ {X : Type 0} (batch : Batch) (a b c d : Tells) where
         let clean_c = undo.passes.clean clean in
         let on = begin.ok (write.passes.clean clean_c) in
         undo.kept clean o ∙ write.err clean_c (on.is_open, on.inside) (undo.passes.was_open clean o) ∙ on.kept;
+    outside = λ clean off. undo.outside clean;
     steady = tt;
     cause = subst (λ f. CountsFault e f d.faults) begin.steady (subst (CountsFault e b.faults) (sym undo.steady) write.cause);
   }
@@ -201,6 +204,7 @@ not_begun batch a b e begin = record {
   passes = passes_then a a b Nothing Nothing _ (λ clean t none. absurd none) (λ clean t none. absurd none) (passes_itself a Nothing) begin.passes;
   ok = λ clean. tt;
   err = λ clean. begin.err clean;
+  outside = λ clean. begin.outside clean;
   steady = tt;
   cause = begin.cause;
 }
@@ -211,6 +215,7 @@ undone_commit a b c e commit undo = record {
   passes = passes_then a b c (λ t. t ≡ a.seen) Nothing (λ t. t ≡ a.seen) (λ clean t is. is) (λ clean t none. absurd none) commit.passes undo.passes;
   ok = λ clean. tt;
   err = λ clean o. undo.kept clean o ∙ commit.err (undo.passes.clean clean) (undo.passes.was_open clean o);
+  outside = λ clean off. undo.outside clean;
   steady = tt;
   cause = subst (CountsFault e a.faults) (sym undo.steady) commit.cause;
 }

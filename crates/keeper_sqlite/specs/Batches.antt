@@ -13,7 +13,7 @@ use Rattle.keeper_sqlite.specs.Cells.{HasTypedNumber}
 use Rattle.keeper_sqlite.specs.Numbers.{head_in, count_in}
 use Rattle.keeper_sqlite.specs.Tags.{tag_of}
 use Rattle.site_keeper.specs.Batch.{Batch}
-use Rattle.store_six.specs.Calls.{Tells, Passes, Nothing, Changes, KeepsKept, CountsFault}
+use Rattle.store_six.specs.Calls.{Tells, Passes, Nothing, Changes, KeepsKept, StaysOutside, CountsFault}
 use Rattle.store_six.specs.Tables.{Tables, IsSet, IsRemoved, OnCells, OnTags}
 use Rattle.store_six.specs.declared.fault.StoreFault.{StoreFault}
 
@@ -73,10 +73,11 @@ pub record Makes {X : Type 0} (Change : Tables → Tables → Type 0) (old new :
   pub err : new.clean → IsInside old → OnErr r (KeepsKept old new)
   pub cause : IfErr r (λ e. CountsFault e old.faults new.faults)
 
--- a transaction is given up
+-- a transaction is given up: none is open any more
 pub record Undoes (old new : Tells) : Type 0 where
   pub passes : Passes Nothing old new
   pub kept : new.clean → KeepsKept old new
+  pub outside : new.clean → new.inside ≡ false
   pub steady : new.faults ≡ old.faults
 
 -- ---- a transaction
@@ -88,10 +89,11 @@ pub record IsKept (batch : Batch) (old new : Tells) : Type 0 where
   pub kept : KeepsBatch batch old.kept new.kept
 
 -- Where it went well the batch is kept, and else the tables are kept that were. A crash leaves what it left before, or the
--- tables that the batch makes.
+-- tables that the batch makes. However it ends, no transaction is left open, so that the next batch can be tried.
 pub record Keeps {X : Type 0} (batch : Batch) (old new : Tells) (r : Result X StoreFault) : Type 0 where
   pub passes : Passes (KeepsBatch batch old.kept) old new
   pub ok : new.clean → OnOk r (IsKept batch old new)
   pub err : new.clean → OnErr r (KeepsKept old new)
+  pub outside : new.clean → StaysOutside old new
   pub steady : OnOk r (new.faults ≡ old.faults)
   pub cause : IfErr r (λ e. CountsFault e old.faults new.faults)

@@ -7,7 +7,7 @@ use Rattle.keeper_sqlite.specs.Numbers.{head_in}
 use Rattle.site_keeper.specs.declared.fault.KeeperFault.{KeeperFault}
 use Rattle.site_keeper.specs.declared.fault.KeeperFault.TheVariants as keeper_fault
 use Rattle.site_keeper.specs.declared.stored.Stored.{Stored}
-use Rattle.store_six.specs.Calls.{Tells, Passes, Nothing, KeepsKept, Rose}
+use Rattle.store_six.specs.Calls.{Tells, Passes, Nothing, KeepsKept, StaysOutside, Rose}
 use Rattle.store_six.specs.Tables.{Entry, Entries, Tables, AreAll, AreBeside}
 
 -- ---- the rows and the head
@@ -89,6 +89,7 @@ Because keeper_fault.OutOfMemory Unreadable old new = new.faults ≡ old.faults
 pub record Reads {X : Type 0} (Wanted : X → Type 0) (Unreadable : Type 0) (old new : Tells) (r : Result X KeeperFault) : Type 0 where
   pub passes : Passes Nothing old new
   pub kept : new.clean → KeepsKept old new
+  pub outside : new.clean → StaysOutside old new
   pub ok : new.clean → IfOk r (λ x. old.is_open × Wanted x)
   pub steady : OnOk r (new.faults ≡ old.faults)
   pub cause : IfErr r (λ e. Because e Unreadable old new)

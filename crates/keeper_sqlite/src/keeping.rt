@@ -1,5 +1,5 @@
 //! Keeps a batch in a store of two tables, in one transaction.
-ghost use Rattle.std.specs.Prelude.{◌≡◌};
+ghost use Rattle.std.specs.Prelude.{◌≡◌, false, OnErr};
 ghost use Rattle.store_six.specs.At.{at};
 ghost use Rattle.store_six.specs.Calls.{Commits, Runs};
 ghost use Rattle.keeper_sqlite.specs.Batches.{InTurn, PutsRow, MakesWrite, SetsCount, SetsHead, SetsRest, KeepsBatch, Makes, Undoes, Keeps};
@@ -31,7 +31,8 @@ pub fn keep<X: Six>(alloc: Global, six: &mut X, batch: &Batch) -> Result<(), Sto
 /// Commits a transaction, or rolls it back where that is refused.
 #[tactic(none)]
 fn commit<X: Six>(six: &mut X) -> Result<(), StoreFault>
-    ensures { Runs (λ t. t ≡ X.Six.seen six.old) Commits (at X.Six six.old) (at X.Six six.new) result }
+    ensures runs { Runs (λ t. t ≡ X.Six.seen six.old) Commits (at X.Six six.old) (at X.Six six.new) result }
+    ensures outside { X.Six.clean six.new → OnErr result (X.Six.inside six.new ≡ false) }
 {
     match six.commit() {
         Ok(()) => Ok(()),

@@ -72,6 +72,10 @@ pub record Commits (old new : Tells) : Type 0 where
 abbrev pub KeepsKept : Tells → Tells → Type 0
 KeepsKept old new = new.is_open → new.kept ≡ old.kept
 
+-- where no transaction was open, none is
+abbrev pub StaysOutside : Tells → Tells → Type 0
+StaysOutside old new = old.inside ≡ false → new.inside ≡ false
+
 -- a count of faults rose by one; one at the greatest u64 stays there
 abbrev pub Rose : ℕ → ℕ → Type 0
 Rose old new = new ≡ min (old + 1) 18446744073709551615
@@ -81,18 +85,22 @@ abbrev pub CountsFault : StoreFault → ℕ → ℕ → Type 0
 CountsFault store_fault.Failed old new = Rose old new
 CountsFault store_fault.OutOfMemory old new = new ≡ old
 
--- a call that writes: what it may commit, and what it does where it isn't refused. One that is refused leaves what is kept.
+-- a call that writes: what it may commit, and what it does where it isn't refused. One that is refused leaves what is kept,
+-- and opens no transaction.
 pub record Runs {X : Type 0} (May : Tables → Type 0) (Does : Tells → Tells → Type 0) (old new : Tells) (r : Result X StoreFault) : Type 0 where
   pub passes : Passes May old new
   pub ok : new.clean → OnOk r (Does old new)
   pub err : new.clean → OnErr r (KeepsKept old new)
+  pub outside : new.clean → OnErr r (StaysOutside old new)
   pub steady : OnOk r (new.faults ≡ old.faults)
   pub cause : IfErr r (λ e. CountsFault e old.faults new.faults)
 
--- a call that reads what is kept: what it shows, where it isn't refused. What is kept stays.
+-- a call that reads what is kept: what it shows, where it isn't refused. What is kept stays, and no
+-- transaction is left open.
 pub record Reads {X : Type 0} (Wanted : X → Type 0) (old new : Tells) (r : Result X StoreFault) : Type 0 where
   pub passes : Passes Nothing old new
   pub kept : new.clean → KeepsKept old new
+  pub outside : new.clean → StaysOutside old new
   pub ok : new.clean → IfOk r (λ x. old.is_open × Wanted x)
   pub steady : OnOk r (new.faults ≡ old.faults)
   pub cause : IfErr r (λ e. CountsFault e old.faults new.faults)

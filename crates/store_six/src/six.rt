@@ -1,5 +1,5 @@
 //! A store of two tables, as a trait.
-ghost use Rattle.std.specs.Prelude.{◌≡◌, ℕ, Bool, map, option_map};
+ghost use Rattle.std.specs.Prelude.{◌≡◌, ℕ, Bool, false, map, option_map};
 
 use crate::fault::StoreFault;
 use crate::line::Line;
@@ -60,6 +60,7 @@ pub trait Six {
     fn rollback(&mut self)
         ensures passes { Passes Nothing (tells clean is_open inside kept seen leaves faults self.old) (tells clean is_open inside kept seen leaves faults self.new) }
         ensures kept { clean self.new → KeepsKept (tells clean is_open inside kept seen leaves faults self.old) (tells clean is_open inside kept seen leaves faults self.new) }
+        ensures outside { clean self.new → inside self.new ≡ false }
         ensures steady { faults self.new ≡ faults self.old };
 
     /// All rows; none in place of one that isn't a text with a text.

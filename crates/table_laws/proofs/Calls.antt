@@ -23,6 +23,7 @@ module _ {X : Type 0} (f f' : ℕ) where
     passes = record { clean = λ c. c; was_open = λ c o. o; crash = λ c t left. inl left; faults = counts };
     ok = λ c. tt;
     err = λ c o. refl;
+    outside = λ c off. off;
     steady = tt;
     cause = cause;
   }
@@ -33,12 +34,13 @@ module _ {X : Type 0} (f f' : ℕ) where
       passes = counted f f' old new Nothing (omega (arith, same)) a.passes;
       ok = λ c. let done = a.ok c in record { was_open = done.was_open; is_open = done.is_open; inside = done.inside; kept = done.kept; seen = done.seen };
       err = λ c. tt;
+      outside = λ c. tt;
       steady = same;
       cause = tt;
     }
 
     pub not_altered : (e : Error) (fault : StoreFault) → f ≤ f' → CountsFault fault f f' → Alters Change old new (Err e) → Runs {X = X} Nothing (Changes Change) (told f old) (told f' new) (Err fault)
-    not_altered e fault counts cause a = record { passes = counted f f' old new Nothing counts a.passes; ok = λ c. tt; err = a.err; steady = tt; cause = cause }
+    not_altered e fault counts cause a = record { passes = counted f f' old new Nothing counts a.passes; ok = λ c. tt; err = a.err; outside = a.outside; steady = tt; cause = cause }
 
   module _ (old new : State) where
     pub started : (n : ℕ) (x : X) → f' ≡ f → Starts old new (Ok n) → Runs Nothing Begins (told f old) (told f' new) (Ok x)
@@ -46,24 +48,26 @@ module _ {X : Type 0} (f f' : ℕ) where
       passes = counted f f' old new Nothing (omega (arith, same)) b.passes;
       ok = λ c. let done = b.ok c in record { was_open = done.was_open; is_open = done.is_open; inside = done.inside; kept = done.kept; seen = done.seen };
       err = λ c. tt;
+      outside = λ c. tt;
       steady = same;
       cause = tt;
     }
 
     pub not_started : (e : Error) (fault : StoreFault) → f ≤ f' → CountsFault fault f f' → Starts old new (Err e) → Runs {X = X} Nothing Begins (told f old) (told f' new) (Err fault)
-    not_started e fault counts cause b = record { passes = counted f f' old new Nothing counts b.passes; ok = λ c. tt; err = b.err; steady = tt; cause = cause }
+    not_started e fault counts cause b = record { passes = counted f f' old new Nothing counts b.passes; ok = λ c. tt; err = b.err; outside = b.outside; steady = tt; cause = cause }
 
     pub committed : (n : ℕ) (x : X) → f' ≡ f → Keeps old new (Ok n) → Runs (λ t. t ≡ tables_of old.now.trees) Commits (told f old) (told f' new) (Ok x)
     committed n x same k = record {
       passes = counted f f' old new _ (omega (arith, same)) k.passes;
       ok = λ c. let done = k.ok c in record { was_open = done.was_open; is_open = done.is_open; inside = done.inside; kept = done.kept };
       err = λ c. tt;
+      outside = λ c. tt;
       steady = same;
       cause = tt;
     }
 
     pub not_committed : (e : Error) (fault : StoreFault) → f ≤ f' → CountsFault fault f f' → Keeps old new (Err e) → Runs {X = X} (λ t. t ≡ tables_of old.now.trees) Commits (told f old) (told f' new) (Err fault)
-    not_committed e fault counts cause k = record { passes = counted f f' old new _ counts k.passes; ok = λ c. tt; err = k.err; steady = tt; cause = cause }
+    not_committed e fault counts cause k = record { passes = counted f f' old new _ counts k.passes; ok = λ c. tt; err = k.err; outside = k.outside; steady = tt; cause = cause }
 
 -- ---- a call that reads
 
@@ -72,6 +76,7 @@ module _ {X : Type 0} (f f' : ℕ) (Wanted : X → Type 0) where
   unread s e counts cause = record {
     passes = record { clean = λ c. c; was_open = λ c o. o; crash = λ c t left. inl left; faults = counts };
     kept = λ c o. refl;
+    outside = λ c off. off;
     ok = λ c. tt;
     steady = tt;
     cause = cause;
@@ -82,13 +87,14 @@ module _ {X : Type 0} (f f' : ℕ) (Wanted : X → Type 0) where
     read rows x same show found = record {
       passes = counted f f' old new Nothing (omega (arith, same)) found.passes;
       kept = found.kept;
+      outside = λ c off. found.outside c;
       ok = λ c. let them = found.ok c in (them.0, show them.1);
       steady = same;
       cause = tt;
     }
 
     pub not_read : (r : Result (Vec Row Global) Error) (fault : StoreFault) → f ≤ f' → CountsFault fault f f' → Finds Are old new r → Reads Wanted (told f old) (told f' new) (Err fault)
-    not_read r fault counts cause found = record { passes = counted f f' old new Nothing counts found.passes; kept = found.kept; ok = λ c. tt; steady = tt; cause = cause }
+    not_read r fault counts cause found = record { passes = counted f f' old new Nothing counts found.passes; kept = found.kept; outside = λ c off. found.outside c; ok = λ c. tt; steady = tt; cause = cause }
 
 -- ---- the mode, by a test
 

@@ -131,6 +131,7 @@ module _ {S : Type 0} (g : Ghosts S) (old mid new : Held S) (has : HasTables (st
     };
     passes = none_passes (state g old) (state g new) _ (then_passes (state g old) (state g mid) (state g new) Nothing
         (test_passes g row_ids (λ db. HasIds (db 0)) row_ids_shown old mid (λ clean o. has.schema) rows) (test_passes g tag_ids (λ db. HasIds (db 2)) tag_ids_shown mid new mid_schema tags));
+    outside = λ clean. off;
     kept = λ clean o. let e = ends clean o in inl (has.schema, ap (λ (d : Database). tables_of d.trees) (e.2 ∙ e.3));
   }
 
@@ -189,5 +190,6 @@ module _ (s0 s1 s2 s3 s4 : State) (schema : s0.now.schema ≡ no_tables) (n0 n1 
         (passes_on s2 s3 survives2 (λ clean o. (tags_made clean).1.was_open) (λ clean db. commits_nothing s2 make_tags [] db (inside2 (clean2 clean))
         (ap (λ s. is_end (command_of (understood s make_tags))) (rows_made (clean2 clean)).0.schema ∙ ap is_end make_tags_is)))))
         (passes_on s3 s4 survives3 (λ clean o. (done clean).was_open) (λ clean db commits. ap tables_of (commit_commits s3 db (inside3 (clean3 clean)) commits) ∙ (tags_made (clean3 clean)).0.empty));
+    outside = λ clean. (done clean).mode;
     kept = λ clean o. inr (schema, ap (λ (d : Database). tables_of d.trees) (done clean).committed_is ∙ (tags_made (clean3 clean)).0.empty);
   }

@@ -112,6 +112,7 @@ module _ {S : Type 0} (g : Ghosts S) (sql : List ℕ) (params : Row) (Wanted : T
         serves = query_serves g sql params old new (Ok rows) q mid serves;
         passes = query_passes g sql params old new (Ok rows) q mid;
         kept = query_keeps g sql params old new (Ok rows) q mid;
+        outside = λ clean. (q.undone clean).autocommit;
         ok = λ clean. (opened clean, subst (λ (d : Database). Wanted d.trees rows.items) ((was clean).settled (opened clean) off) (told_by clean).0);
       }
   finds (Err e) q =
@@ -120,6 +121,7 @@ module _ {S : Type 0} (g : Ghosts S) (sql : List ℕ) (params : Row) (Wanted : T
         serves = query_serves g sql params old new (Err e) q mid serves;
         passes = query_passes g sql params old new (Err e) q mid;
         kept = query_keeps g sql params old new (Err e) q mid;
+        outside = λ clean. (q.undone clean).autocommit;
         ok = λ clean. tt;
       }
 

@@ -1,5 +1,5 @@
 -- How the texts are understood where a database holds the two tables, or none of them, or the first. Each is computed.
-use Rattle.std.proofs.Common.{ℕ, List, [], ◌∷◌, Ok, Some, None, true, false, pos, negsuc, codes, ◌≡◌, refl, sym, ap, ◌∙◌}
+use Rattle.std.proofs.Common.{ℕ, List, [], ◌∷◌, length, ◌≤◌, Result, Ok, Err, arith, Some, None, true, false, pos, negsuc, codes, ◌≡◌, refl, sym, ap, ◌∙◌}
 use Rattle.sqlite.proofs.Callers.{IsPlain, command_of, statement_of}
 use Rattle.sqlite.specs.Command.TheVariants.{CreateTable, InsertOr, Delete, Select, Begin, Commit, Rollback}
 use Rattle.sqlite.specs.Compile.{table_defined_by}
@@ -12,6 +12,8 @@ use Rattle.sqlite.specs.Term.{Term, lit, col}
 use Rattle.sqlite.specs.declared.types.Value.TheVariants.{Null, Int}
 use Rattle.sqlite_schema.specs.declared.command.Conflict.TheVariants.{Abort}
 use Rattle.sqlite_schema.specs.declared.command.Upsert.{Upsert}
+use Rattle.sqlite_resolve.specs.declared.compiled.Compiled.{Compiled}
+use Rattle.sqlite_resolve.specs.declared.error.CompileError.{CompileError}
 use Rattle.sqlite_schema.specs.declared.program.Program.{Program}
 use Rattle.sqlite_sql.specs.Term.{op2}
 use Rattle.sqlite_sql.specs.declared.ops.BinaryOp.TheVariants.{Compare}
@@ -212,3 +214,12 @@ rollback_is schema = refl
 pub rollback_plain : (schema : Schema) → IsPlain (understood schema rollback)
 unfolding understood everything
 rollback_plain schema = (refl, refl)
+
+-- the text is one statement without parameters, and reads no clock
+abbrev pub IsAlone : List ℕ → Result Compiled CompileError → Type 0
+IsAlone sql (Ok c) = (length sql ≤ c.tail) × (c.names ≡ []) × (c.formats ≡ [])
+IsAlone sql (Err e) = ⊥
+
+pub rollback_alone : (schema : Schema) → IsAlone rollback (understood schema rollback)
+unfolding understood everything
+rollback_alone schema = (omega arith, refl, refl)

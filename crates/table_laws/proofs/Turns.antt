@@ -1,17 +1,19 @@
 -- What the statements of a transaction do to what a connection tells.
-use Rattle.std.proofs.Common.{inl, inr, ◌≡◌, ◌⊎◌, ◌≤◌, ℕ, List, [], ◌∷◌, Bool, true, false, cond, Option, Some, None, Ok, Err, Result, IsTrue, refl, sym, ap, subst, ◌∙◌, true≢false, arith}
+use Rattle.std.proofs.Common.{inl, inr, ◌≡◌, ◌⊎◌, ◌≤◌, ℕ, List, length, [], ◌∷◌, Bool, true, false, cond, Option, Some, None, Ok, Err, Result, IsTrue, refl, sym, ap, subst, ◌∙◌, true≢false, arith}
 use Rattle.sqlite.proofs.Callers.{IsPlain, command_of, runs_as}
+use Rattle.sqlite.specs.Clock.{timed}
 use Rattle.sqlite.specs.Command.{Command}
 use Rattle.sqlite.specs.Command.TheVariants.{Begin, Commit, Rollback, Release}
 use Rattle.sqlite.specs.Effect.{Database}
 use Rattle.sqlite.specs.Listing.{understood}
 use Rattle.sqlite.specs.Order.{Row}
-use Rattle.sqlite.specs.State.{State, HasCleanDisk, Executes, ExecutesIn, IsNotRun, IsUnchanged, IsRolledBack, Shows, Survives, CommitsBy, shows_rows}
+use Rattle.sqlite.specs.State.{State, HasCleanDisk, Executes, ExecutesIn, IsNotRun, IsNoStatement, IsMisplaced, RunsAlone, IsUnchanged, IsRolledBack, Shows, Survives, CommitsBy, shows_rows}
 use Rattle.sqlite.specs.Tree.{Trees}
 use Rattle.sqlite.specs.declared.error.Error.{Error}
-use Rattle.store_six.specs.Calls.{Passes, Nothing, Begins, Changes, Commits, KeepsKept}
+use Rattle.sqlite_resolve.specs.declared.compiled.Compiled.{Compiled}
+use Rattle.store_six.specs.Calls.{Passes, Nothing, Begins, Changes, Commits, KeepsKept, StaysOutside}
 use Rattle.store_six.specs.Tables.{Tables}
-use Rattle.table_laws.proofs.Texts.{begin_is, begin_plain, commit_is, commit_plain, rollback_is, rollback_plain}
+use Rattle.table_laws.proofs.Texts.{begin_is, begin_plain, commit_is, commit_plain, rollback_is, rollback_plain, IsAlone, rollback_alone}
 use Rattle.table_laws.proofs.Writes.{Wrote}
 use Rattle.table_laws.specs.Moments.{told, Serves, ServesClean, Starts, Alters, Keeps, Drops}
 use Rattle.table_laws.specs.Schema.{two_tables, begin, commit, rollback}
@@ -37,6 +39,10 @@ is_refused sql params old new e (inr h) = at (shows_rows false h.0) refl
     at false is = elim (rw is at h.2) [ inl misplaced ↦ inl misplaced.1 | inr failed ↦ inr failed.3 ]
 
 module _ (old new : State) where
+  pub refused_outside : IsRefused old new → StaysOutside (told 0 old) (told 0 new)
+  refused_outside (inl h) off = h.0.mode ∙ off
+  refused_outside (inr h) off = h.autocommit
+
   pub refused_open : IsRefused old new → IsTrue new.is_open → IsTrue old.is_open
   refused_open (inl h) open_now = h.0.was_open
   refused_open (inr h) open_now = h.was_open open_now
@@ -151,12 +157,14 @@ module _ (sql : List ℕ) (params : Row) (Change : Tables → Tables → Type 0)
           seen = (wrote clean).change;
         };
         err = λ clean. tt;
+        outside = λ clean. tt;
       }
   alters (Err e) ran = record {
     serves = λ clean. refused_serves old new (is_refused sql params old new e (ran clean)) (served clean);
     passes = passes;
     ok = λ clean. tt;
     err = λ clean. refused_keeps old new (is_refused sql params old new e (ran clean));
+    outside = λ clean. refused_outside old new (is_refused sql params old new e (ran clean));
   }
 
 -- ---- the begin
@@ -182,12 +190,14 @@ module _ (old new : State) (serves : ServesClean old) (survives : Survives old n
           seen = ap (λ (d : Database). tables_of d.trees) (b.now_is ∙ (was clean).settled b.was_open (begun clean).0);
         };
         err = λ clean. tt;
+        outside = λ clean. tt;
       }
   begins (Err e) ran = record {
     serves = λ clean. refused_serves old new (is_refused begin [] old new e (ran clean)) (serves (was_clean old new survives clean));
     passes = passes_on old new survives (λ clean. refused_open old new (is_refused begin [] old new e (ran clean))) (λ clean db. begin_commits_nothing old db);
     ok = λ clean. tt;
     err = λ clean. refused_keeps old new (is_refused begin [] old new e (ran clean));
+    outside = λ clean. refused_outside old new (is_refused begin [] old new e (ran clean));
   }
 
 -- ---- the commit
@@ -210,32 +220,69 @@ module _ (old new : State) (inside : old.in_transaction ≡ true) (serves : Serv
         passes = passes_on old new survives (λ clean o. (done clean).was_open) may;
         ok = λ clean. let d = done clean in record { was_open = d.was_open; is_open = d.is_open; inside = d.mode; kept = ap (λ (b : Database). tables_of b.trees) d.committed_is };
         err = λ clean. tt;
+        outside = λ clean. tt;
       }
   keeps (Err e) ran = record {
     serves = λ clean. refused_serves old new (is_refused commit [] old new e (ran clean)) (serves (was_clean old new survives clean));
     passes = passes_on old new survives (λ clean. refused_open old new (is_refused commit [] old new e (ran clean))) may;
     ok = λ clean. tt;
     err = λ clean. refused_keeps old new (is_refused commit [] old new e (ran clean));
+    outside = λ clean. refused_outside old new (is_refused commit [] old new e (ran clean));
   }
 
 -- ---- the rollback
+
+no_failure : (s : State) (sql : List ℕ) (e : Error) → IsAlone sql (understood s.now.schema sql) → IsNoStatement s sql [] e → ⊥
+no_failure s sql e alone (inl h) = subst (IsAlone sql) h.1 alone
+no_failure s sql e alone (inr h) = let it = subst (IsAlone sql) h.1 alone in elim h.2 [
+  | inl more ↦ more.0 it.0
+  | inr other ↦ elim other [ inl given ↦ given.0 (ap length (sym it.1)) | inr clock ↦ clock.0 it.2 ]
+]
+
+not_misplaced : (s : State) (e : Error) → s.in_transaction ≡ true → IsMisplaced s Rollback e → ⊥
+not_misplaced s e inside (inl h) = elim h.1 [
+  | inl begun ↦ let is = begun.0 in cc
+  | inr none ↦ true≢false (sym inside ∙ none.1)
+]
+not_misplaced s e inside (inr h) = elim h.2 [ inl is ↦ cc | inr is ↦ cc ]
+
+module _ (old new : State) (e : Error) (inside : old.in_transaction ≡ true) where
+  rollback_fails : (c : Compiled) (params : Row) → c.command ≡ Rollback → c.returning ≡ None → RunsAlone false old new rollback c params (Err e) → new.in_transaction ≡ false
+  rollback_fails c params is plain h = elim (rw (is, plain) at h) [
+    | inl refused ↦ absurd (elim refused.0 [ inl misplaced ↦ not_misplaced old e inside misplaced | inr writes ↦ elim writes.0 [ inl none ↦ none | inr none ↦ true≢false (sym none) ] ])
+    | inr failed ↦ failed.3.autocommit
+  ]
+
+  rollback_ends : Executes rollback [] old new (Err e) → new.in_transaction ≡ false
+  unfolding ExecutesIn IsNotRun
+  rollback_ends (inl (inl none)) = absurd (no_failure old rollback e (rollback_alone old.now.schema) none.0)
+  rollback_ends (inl (inr failed)) = failed.3.autocommit
+  rollback_ends (inr h) =
+      rollback_fails h.0 (timed [] h.0.formats h.1.now) (ap command_of (sym h.1.is) ∙ rollback_is old.now.schema) (subst IsPlain h.1.is (rollback_plain old.now.schema)).0 h.2
 
 module _ (old new : State) (inside : old.in_transaction ≡ true) (serves : ServesClean old) (survives : Survives old new (CommitsBy rollback [] old)) where
   undone : (r : Result ℕ Error) → (HasCleanDisk new → Executes rollback [] old new r) → HasCleanDisk new → IsRefused old new
   undone (Ok count) ran clean = inr (runs_as rollback [] old new old.now.schema refl Rollback (rollback_is old.now.schema) (rollback_plain old.now.schema) count (ran clean)).1
   undone (Err e) ran clean = is_refused rollback [] old new e (ran clean)
 
+  -- in a transaction it is refused only where the store fails, which ends the transaction
+  ended : (r : Result ℕ Error) → (HasCleanDisk new → Executes rollback [] old new r) → HasCleanDisk new → new.in_transaction ≡ false
+  ended (Ok count) ran clean = (runs_as rollback [] old new old.now.schema refl Rollback (rollback_is old.now.schema) (rollback_plain old.now.schema) count (ran clean)).1.autocommit
+  ended (Err e) ran clean = rollback_ends old new e inside (ran clean)
+
   pub drops : (r : Result ℕ Error) → (HasCleanDisk new → Executes rollback [] old new r) → Drops old new
   drops r ran = record {
     serves = λ clean. refused_serves old new (undone r ran clean) (serves (was_clean old new survives clean));
     passes = passes_on old new survives (λ clean. refused_open old new (undone r ran clean)) (λ clean db. commits_nothing old rollback [] db inside (ap is_end (rollback_is old.now.schema)));
     kept = λ clean. refused_keeps old new (undone r ran clean);
+    outside = ended r ran;
   }
 
 -- where no transaction is open there is nothing to roll back
-pub drops_none : (s : State) → ServesClean s → Drops s s
-drops_none s serves = record {
+pub drops_none : (s : State) → s.in_transaction ≡ false → ServesClean s → Drops s s
+drops_none s off serves = record {
   serves = serves;
   passes = record { clean = λ c. c; was_open = λ c o. o; crash = λ c t left. inl left; faults = omega arith };
   kept = λ c o. refl;
+  outside = λ c. off;
 }

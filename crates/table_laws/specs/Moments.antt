@@ -8,7 +8,7 @@ use Rattle.sqlite.specs.State.{State, HasCleanDisk, IsLive, Survives, Shown, Fai
 use Rattle.sqlite.specs.Store.{Ghosts}
 use Rattle.sqlite.specs.Tree.{Trees}
 use Rattle.sqlite.specs.declared.error.Error.{Error}
-use Rattle.store_six.specs.Calls.{Tells, Passes, Nothing, Begins, Changes, Commits, KeepsKept}
+use Rattle.store_six.specs.Calls.{Tells, Passes, Nothing, Begins, Changes, Commits, KeepsKept, StaysOutside}
 use Rattle.store_six.specs.Tables.{Tables}
 use Rattle.table_laws.specs.Schema.{no_tables, two_tables}
 use Rattle.table_laws.specs.Stored.{IsStore, tables_of}
@@ -48,6 +48,7 @@ pub record Alters (Change : Tables → Tables → Type 0) (old new : State) (r :
   pub passes : Passes Nothing (told 0 old) (told 0 new)
   pub ok : HasCleanDisk new → OnOk r (Changes Change (told 0 old) (told 0 new))
   pub err : HasCleanDisk new → OnErr r (KeepsKept (told 0 old) (told 0 new))
+  pub outside : HasCleanDisk new → OnErr r (StaysOutside (told 0 old) (told 0 new))
 
 -- the begin
 pub record Starts (old new : State) (r : Result ℕ Error) : Type 0 where
@@ -55,6 +56,7 @@ pub record Starts (old new : State) (r : Result ℕ Error) : Type 0 where
   pub passes : Passes Nothing (told 0 old) (told 0 new)
   pub ok : HasCleanDisk new → OnOk r (Begins (told 0 old) (told 0 new))
   pub err : HasCleanDisk new → OnErr r (KeepsKept (told 0 old) (told 0 new))
+  pub outside : HasCleanDisk new → OnErr r (StaysOutside (told 0 old) (told 0 new))
 
 -- the commit
 pub record Keeps (old new : State) (r : Result ℕ Error) : Type 0 where
@@ -62,18 +64,21 @@ pub record Keeps (old new : State) (r : Result ℕ Error) : Type 0 where
   pub passes : Passes (λ t. t ≡ tables_of old.now.trees) (told 0 old) (told 0 new)
   pub ok : HasCleanDisk new → OnOk r (Commits (told 0 old) (told 0 new))
   pub err : HasCleanDisk new → OnErr r (KeepsKept (told 0 old) (told 0 new))
+  pub outside : HasCleanDisk new → OnErr r (StaysOutside (told 0 old) (told 0 new))
 
 -- the end of a transaction of which nothing is kept
 pub record Drops (old new : State) : Type 0 where
   pub serves : ServesClean new
   pub passes : Passes Nothing (told 0 old) (told 0 new)
   pub kept : HasCleanDisk new → KeepsKept (told 0 old) (told 0 new)
+  pub outside : HasCleanDisk new → new.in_transaction ≡ false
 
 -- a query of what is kept
 pub record Finds (Wanted : List Row → Type 0) (old new : State) (r : Result (Vec Row Global) Error) : Type 0 where
   pub serves : ServesClean new
   pub passes : Passes Nothing (told 0 old) (told 0 new)
   pub kept : HasCleanDisk new → KeepsKept (told 0 old) (told 0 new)
+  pub outside : HasCleanDisk new → new.in_transaction ≡ false
   pub ok : HasCleanDisk new → IfOk r (λ rows. IsTrue old.is_open × Wanted rows.items)
 
 -- a query in a transaction of its own, which is rolled back
@@ -107,4 +112,5 @@ pub record HasTables (s : State) : Type 0 where
 pub record IsOver (old new : State) : Type 0 where
   pub serves : ServesClean new
   pub passes : Passes (λ t. t ≡ no_entries) (told 0 old) (told 0 new)
+  pub outside : HasCleanDisk new → new.in_transaction ≡ false
   pub kept : HasCleanDisk new → IsTrue new.is_open → KeepsOrMakes old new

@@ -8,7 +8,7 @@ use Rattle.store_six.specs.Calls.{Nothing, Begins, Runs}
 pub returns-in-Ok-write_batch : goal.returns-in-Ok-write_batch
 returns-in-Ok-write_batch g c =
     kept_by c.args.batch.now (at g.X.Six c.args.six.now) (at g.X.Six c.begin.new.self) (at g.X.Six c.write_batch.new.six) (at g.X.Six c.commit.new.six) tt tt c.commit.result (subst (Runs Nothing Begins (at g.X.Six c.args.six.now) (at g.X.Six c.begin.new.self)) c.in-Ok.is c.begin.ensures)
-    (subst (Makes (KeepsBatch c.args.batch.now) (at g.X.Six c.begin.new.self) (at g.X.Six c.write_batch.new.six)) c.in-Ok-write_batch.is c.write_batch.ensures) c.commit.ensures
+    (subst (Makes (KeepsBatch c.args.batch.now) (at g.X.Six c.begin.new.self) (at g.X.Six c.write_batch.new.six)) c.in-Ok-write_batch.is c.write_batch.ensures) c.commit.ensures.runs c.commit.ensures.outside
 
 pub returns-in-Err-write_batch : goal.returns-in-Err-write_batch
 returns-in-Err-write_batch g c =

@@ -1,5 +1,5 @@
 use Rattle.sqlite.specs.Held.{state}
-use Rattle.table_laws.proofs.Calls.{is_inside}
+use Rattle.table_laws.proofs.Calls.{is_inside, is_outside}
 use Rattle.table_laws.proofs.Turns.{drops_none}
 use Rattle.tables_sqlite.proofs.calls.rollback.Goals as goal
 
@@ -13,4 +13,4 @@ pub returns-then-not-is_autocommit : goal.returns-then-not-is_autocommit
 returns-then-not-is_autocommit g c = c.rollback.ensures
 
 pub returns-else-not-is_autocommit : goal.returns-else-not-is_autocommit
-returns-else-not-is_autocommit g c = drops_none (state g.S.Store c.args.conn.now) c.requires
+returns-else-not-is_autocommit g c = drops_none (state g.S.Store c.args.conn.now) (is_outside _ _ c.is_autocommit.ensures.value c.if-not-is_autocommit.false) c.requires

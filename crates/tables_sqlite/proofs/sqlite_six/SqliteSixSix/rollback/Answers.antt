@@ -19,3 +19,6 @@ returns-clause-kept g c = rw (← c.self.view_is) c.rollback.ensures.kept
 
 pub returns-clause-steady : goal.returns-clause-steady
 returns-clause-steady g c = rw (← c.self.view_is) refl
+
+pub returns-clause-outside : goal.returns-clause-outside
+returns-clause-outside g c = c.rollback.ensures.outside
