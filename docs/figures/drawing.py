@@ -11,7 +11,7 @@ COLOURS = {
 
 
 class Canvas:
-    """Shapes in pixels from the top left; `save` writes them."""
+    """Shapes in pixels from the top left; `save` writes them beside the scripts, or into the folder that FIGURES_TO names."""
 
     def __init__(self, width, height, title):
         self.width, self.height, self.title, self.parts = width, height, title, []
@@ -62,5 +62,5 @@ class Canvas:
             f'<path d="M0 0 L10 5 L0 10 z" fill="{SOFT}"/></marker></defs>'
             f'<rect width="{self.width}" height="{self.height}" fill="{PAPER}"/>'
         )
-        with open(f"{HERE}/{name}.svg", "w", encoding="utf-8") as file:
+        with open(f"{os.environ.get('FIGURES_TO', HERE)}/{name}.svg", "w", encoding="utf-8") as file:
             file.write(head + "\n" + "\n".join(self.parts) + "\n</svg>\n")
