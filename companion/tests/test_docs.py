@@ -44,7 +44,8 @@ class Documents(support.Case):
         helps: dict[str, str] = {}
         for page in DOCS.glob("*.md"):
             for line in re.findall(r"^ {4}(?:[\d* ]{5,} )?sitekit ([^\n]*)", page.read_text(encoding="utf-8"), re.M):
-                words = [word for word in re.split(r"\s+", line) if re.fullmatch(r"--[a-z-]+", word)]
+                # what stands in $(..) is another command's
+                words = [word for word in re.split(r"\s+", re.sub(r"\$\([^()]*\)", "", line)) if re.fullmatch(r"--[a-z-]+", word)]
                 command = re.match(r"(edit( [a-z-]+){1,2}|[a-z-]+)", line)
                 if not command or line.startswith("="):
                     continue
