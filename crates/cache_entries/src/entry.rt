@@ -11,6 +11,7 @@ use cacheability::Cacheability;
 use content_rows::Items;
 use content_state::{Hole, Library, State};
 use html_out::Segments;
+use site_access::Shared;
 
 /// A part of a page, or a page, as it is kept.
 /// <https://www.drupal.org/docs/drupal-apis/cache-api/cache-api>
@@ -21,8 +22,8 @@ pub struct Entry {
     pub libraries: Items<Library>,
     /// The tags, the contexts and the age of all that is in it.
     pub cacheability: Cacheability,
-    /// The values of its contexts, in their order.
-    pub values: Items<ContextValue>,
+    /// The values of its contexts, in their order, shared with the keys that it is kept by where those have the same.
+    pub values: Shared<Items<ContextValue>>,
     /// How often its tags had been invalidated on the state that it was made on, all in all.
     pub sum: u128,
     /// The number of that state.
@@ -86,7 +87,7 @@ fn is_shown_by(entry: &Entry, values: &[ContextValue], moment: u64) -> bool
 {
     entry.made_moment <= moment
         && moment <= entry.last
-        && same_values(entry.values.as_slice(), values)
+        && same_values(entry.values.get().as_slice(), values)
 }
 
 /// Whether the counts of an entry's tags come to its sum.

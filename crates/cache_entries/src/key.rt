@@ -6,6 +6,7 @@ ghost use Rattle.cache_entries.specs.Keys.{placing_number, mode_number, same_fra
 use cache_contexts::ContextValue;
 use content_rows::{Items, Text};
 use content_state::{Depth, Fragment, Mode, Placing};
+use site_access::Shared;
 use std::hash::{Hash, Hasher};
 
 /// What is kept.
@@ -32,7 +33,7 @@ impl Drop for Subject {
 /// <https://www.drupal.org/docs/drupal-apis/render-api/cacheability-of-render-arrays>
 pub struct Key {
     pub subject: Subject,
-    pub values: Items<ContextValue>,
+    pub values: Shared<Items<ContextValue>>,
 }
 
 impl Drop for Key {
@@ -63,7 +64,7 @@ impl PartialEq for Key {
 
     fn eq(&self, other: &Self) -> bool {
         same_subject(&self.subject, &other.subject)
-            && self.values.as_slice() == other.values.as_slice()
+            && self.values.get().as_slice() == other.values.get().as_slice()
     }
 }
 
@@ -112,7 +113,7 @@ impl Hash for Key {
                 target.as_slice().hash(state);
             }
         }
-        self.values.as_slice().hash(state);
+        self.values.get().as_slice().hash(state);
     }
 }
 

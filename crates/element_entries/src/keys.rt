@@ -1,7 +1,7 @@
 //! Under which keys elements are kept.
 ghost use Rattle.std.specs.Prelude.{◌≡◌, IfOk, map};
 ghost use Rattle.cache_contexts.specs.Values.{valued};
-ghost use Rattle.element_entries.specs.Keys.{visit, first_by, key_by};
+ghost use Rattle.element_entries.specs.Keys.{visit, required, first_by, key_by};
 
 use crate::finding::same_contexts;
 use crate::first::{Declared, first_contexts};
@@ -10,6 +10,7 @@ use cache_contexts::{ContextValue, values};
 use cache_entries::{Entry, Key, Subject};
 use cacheability::Context;
 use content_rows::{Duplicate, Items};
+use site_access::Shared;
 use std::alloc::{AllocError, Global};
 
 /// What is kept, once more. `Err` only where memory is wanting.
@@ -35,6 +36,62 @@ pub fn values_for(
     values(alloc, reader.state, reader.account, reader.ask, contexts)
 }
 
+/// The values that contexts have for a reader, in their order, to be held by several. `Err` only where memory is wanting.
+pub fn shared_values(
+    alloc: Global,
+    reader: &Reader<'_>,
+    contexts: &[Context],
+) -> Result<Shared<Items<ContextValue>>, AllocError>
+    ensures { IfOk result (λ found. found ≡ map (valued (visit reader.now)) contexts.now) }
+{
+    Shared::new(alloc, values_for(alloc, reader, contexts)?)
+}
+
+/// The values of the required contexts for a reader: those that it bears, or found anew.
+fn required_values(
+    alloc: Global,
+    reader: &Reader<'_>,
+) -> Result<Shared<Items<ContextValue>>, AllocError>
+    ensures { IfOk result (λ found. found ≡ map (valued (visit reader.now)) required) }
+{
+    match &reader.required_values {
+        Some(values) => values.share(),
+        None => shared_values(alloc, reader, first_contexts(Declared::Nothing).as_slice()),
+    }
+}
+
+/// The values of the required contexts and of what is declared, for a reader.
+fn first_values(
+    alloc: Global,
+    reader: &Reader<'_>,
+    declared: Declared,
+) -> Result<Shared<Items<ContextValue>>, AllocError>
+    ensures { IfOk result (λ found. found ≡ map (valued (visit reader.now)) (first_by declared)) }
+{
+    match declared {
+        Declared::Nothing => required_values(alloc, reader),
+        Declared::User | Declared::Session => {
+            shared_values(alloc, reader, first_contexts(declared).as_slice())
+        }
+    }
+}
+
+/// The values that the contexts of an entry have for a reader, in their order: those that it bears, where the entry varies by the
+/// required ones alone.
+pub(crate) fn own_values(
+    alloc: Global,
+    reader: &Reader<'_>,
+    contexts: &[Context],
+) -> Result<Shared<Items<ContextValue>>, AllocError>
+    ensures { IfOk result (λ found. found ≡ map (valued (visit reader.now)) contexts.now) }
+{
+    if same_contexts(contexts, first_contexts(Declared::Nothing).as_slice()) {
+        required_values(alloc, reader)
+    } else {
+        shared_values(alloc, reader, contexts)
+    }
+}
+
 /// The first key of what is kept, with the values of the required contexts and of what it declares, for a reader. `Err` only where
 /// memory is wanting.
 pub fn first_key(
@@ -47,7 +104,7 @@ pub fn first_key(
 {
     Ok(Key {
         subject,
-        values: values_for(alloc, reader, first_contexts(declared).as_slice())?,
+        values: first_values(alloc, reader, declared)?,
     })
 }
 
@@ -62,12 +119,12 @@ pub fn key_of(
 {
     Ok(Key {
         subject: duplicate_subject(alloc, subject)?,
-        values: values_for(alloc, reader, contexts)?,
+        values: shared_values(alloc, reader, contexts)?,
     })
 }
 
 /// The key of what is kept, with the values that these contexts have for a reader, as `key_of` gives it, beside an entry that has the
-/// values of its contexts for the reader: where they are the same, its values are copied and not found again. `Err` only where
+/// values of its contexts for the reader: where they are the same, its values are shared and not found again. `Err` only where
 /// memory is wanting.
 pub fn key_beside(
     alloc: Global,
@@ -91,13 +148,13 @@ fn values_beside(
     reader: &Reader<'_>,
     contexts: &[Context],
     entry: &Entry,
-) -> Result<Items<ContextValue>, AllocError>
+) -> Result<Shared<Items<ContextValue>>, AllocError>
     requires { entry.now.values ≡ map (valued (visit reader.now)) entry.now.cacheability.contexts }
     ensures { IfOk result (λ found. found ≡ map (valued (visit reader.now)) contexts.now) }
 {
     if same_contexts(entry.cacheability.contexts(), contexts) {
-        entry.values.duplicate(alloc)
+        entry.values.share()
     } else {
-        values_for(alloc, reader, contexts)
+        shared_values(alloc, reader, contexts)
     }
 }

@@ -14,7 +14,7 @@ mod reader;
 pub use finding::{if_fresh, is_fresh};
 pub use first::{Declared, FirstContexts, declared_by, first_contexts};
 pub use keeping::{may_keep, redirect_to};
-pub use keys::{duplicate_subject, first_key, key_beside, key_of, values_for};
+pub use keys::{duplicate_subject, first_key, key_beside, key_of, shared_values, values_for};
 pub use laws::entries_are_made_on_states;
 pub use making::{Joined, entry_of};
 pub use reader::Reader;

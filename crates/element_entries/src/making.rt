@@ -5,7 +5,7 @@ ghost use Rattle.cacheability.specs.declared.tag.Tag.TheVariants as tag;
 ghost use Rattle.element_entries.specs.Keys.{visit, required};
 ghost use Rattle.element_entries.specs.Making.{Bubbles, IsEntryOf};
 
-use crate::keys::values_for;
+use crate::keys::own_values;
 use crate::leaving::leave_out;
 use crate::reader::Reader;
 use cache_entries::Entry;
@@ -66,7 +66,7 @@ pub fn entry_of(alloc: Global, reader: &Reader<'_>, joined: Joined) -> Result<En
         status,
     } = joined;
     let cacheability = bubbled(alloc, reader, cacheability)?;
-    let values = values_for(alloc, reader, cacheability.contexts())?;
+    let values = own_values(alloc, reader, cacheability.contexts())?;
     let sum = reader.state.counts().sum(cacheability.tags());
     Ok(Entry {
         segments,

@@ -1,9 +1,14 @@
 //! For whom something is shown.
-ghost use Rattle.std.specs.Prelude.{◌≡◌};
+ghost use Rattle.std.specs.Prelude.{◌≡◌, IfOk};
 ghost use Rattle.site_access.specs.Account.{IsAccountOf};
 
+use crate::first::{Declared, first_contexts};
+use crate::keys::shared_values;
+use cache_contexts::ContextValue;
+use content_rows::Items;
 use content_state::{Ask, State, Viewer};
-use site_access::Account;
+use site_access::{Account, Shared};
+use std::alloc::{AllocError, Global};
 use std::marker::Model;
 
 /// For whom something is shown: on which state, to whom, who asks for what, and when, in seconds since 1970. It has the viewer's
@@ -14,17 +19,22 @@ pub struct Reader<'a> {
     pub(crate) account: &'a Account,
     pub(crate) ask: &'a Ask,
     pub(crate) moment: u64,
+    /// The values of the required contexts, where they were found: each key of what declares nothing shares them.
+    pub(crate) required_values: Option<Shared<Items<ContextValue>>>,
 }
 
 impl<'a> Model for Reader<'a> {
+    ghost use Rattle.std.specs.Prelude.{◌≡◌, IfSome, map};
     ghost use Rattle.site_access.specs.Account.{IsAccountOf};
+    ghost use Rattle.cache_contexts.specs.Values.{visit_on, valued};
+    ghost use Rattle.element_entries.specs.Keys.{required};
     ghost use Rattle.element_entries.specs.Readers.{Reader as ReaderValue};
 
     ghost Value = { ReaderValue };
 
     ghost view = { λ r. record { state = r.state.now; viewer = r.account.now.viewer; ask = r.ask.now; moment = r.moment } };
 
-    ghost invariant = { λ r. IsAccountOf r.state.now.rows r.account.now.viewer r.account.now };
+    ghost invariant = { λ r. IsAccountOf r.state.now.rows r.account.now.viewer r.account.now × IfSome r.required_values (λ values. values ≡ map (valued (visit_on r.state.now r.account.now.viewer r.ask.now r.moment)) required) };
 }
 
 impl<'a> Reader<'a> {
@@ -38,7 +48,32 @@ impl<'a> Reader<'a> {
             account,
             ask,
             moment,
+            required_values: None,
         }
+    }
+
+    /// The same reader as `new` gives, for a whole page: it bears the values of the required contexts, which are found once, and each
+    /// key of what declares nothing shares them. `Err` only where memory is wanting.
+    pub fn with_values(
+        alloc: Global,
+        state: &'a State,
+        account: &'a Account,
+        ask: &'a Ask,
+        moment: u64,
+    ) -> Result<Reader<'a>, AllocError>
+        requires { IsAccountOf state.now.rows account.now.viewer account.now }
+        ensures { IfOk result (λ reader. reader ≡ record { state = state.now; viewer = account.now.viewer; ask = ask.now; moment = moment }) }
+    {
+        let reader = Reader::new(state, account, ask, moment);
+        let first = first_contexts(Declared::Nothing);
+        let values = shared_values(alloc, &reader, first.as_slice())?;
+        Ok(Reader {
+            state,
+            account,
+            ask,
+            moment,
+            required_values: Some(values),
+        })
     }
 
     /// The state that it reads.

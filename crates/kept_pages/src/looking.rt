@@ -10,7 +10,7 @@ ghost use Rattle.kept_pages.specs.Held.{Shelves, IsTold, has_second, looked_by, 
 
 use cache_entries::{Bin, Entry, Found, Key};
 use cacheability::{Context, OrderedSet};
-use element_entries::{Declared, Reader, first_contexts, if_fresh, values_for};
+use element_entries::{Declared, Reader, first_contexts, if_fresh, shared_values};
 use site_house::House;
 use std::alloc::{AllocError, Global};
 use std::sync::Arc;
@@ -39,7 +39,7 @@ fn look_once<H: House>(
 {
     match house.look(alloc, bin, key)? {
         Found::Entry(entry) => Ok(Seen {
-            entry: if_fresh(alloc, reader, entry, contexts, key.values.as_slice())?,
+            entry: if_fresh(alloc, reader, entry, contexts, key.values.get().as_slice())?,
             told: None,
         }),
         Found::Redirect(contexts) => Ok(Seen {
@@ -110,6 +110,6 @@ fn turn_to(
 ) -> Result<(), AllocError>
     ensures { OnOk result (key.new ≡ key_by (visit reader.now) key.old.subject contexts.now) }
 {
-    key.values = values_for(alloc, reader, contexts)?;
+    key.values = shared_values(alloc, reader, contexts)?;
     Ok(())
 }

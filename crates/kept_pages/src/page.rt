@@ -76,7 +76,7 @@ pub fn render_page<H: House>(
     ensures lasts { IfOk result (λ p. Lasts state.now ask.now now p.last p.status p.parts) }
 {
     let account = Account::new(alloc, state, viewer)?;
-    let reader = Reader::new(state, &account, ask, now);
+    let reader = Reader::with_values(alloc, state, &account, ask, now)?;
     request_page(alloc, house, &reader)
 }
 

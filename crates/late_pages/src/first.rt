@@ -71,7 +71,7 @@ pub fn late_first<H: House>(
         return Ok(at_once(alloc, page));
     }
     let account = Account::new(alloc, state, viewer)?;
-    let reader = Reader::new(state, &account, ask, now);
+    let reader = Reader::with_values(alloc, state, &account, ask, now)?;
     first_of_page(alloc, house, &reader)
 }
 

@@ -7,6 +7,7 @@ use cache_entries::{Key, Subject};
 use cacheability::Name;
 use content_rows::Items;
 use content_state::{Fragment, Rows};
+use site_access::Shared;
 use site_files::{STARTER, read_rows};
 use site_hall::Engine;
 use site_io::MemorySource;
@@ -80,6 +81,6 @@ pub fn key(alloc: Global, block: &[u8]) -> Result<Key, AllocError> {
     };
     Ok(Key {
         subject: Subject::Fragment(Fragment::Block(name)),
-        values: Items::none(alloc),
+        values: Shared::new(alloc, Items::none(alloc))?,
     })
 }

@@ -9,7 +9,7 @@ use case_files::word_list;
 use content_rows::Items;
 use content_state::{Ask, State};
 use render_array::Element;
-use site_access::{Account, viewer_of};
+use site_access::{Account, Shared, viewer_of};
 use std::alloc::{AllocError, Global};
 
 /// The contexts of each first key.
@@ -47,10 +47,11 @@ fn values_of(
     ask: &Ask,
     now: u64,
     contexts: &[Context],
-) -> Result<Items<ContextValue>, AllocError> {
+) -> Result<Shared<Items<ContextValue>>, AllocError> {
     let viewer = viewer_of(state, ask, now);
     let account = Account::new(alloc, state, &viewer)?;
-    values(alloc, state, &account, ask, contexts)
+    let values = values(alloc, state, &account, ask, contexts)?;
+    Shared::new(alloc, values)
 }
 
 /// The key of an element, with the values that the named contexts have for whom asks.

@@ -8,7 +8,7 @@ use content_rows::Items;
 use content_state::{Fragment, State};
 use fragment_cache::Bins;
 use html_out::Segments;
-use site_access::Account;
+use site_access::{Account, Shared};
 use std::alloc::{AllocError, Global};
 use std::num::NonZeroUsize;
 use std::sync::Arc;
@@ -51,7 +51,7 @@ fn entry_on(alloc: Global, state: &State) -> Result<Entry, AllocError> {
     Ok(Entry {
         segments: Segments::new(alloc),
         libraries: Items::none(alloc),
-        values,
+        values: Shared::new(alloc, values)?,
         sum: state.counts().sum(said.tags()),
         cacheability: said,
         made_at: state.number(),
@@ -107,7 +107,7 @@ fn freshness(rt: HostRuntime) {
 fn key(alloc: Global, block: &[u8]) -> Result<Key, AllocError> {
     Ok(Key {
         subject: Subject::Fragment(Fragment::Block(name(block)?)),
-        values: Items::none(alloc),
+        values: Shared::new(alloc, Items::none(alloc))?,
     })
 }
 

@@ -11,10 +11,10 @@ returns-then-is_json-clause-first g c =
     c.at_once.ensures.status c.at_once.ensures.parts c.at_once.ensures.holes (inl (ap is_told (sym c.as_slice.ensures) ∙ sym c.is_json.ensures ∙ c.if-is_json.true)) c.in_ok-page.ensures.page
 
 pub returns-clause-first : goal.returns-clause-first
-returns-clause-first g c = rw c.new-reader.ensures at c.first_of_page.ensures.first
+returns-clause-first g c = rw c.in_ok-reader.ensures at c.first_of_page.ensures.first
 
 pub returns-clause-at_most : goal.returns-clause-at_most
 returns-clause-at_most g c =
     IfOk-weaker c.first_of_page.result _ _
-    (λ l told. first_at_most _ _ _ _ c.args.state.now.rows c.args.viewer.now c.args.ask.now c.args.now l.built c.requires.viewer (rw (c.new-reader.ensures, c.in_ok-account.ensures.viewer_is) at told))
+    (λ l told. first_at_most _ _ _ _ c.args.state.now.rows c.args.viewer.now c.args.ask.now c.args.now l.built c.requires.viewer (rw (c.in_ok-reader.ensures, c.in_ok-account.ensures.viewer_is) at told))
     c.first_of_page.ensures.told
