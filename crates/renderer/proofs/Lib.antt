@@ -4,3 +4,4 @@ pub mod Standing
 pub mod Texts
 pub mod OfPage
 mod Pieces
+mod Noting

@@ -3,8 +3,10 @@ ghost use Rattle.std.specs.Prelude.{◌≡◌, ◌++◌, IfOk, OnOk, length};
 ghost use Rattle.std.specs.List.{list_any};
 ghost use Rattle.html_out.specs.Segment.{part_of, parts_of};
 ghost use Rattle.render_canvas.specs.Board.{pieces_of};
-ghost use Rattle.render_array.specs.Shown.{library_name, place_of, same_library, meta_line, meta_if, meta_text, OnlyMeta, IsFilled};
+ghost use Rattle.render_array.specs.Shown.{library_name, place_of, same_library, meta_line, meta_text, OnlyMeta, IsFilled};
+ghost use Rattle.content_state.specs.declared.element.Library.{Library as LibraryView};
 ghost use Rattle.renderer.specs.Filled.{text_in, text_of};
+ghost use Rattle.renderer.specs.Noted.{is_noted, none_noted, noted_line, with_noted};
 
 use content_state::{Hole, Library};
 use html_out::Segment;
@@ -86,24 +88,91 @@ pub fn meta_text(alloc: Global, attached: &[Library]) -> Result<Vec<u8>, AllocEr
     ensures { IfOk result (λ text. text.items ≡ meta_text attached.now) }
 {
     let mut text = Vec::with_capacity(alloc, attached.len().saturating_mul(LINE_ROOM))?;
-    add_meta(&mut text, attached, Library::Clock)?;
-    add_meta(&mut text, attached, Library::Comment)?;
-    add_meta(&mut text, attached, Library::Login)?;
-    add_meta(&mut text, attached, Library::Menu)?;
-    add_meta(&mut text, attached, Library::Node)?;
-    add_meta(&mut text, attached, Library::Pager)?;
+    let noted = noted_of(attached);
+    add_meta(&mut text, &noted, Library::Clock)?;
+    add_meta(&mut text, &noted, Library::Comment)?;
+    add_meta(&mut text, &noted, Library::Login)?;
+    add_meta(&mut text, &noted, Library::Menu)?;
+    add_meta(&mut text, &noted, Library::Node)?;
+    add_meta(&mut text, &noted, Library::Pager)?;
     Ok(text)
 }
 
 /// Adds the line of a library, where it was attached.
-fn add_meta(text: &mut Vec<u8>, attached: &[Library], library: Library) -> Result<(), AllocError>
-    ensures { OnOk result (text.new.items ≡ text.old.items ++ meta_if attached.now library) }
+fn add_meta(text: &mut Vec<u8>, noted: &Noted, library: Library) -> Result<(), AllocError>
+    ensures { OnOk result (text.new.items ≡ text.old.items ++ noted_line noted.now library) }
 {
-    if is_attached(attached, library) {
+    if noted.has(library) {
         add_line(text, library)
     } else {
         Ok(())
     }
+}
+
+/// Which libraries were attached.
+#[derive(Clone, Copy)]
+pub struct Noted {
+    pub clock: bool,
+    pub comment: bool,
+    pub login: bool,
+    pub menu: bool,
+    pub node: bool,
+    pub pager: bool,
+}
+
+impl Noted {
+    /// None yet.
+    fn new() -> Noted
+        ensures { result ≡ none_noted }
+    {
+        Noted {
+            clock: false,
+            comment: false,
+            login: false,
+            menu: false,
+            node: false,
+            pager: false,
+        }
+    }
+
+    /// Whether a library was.
+    fn has(&self, library: Library) -> bool
+        ensures { result ≡ is_noted self.now library }
+    {
+        match library {
+            Library::Clock => self.clock,
+            Library::Comment => self.comment,
+            Library::Login => self.login,
+            Library::Menu => self.menu,
+            Library::Node => self.node,
+            Library::Pager => self.pager,
+        }
+    }
+
+    /// Notes a library.
+    fn note(&mut self, library: Library)
+        ensures { self.new ≡ with_noted self.old library }
+    {
+        match library {
+            Library::Clock => self.clock = true,
+            Library::Comment => self.comment = true,
+            Library::Login => self.login = true,
+            Library::Menu => self.menu = true,
+            Library::Node => self.node = true,
+            Library::Pager => self.pager = true,
+        }
+    }
+}
+
+/// Which libraries were attached: the list is walked once.
+fn noted_of(attached: &[Library]) -> Noted
+    ensures { (library : LibraryView) → is_noted result library ≡ list_any (same_library library) attached.now }
+{
+    let mut noted = Noted::new();
+    for library in attached {
+        noted.note(*library);
+    }
+    noted
 }
 
 /// Whether a library was attached.
