@@ -7,3 +7,7 @@ returns-clause-at_most g c =
     IfOk-weaker c.request_page.result _ _
     (λ p told. page_at_most _ _ _ c.args.state.now.rows c.args.viewer.now c.args.ask.now c.args.now p.built c.requires.viewer (rw (c.in_ok-reader.ensures, c.in_ok-account.ensures.viewer_is) at told))
     c.request_page.ensures.told
+
+pub returns-clause-lasts : goal.returns-clause-lasts
+returns-clause-lasts g c =
+    IfOk-weaker c.request_page.result _ _ (λ p lasts. rw c.in_ok-reader.ensures at lasts) c.request_page.ensures.lasts
