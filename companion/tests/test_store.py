@@ -4,7 +4,6 @@ from __future__ import annotations
 
 import json
 import os
-import re
 import signal
 import subprocess
 import sys
@@ -108,13 +107,17 @@ class Store(support.Case):
             self.assertIn("Kept", server.get("/")[1])
 
     def test_one_file_of_two(self) -> None:
-        """The command of docs/limits.md puts all of a store into one file, which the program takes."""
-        before = self.run_site("export", "--store", self.store)
-        command = re.search(r"^ {4}python3 -c '(import sqlite3.*)'$", LIMITS.read_text(encoding="utf-8"), re.M)
-        assert command is not None
-        subprocess.run([sys.executable, "-c", command[1]], cwd=self.room, check=True)
-        self.assertFalse(Path(self.store + "-wal").exists())
-        self.assertEqual(self.run_site("export", "--store", self.store), before)
+        """The command of docs/limits.md puts all of a store that was killed into one file."""
+        with self.served(self.store):
+            self.log_in()
+            self.run_kit("edit", "node", "set", "1", "--title", "Kept")
+        log, command = Path(self.store + "-wal"), "site check --store site.db"
+        self.assertGreaterEqual(log.stat().st_size, SHORTEST_LOG)
+        self.assertIn(f"\n    {command}\n", LIMITS.read_text(encoding="utf-8"))
+        self.run_site(*command.replace("site.db", self.store).split()[1:])
+        self.assertLess(log.stat().st_size if log.exists() else 0, SHORTEST_LOG)
+        Path(self.path("alone.db")).write_bytes(Path(self.store).read_bytes())
+        self.assertIn('"title":"Kept"', self.run_site("export", "--store", self.path("alone.db")))
 
     def test_a_damaged_backup_is_refused(self) -> None:
         self.run_kit("backup", "--store", self.store, self.path("copy"))
