@@ -119,6 +119,15 @@ class Store(support.Case):
         Path(self.path("alone.db")).write_bytes(Path(self.store).read_bytes())
         self.assertIn('"title":"Kept"', self.run_site("export", "--store", self.path("alone.db")))
 
+    def test_a_server_goes_on_where_its_backup_is_ended(self) -> None:
+        """deploy/backup is ended by a signal while the server stands still."""
+        os.chmod(self.write("tools/cp", "#!/bin/sh\nkill -TERM $PPID\n"), 0o755)
+        environment = {**self.environment, "SITE": support.site(), "PATH": f"{self.path('tools')}:{self.environment['PATH']}"}
+        with self.served(self.store) as server:
+            words = [str(support.DEPLOY / "backup"), self.store, self.path("backups"), str(server.pid)]
+            self.assertEqual(subprocess.run(words, env=environment, timeout=support.SECONDS).returncode, 1)
+            self.assertEqual(server.get("/")[0], 200)
+
     def test_a_damaged_backup_is_refused(self) -> None:
         self.run_kit("backup", "--store", self.store, self.path("copy"))
         facts = json.loads((self.room / "copy" / "backup.json").read_text(encoding="utf-8"))
