@@ -18,7 +18,7 @@ use std::time::Clock;
 /// A door that listens on an address of TCP and holds the sockets that come there. What it gives is one request that is there as a
 /// whole, or what is refused, and its socket; so whoever serves it never waits for a peer. It fails where the system doesn't let it
 /// wait for events or take what came. While a connection is out exactly one socket is in hand, and else none: each that was given back
-/// is parked again, or closed.
+/// is parked again, closed, or has left for its home door.
 pub struct LobbyDoor<C, F: Framing> {
     lobby: Lobby<C, F>,
     is_out: bool,

@@ -10,7 +10,7 @@ use std::alloc::Global;
 use std::marker::Model;
 
 /// The sockets that a door has charge of: those that are parked, each under a key, and those in hand. There are no others: a socket
-/// in hand is parked, or closed. Contracts see how many there are of both.
+/// in hand is parked, closed, or leaves for another door. Contracts see how many there are of both.
 pub(crate) struct Guests<F: Framing> {
     parked: Slab<Box<Guest>>,
     in_hand: usize,

@@ -47,7 +47,7 @@ struct Task {
     event: Option<bool>,
 }
 
-/// A listener and the sockets that came there, which stay until they end. What is handed out is a request that is there as a whole, or
+/// A listener and the sockets that came there, which stay until they end or leave for another door. What is handed out is a request that is there as a whole, or
 /// what is refused, with its socket.
 pub(crate) struct Lobby<C, F: Framing> {
     alloc: Global,
