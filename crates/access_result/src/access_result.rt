@@ -94,7 +94,7 @@ impl AccessResult {
         }
     }
 
-    /// The same result again. `Err` only where memory is wanting.
+    /// A copy of the result. `Err` only where memory is wanting.
     pub fn duplicate(&self, alloc: Global) -> Result<AccessResult, AllocError>
         ensures { IfOk result (λ copy. copy ≡ self.now) }
     {

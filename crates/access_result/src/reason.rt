@@ -42,7 +42,7 @@ impl PermissionText {
         })
     }
 
-    /// The same text again. `Err` only where memory is wanting.
+    /// A copy of the permission's text. `Err` only where memory is wanting.
     pub fn duplicate(&self, alloc: Global) -> Result<PermissionText, AllocError>
         ensures { IfOk result (λ p. p ≡ self.now) }
     {
@@ -119,7 +119,7 @@ impl Reason {
         }
     }
 
-    /// The same reason again. `Err` only where memory is wanting.
+    /// A copy of the reason. `Err` only where memory is wanting.
     pub fn duplicate(&self, alloc: Global) -> Result<Reason, AllocError>
         ensures { IfOk result (λ reason. reason ≡ self.now) }
     {

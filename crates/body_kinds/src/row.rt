@@ -61,7 +61,8 @@ pub fn config_row(
     }
 }
 
-/// The same of the settings of the site.
+/// What an object says as the settings of the site, or the first rule that it breaks: of the keys that are there, in the order
+/// of their bytes; then of those that are missing; then of all of them together. `Err` only where memory is wanting.
 pub fn settings_row(alloc: Global, value: &Value) -> Result<Checked<Row>, AllocError>
     ensures { IfOk result (λ c. c ≡ settings_row (view value.now)) }
 {

@@ -33,7 +33,7 @@ pub trait Placed: Ord + Copy {
 
 /// A value that can be had twice: a small number, or what is shared.
 pub trait Again: Drop {
-    /// The same value. `Err` only where memory is wanting.
+    /// A copy of the value. `Err` only where memory is wanting.
     fn again(&self) -> Result<Self, AllocError>
         ensures { IfOk result (λ twin. twin ≡ self.now) };
 }
@@ -74,7 +74,7 @@ impl<K: Placed, V: Again> Bucket<K, V> {
         })
     }
 
-    /// The same bucket, for one more owner.
+    /// A second owner of the bucket: the entries are shared, and none is copied.
     pub(crate) fn share(&self) -> Result<Self, AllocError>
         ensures { IfOk result (λ b. b ≡ self.now) }
     {

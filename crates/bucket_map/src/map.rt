@@ -60,7 +60,7 @@ impl<K: Placed, V: Again> BucketMap<K, V> {
         }
     }
 
-    /// The same map, which shares every bucket with this one. `Err` only where memory is wanting.
+    /// A copy of the map, which shares every bucket with this one. `Err` only where memory is wanting.
     pub fn share(&self) -> Result<Self, AllocError>
         ensures { IfOk result (λ m. m ≡ self.now) }
     {

@@ -163,7 +163,7 @@ impl Cacheability {
         self.max_age
     }
 
-    /// The same again.
+    /// A copy of the cacheability: its tags, its contexts and its maximum age.
     pub fn duplicate(&self, alloc: Global) -> Result<Cacheability, AllocError>
         ensures { IfOk result (λ c. c ≡ self.now) }
     {

@@ -11,7 +11,7 @@ use std::alloc::{AllocError, Global};
 
 /// A value that can be written out a second time, in memory of its own.
 pub trait Duplicate: Drop {
-    /// The same value again. `Err` only where memory is wanting.
+    /// A copy of the value. `Err` only where memory is wanting.
     fn duplicate(&self, alloc: Global) -> Result<Self, AllocError>
         ensures { IfOk result (λ copy. copy ≡ self.now) };
 }

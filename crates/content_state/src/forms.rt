@@ -95,7 +95,7 @@ impl Forms {
         }
     }
 
-    /// The same of a path that is none of JSON.
+    /// What a path that is none of JSON names by its form, if it has one of the fixed forms.
     #[tactic(auto, using(crate::proofs::Named::named_as_found))]
     fn page_named_by(&self, path: &[u8]) -> Option<Named>
         ensures { result ≡ page_named_by path.now }

@@ -131,7 +131,7 @@ impl State {
         self.number
     }
 
-    /// The same state again, which shares each row with this one. `Err` only where memory is wanting.
+    /// A copy of the state, which shares each row with this one. `Err` only where memory is wanting.
     pub fn duplicate(&self, alloc: Global) -> Result<State, AllocError>
         ensures { IfOk result (λ copy. copy ≡ self.now) }
     {

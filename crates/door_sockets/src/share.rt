@@ -43,7 +43,7 @@ fn open_of<F: Framing>(hatches: &[Option<Arc<Hatch<F>>>]) -> (u64, u64) {
 }
 
 impl<F: Framing> Share<F> {
-    /// Of an address with no door. `Err` only where memory is wanting.
+    /// What the doors of a new address share, which has no door yet. `Err` only where memory is wanting.
     pub fn new(alloc: Global) -> Result<Share<F>, AllocError> {
         let address = Address {
             hatches: Mutex::new(Vec::new(alloc)),
@@ -56,7 +56,7 @@ impl<F: Framing> Share<F> {
         })
     }
 
-    /// The same, for one door more. `Err` only where memory is wanting.
+    /// A copy for one door more, which shares the address. `Err` only where memory is wanting.
     pub fn another(&self) -> Result<Share<F>, AllocError> {
         Ok(Share {
             address: Arc::try_clone(&self.address)?,

@@ -52,8 +52,8 @@ impl<'a> Reader<'a> {
         }
     }
 
-    /// The same reader as `new` gives, for a whole page: it bears the values of the required contexts, which are found once, and each
-    /// key of what declares nothing shares them. `Err` only where memory is wanting.
+    /// The reader of a whole page, equal to the one that `new` gives. It bears the values of the required contexts, which are found
+    /// once, and each key of what declares nothing shares them. `Err` only where memory is wanting.
     pub fn with_values(
         alloc: Global,
         state: &'a State,

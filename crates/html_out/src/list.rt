@@ -125,7 +125,7 @@ fn add_all<T: Copy + Drop>(
     Ok(())
 }
 
-// The same segment once more, whose bytes are shared.
+// A copy of a segment, which shares its bytes.
 fn another<T: Copy>(segment: &Segment<T>) -> Result<Segment<T>, AllocError>
     ensures { IfOk result (λ same. part_of same ≡ part_of segment.now) }
 {

@@ -77,7 +77,7 @@ impl IndexedRows {
         rows
     }
 
-    /// The same rows again, which share each row and all indexes with these. `Err` only where memory is wanting.
+    /// A copy of the rows and their indexes, which shares each of them with these. `Err` only where memory is wanting.
     pub fn duplicate(&self, alloc: Global) -> Result<IndexedRows, AllocError>
         ensures { IfOk result (λ copy. copy ≡ self.now) }
     {

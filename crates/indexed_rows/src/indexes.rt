@@ -19,9 +19,9 @@ use std::alloc::{AllocError, Global};
 pub struct Indexes {
     /// The published nodes, in the order of listings.
     pub nodes: SharedSet<NodeRank>,
-    /// The same, by their types.
+    /// The published nodes, by their types, each type in the order of listings.
     pub types: SharedSet<TypeKey>,
-    /// The same, by their terms.
+    /// The published nodes, by their terms, each term in the order of listings.
     pub terms: SharedSet<TermKey>,
     /// The terms, by the terms above them.
     pub parents: SharedSet<ParentKey>,
@@ -80,7 +80,7 @@ impl Indexes {
         })
     }
 
-    /// The same indexes, shared. `Err` only where memory is wanting.
+    /// A copy of the indexes, which shares all sets with these. `Err` only where memory is wanting.
     pub fn share(&self) -> Result<Indexes, AllocError>
         ensures { IfOk result (λ indexes. indexes ≡ self.now) }
     {

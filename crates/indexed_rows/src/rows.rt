@@ -288,7 +288,7 @@ impl Rows {
         self.map.remove(&CellKey(*cell), steps)
     }
 
-    /// The same rows again, which share each bucket with these. `Err` only where memory is wanting.
+    /// A copy of the rows, which shares each bucket with these. `Err` only where memory is wanting.
     pub fn duplicate(&self, _alloc: Global) -> Result<Rows, AllocError>
         ensures { IfOk result (λ copy. copy ≡ self.now) }
     {

@@ -54,7 +54,7 @@ fn listed(alloc: Global, nodes: &[(u32, &Node)]) -> Result<Vec<Value>, AllocErro
     Ok(values)
 }
 
-/// The same as one value.
+/// The array of what is told of each of the nodes.
 fn nodes_value(alloc: Global, nodes: &[(u32, &Node)]) -> Result<Value, AllocError>
     ensures { IfOk result (λ v. view v ≡ array (items_data listed_data (map shown_node nodes.now))) }
 {

@@ -33,7 +33,7 @@ fn values_by_name(alloc: Global, fields: &[&FieldValue]) -> Result<Map<String, V
     Ok(values)
 }
 
-/// The same as a value.
+/// The object of the values of fields, by their names.
 fn fields_value(alloc: Global, fields: &[&FieldValue]) -> Result<Value, AllocError>
     ensures { IfOk result (λ v. view v ≡ object (texts_data (map (λ field. field.now) fields.now))) }
 {
@@ -51,7 +51,7 @@ fn numbers(alloc: Global, ids: &[u32]) -> Result<Vec<Value>, AllocError>
     Ok(values)
 }
 
-/// The same as one value.
+/// The array of these numbers.
 fn numbers_value(alloc: Global, ids: &[u32]) -> Result<Value, AllocError>
     ensures { IfOk result (λ v. view v ≡ array (items_data whole_data ids.now)) }
 {

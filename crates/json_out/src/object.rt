@@ -29,7 +29,7 @@ pub(crate) fn with_value(
     Ok(map)
 }
 
-/// The same, where the value is written first.
+/// An object with a value more, at a key: the value is written as JSON here. `Err` where memory is wanting, or was wanting before.
 pub(crate) fn with_key<T: Write>(
     alloc: Global,
     map: Result<Map<String, Value>, AllocError>,

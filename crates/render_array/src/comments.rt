@@ -46,7 +46,7 @@ fn comment_shown(
     canvas.write(b"</article>");
 }
 
-/// The same, where it answers the one of that number, or none, and may be viewed; else nothing.
+/// A comment of a node and those that answer it, where it answers the one of that number, or none, and may be viewed; else nothing.
 #[cycle(replies)]
 fn comment_below(
     canvas: &mut Canvas,
@@ -106,7 +106,7 @@ fn comments_shown(canvas: &mut Canvas, reader: CommentReader, all: &[(u32, &Comm
     }
 }
 
-/// The same, which are looked for where the viewer may view some comments.
+/// The comments of a node that the viewer may view. They are looked for only where the viewer may view some comments.
 fn comments_for(canvas: &mut Canvas, reader: CommentReader, n: u32)
     ensures { Renders (comments_for reader n) canvas.old tt canvas.new }
 {

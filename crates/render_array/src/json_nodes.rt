@@ -86,7 +86,7 @@ fn shown_fields_of_type<'a>(
     found
 }
 
-/// The same, where the type is there; else none.
+/// The values of those fields of a node that may be viewed, in the order of its type; none where the type is not there.
 fn shown_fields<'a>(
     canvas: &mut Canvas,
     n: u32,

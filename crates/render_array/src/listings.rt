@@ -54,7 +54,7 @@ fn listed_nodes(canvas: &mut Canvas, ids: &[u32])
     canvas.write(b"</div>");
 }
 
-/// The same; where there is none, that there is no content.
+/// The places of the nodes of a page; where there is no node, a line that says that there is no content.
 fn nodes_or_none(canvas: &mut Canvas, ids: &[u32])
     ensures { Renders (nodes_or_none ids.now) canvas.old tt canvas.new }
 {
@@ -107,7 +107,7 @@ fn is_only(page: &Page) -> bool
     page.is_first && page.is_last
 }
 
-/// The same, where there is more than one page; else nothing.
+/// The links to the pages before and after one; nothing where it is the only page.
 fn pager(canvas: &mut Canvas, page: &Page)
     requires { page.now.number < usize.MAX }
     ensures { Renders (pager page.now) canvas.old tt canvas.new }
@@ -117,7 +117,7 @@ fn pager(canvas: &mut Canvas, page: &Page)
     }
 }
 
-/// The same, where a listing stands on its page; in a block nothing.
+/// The links to the pages before and after one, where a listing stands on its page; nothing in a block.
 fn pager_in(canvas: &mut Canvas, placing: Placing, page: &Page)
     requires { page.now.number < usize.MAX }
     ensures { Renders (pager_in placing page.now) canvas.old tt canvas.new }

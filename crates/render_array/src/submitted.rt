@@ -70,7 +70,7 @@ fn submitted(canvas: &mut Canvas, node: &Node)
     by_line(canvas, node.uid, node.created);
 }
 
-/// Whether a type that is there says that its nodes show this.
+/// Whether a type that is there says that its nodes show who owns them, and the day on which they were made.
 fn is_submitted(node_type: Option<&NodeType>) -> bool
     ensures { result ≡ is_submitted (option_copied node_type.entry) }
 {
@@ -80,7 +80,7 @@ fn is_submitted(node_type: Option<&NodeType>) -> bool
     }
 }
 
-/// The same, where the type of the node says so; else nothing.
+/// Who owns a node, and the day on which it was made, where the type of the node says so; else nothing.
 pub(crate) fn submitted_if(canvas: &mut Canvas, node: &Node, node_type: Option<&NodeType>)
     ensures { Renders (submitted_if node.now (option_copied node_type.entry)) canvas.old tt canvas.new }
 {

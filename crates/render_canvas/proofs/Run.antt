@@ -517,7 +517,7 @@ folded_item f b {c = c} {d = d} xs i x {mid = mid} {new = new} below is first se
 pub folded_all : {A B : Type 0} (f : B → A → Plan B) (b : B) {c : B} (xs ys : List A) (i : ℕ) {old new : Sheet} → Renders (folded f b (take i xs)) old c new → length xs ≤ i → xs ≡ ys → Renders (folded f b ys) old c new
 folded_all f b {c = c} xs ys i {old = old} {new = new} run over same = subst (λ zs. Renders (folded f b zs) old c new) (take_all i xs over ∙ same) run
 
--- The same where the items are seen as others, as rows behind references are.
+-- a loop that gathers from items that are seen as others, as rows behind references are
 mapped-take : {A B : Type 0} (g : A → B) (i : ℕ) (xs : List A) → map g (take i xs) ≡ take i (map g xs)
 mapped-take g zero xs = refl
 mapped-take g (suc i) [] = refl

@@ -132,7 +132,7 @@ impl<'a> Canvas<'a> {
         }
     }
 
-    /// The same of each of the tags.
+    /// Says that what is shown depends on what each of the tags covers.
     pub(crate) fn all_tags(&mut self, tags: &[Tag])
         ensures { AddsTags self.old self.new tags.now }
     {

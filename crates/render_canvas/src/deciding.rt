@@ -34,7 +34,7 @@ impl<'a> Canvas<'a> {
         }
     }
 
-    /// The same of a field of a node that is there and whose type has the field.
+    /// Whether the viewer may do something to a field of a node that is there and whose type has the field, or else why not.
     pub fn field_access(&mut self, op: Op, n: u32, node: &Node, field: &Name) -> Result<(), Reason>
         requires node_is { node_of self.old.visit.rows n ≡ Some node.now }
         requires has_field { HasField (type_of self.old.visit.rows node.now.node_type) field.now }
@@ -67,7 +67,7 @@ impl<'a> Canvas<'a> {
         }
     }
 
-    /// The same of a user that is there.
+    /// Whether the viewer may view the profile of a user that is there, or else why not.
     pub fn user_access(&mut self, uid: u32) -> Result<(), Reason>
         requires { IsSome (user_of self.old.visit.rows uid) }
         ensures { Renders (user_access uid) self.old (decision_of result) self.new }
@@ -81,7 +81,7 @@ impl<'a> Canvas<'a> {
         }
     }
 
-    /// The same of what a route leads to, which is there.
+    /// Whether the viewer may view what a route leads to, which is there, or else why not.
     pub fn route_access(&mut self, to: &Route) -> Result<(), Reason>
         requires { IsThere self.old.visit.rows to.now }
         ensures { Renders (route_access to.now) self.old (decision_of result) self.new }

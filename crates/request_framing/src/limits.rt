@@ -42,12 +42,12 @@ pub const GATHERED_BYTES: usize = 65_536;
 /// it doesn't wait for a worker that is busy.
 pub const PATIENCE_MILLIS: u64 = 5;
 
-/// How many sockets wait at most at the editing door, each with a request that another door passed to it. A request beyond them is
-/// given by the door where it came, and so are those below.
+/// How many requests may wait at the editing door at most, each with its socket, once other doors have passed them to it. A request
+/// that finds no room there stays at the door where it came, and is answered there.
 pub const PASSED_SOCKETS: usize = 1_024;
 
-/// How many bytes of memory these take at most, with their requests: 32 requests whose body is the largest that is taken, or 1,024
-/// with 32 KiB each.
+/// How many bytes of memory the requests that wait at the editing door take at most, with their sockets: 32 requests whose body is
+/// the largest that is taken, or 1,024 of 32 KiB each. A request beyond that stays at its own door, too.
 pub const PASSED_BYTES: usize = 33_554_432;
 
 /// A worker that has no connection and asks for none is at rest once so many milliseconds have passed, as one is that has stopped.

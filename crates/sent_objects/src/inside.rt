@@ -160,7 +160,7 @@ impl Inside for Item {
     }
 }
 
-/// Of the value of a key: the first items of a list.
+/// Of the value of a key: the first items of a list, and nothing of the members of an object.
 pub(crate) struct Listed;
 
 impl Inside for Listed {
@@ -182,7 +182,7 @@ impl Inside for Listed {
     }
 }
 
-/// The same, and all members of an object.
+/// Of the value of a key: the first items of a list, and all members of an object.
 pub(crate) struct Named;
 
 impl Inside for Named {

@@ -46,7 +46,7 @@ impl<K: Ord + Copy> Chunk<K> {
         })
     }
 
-    /// The same chunk, shared.
+    /// A second owner of the chunk: the keys are shared, and none is copied.
     pub fn share(&self) -> Result<Self, AllocError>
         ensures { IfOk result (λ c. c ≡ self.now) }
     {

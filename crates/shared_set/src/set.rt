@@ -72,7 +72,7 @@ impl<K: Ord + Copy> SharedSet<K> {
         Self::of(alloc, ordered.as_slice())
     }
 
-    /// The same set, which shares all chunks with this one. `Err` only where memory is wanting.
+    /// A copy of the set, which shares all chunks with this one. `Err` only where memory is wanting.
     pub fn share(&self) -> Result<Self, AllocError>
         ensures { IfOk result (λ s. s ≡ self.now) }
     {

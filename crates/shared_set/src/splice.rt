@@ -34,7 +34,7 @@ pub fn first_reaching<K: Ord + Copy>(chunks: &[Chunk<K>], key: &K) -> usize
     low
 }
 
-/// The same chunks, shared.
+/// A new list of these chunks, in their order. The keys in them are shared, and none is copied.
 pub fn shared<K: Ord + Copy>(alloc: Global, all: &[Chunk<K>]) -> Result<Vec<Chunk<K>>, AllocError>
     ensures { IfOk result (λ chunks. chunks.items ≡ all.now) }
 {

@@ -64,7 +64,7 @@ impl<'a, K: Ord + Copy, S: Span<K>> Iterator for Within<'a, K, S> {
     }
 }
 
-/// The same keys, of which the first stands in the first part where there is one.
+/// Keys and the chunks behind them, split anew: the first part has the first key, unless there is no key at all.
 fn begun<'a, K: Ord + Copy>(
     mut keys: &'a [K],
     mut rest: &'a [Chunk<K>],

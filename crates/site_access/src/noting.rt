@@ -78,8 +78,8 @@ impl Account {
         Ok(Err(Reason::Grant(op, n)))
     }
 
-    /// The same of the field of that name of a node that is there and whose type has the field, as
-    /// `field_access` decides. `Err` only where memory is wanting.
+    /// Whether the viewer may do this to the field of that name of a node, or else why not, as `field_access` decides. The node is
+    /// there, and its type has the field. What the decision depends on is noted. `Err` only where memory is wanting.
     pub fn note_field(
         &self,
         alloc: Global,
@@ -107,8 +107,8 @@ impl Account {
         self.note_found_field(alloc, op, n, node, field, noted)
     }
 
-    /// The same of a field of this node. Where its owner's rule and its permission both deny, the
-    /// permission is the reason. `Err` only where memory is wanting.
+    /// Whether the viewer may do this to a field of this node, or else why not. Where its owner's rule and its permission both
+    /// deny, the permission is the reason. What the decision depends on is noted. `Err` only where memory is wanting.
     fn note_found_field(
         &self,
         alloc: Global,
@@ -166,8 +166,8 @@ impl Account {
         Ok(Err(missing(alloc, permission::access_content())?))
     }
 
-    /// The same of the profile of a user that is there, as `user_access` decides. `Err` only where
-    /// memory is wanting.
+    /// Whether the viewer may view the profile of a user that is there, or else why not, as `user_access` decides. What that
+    /// depends on is noted. `Err` only where memory is wanting.
     /// <https://api.drupal.org/api/drupal/core!modules!user!src!UserAccessControlHandler.php/class/UserAccessControlHandler/10>
     pub fn note_user(
         &self,
@@ -195,8 +195,8 @@ impl Account {
         Ok(Err(missing(alloc, administer_users())?))
     }
 
-    /// The same of what a route leads to, which is there, as `route_access` decides. `Err` only where
-    /// memory is wanting.
+    /// Whether the viewer may view what a route leads to, which is there, or else why not, as `route_access` decides. What that
+    /// depends on is noted. `Err` only where memory is wanting.
     /// <https://www.drupal.org/docs/drupal-apis/routing-system/access-checking-on-routes>
     pub fn note_route(
         &self,
@@ -226,7 +226,7 @@ impl Account {
         }
     }
 
-    /// The same of a listing. `Err` only where memory is wanting.
+    /// Whether the viewer may view listings, or else why not. What that depends on is noted. `Err` only where memory is wanting.
     fn note_listing(
         &self,
         alloc: Global,

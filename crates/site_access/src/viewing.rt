@@ -40,7 +40,8 @@ impl Account {
         noted.merge(alloc, &more)
     }
 
-    /// The same, one by one.
+    /// Puts those of a few nodes, which are there, that the viewer may view behind those that were found. They are asked one by
+    /// one, and what each decision depends on is noted. `Err` only where memory is wanting.
     fn note_few(
         &self,
         alloc: Global,
@@ -60,7 +61,8 @@ impl Account {
         Ok(())
     }
 
-    /// The same of one node.
+    /// Puts a node, which is there, behind those that were found if the viewer may view it. What that depends on is noted.
+    /// `Err` only where memory is wanting.
     fn note_one(
         &self,
         alloc: Global,

@@ -37,7 +37,7 @@ pub fn candidates(
     candidates_from::<Brand>(alloc, state, listing, moment, Blank::new(1))
 }
 
-/// The same, in a count of its own.
+/// What `candidates` gives, where the nodes that it reads are counted in a new count.
 fn candidates_from<L: Ledger>(
     alloc: Global,
     state: &State,
@@ -89,7 +89,7 @@ pub fn is_fit(listing: &Listing, moment: u64, node: &Node) -> bool
         && is_recent(listing.recent, moment, node.created)
 }
 
-/// The same, but for its type too.
+/// Whether a node is what a listing asks for at a moment, but for its term and its type.
 pub fn is_due(listing: &Listing, moment: u64, node: &Node) -> bool
     ensures { result ≡ is_due listing.now moment node.now }
 {

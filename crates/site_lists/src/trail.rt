@@ -47,7 +47,8 @@ fn trail_to(alloc: Global, links: &[Link], path: &[u8]) -> Result<Vec<Name>, All
     }
 }
 
-/// The same by the order of the tree, whichever links lead to the path.
+/// The ids of the first of these links in preorder that leads to a path, and of those above it. The whole tree is put in order
+/// for that, whichever links lead to the path.
 fn trail_by_tree(alloc: Global, links: &[Link], path: &[u8]) -> Result<Vec<Name>, AllocError>
     ensures { IfOk result (λ ids. ids.items ≡ trail_to links.now path.now) }
 {

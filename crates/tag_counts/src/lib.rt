@@ -174,7 +174,7 @@ impl Counts {
         put_from::<Brand>(&mut self.table, &Key(*tag), &count, Blank::new(1))
     }
 
-    /// The same counts again, which share all that they have. `Err` only where memory is wanting.
+    /// A copy of the counts, which shares all of them with these. `Err` only where memory is wanting.
     pub fn duplicate(&self, _alloc: Global) -> Result<Counts, AllocError>
         ensures same { IfOk result (λ copy. copy ≡ self.now) }
         ensures ordered { IfOk result (λ copy. IsInOrder copy) }
