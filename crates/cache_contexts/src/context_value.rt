@@ -19,7 +19,7 @@ pub enum AnyValue {
     Argument(Option<Text>),
     /// A user's number, 0 for nobody.
     User(u32),
-    /// Whether it is so.
+    /// Whether the page is the front page, or whether there is a session.
     Flag(bool),
     /// Names of roles, or of links.
     Names(Items<Name>),

@@ -15,8 +15,8 @@ use content_state::{State, Viewer};
 use std::alloc::{AllocError, Global};
 use user_roles::role_names;
 
-/// What says as much as these contexts do: those of them that none of the others makes redundant, and the tags that stand
-/// in for the rest. What is asked for, and when, doesn't matter. `Err` only where memory is wanting.
+/// Optimises cache contexts: keeps those that none of the others makes redundant, and gives the tags that stand in for the
+/// rest. Neither what is asked for nor the moment matters. `Err` only where memory is wanting.
 /// <https://www.drupal.org/docs/drupal-apis/cache-api/cache-contexts>
 pub fn optimise(
     alloc: Global,

@@ -13,7 +13,7 @@ use content_state::{Hole, Library, State};
 use html_out::Segments;
 use site_access::Shared;
 
-/// A part of a page, or a page, as it is kept.
+/// A cache entry: a part of a page, or a page, as it is kept.
 /// <https://www.drupal.org/docs/drupal-apis/cache-api/cache-api>
 pub struct Entry {
     /// The bytes, and the places that are still open.

@@ -14,7 +14,7 @@ pub enum Bin {
     Anonymous,
 }
 
-/// What is kept under a key.
+/// What a bin keeps under a key: an entry, or a redirect to another key.
 #[derive(Drop)]
 pub enum Kept {
     /// What is shown.
@@ -23,7 +23,7 @@ pub enum Kept {
     Redirect(Arc<OrderedSet<Context>>),
 }
 
-/// What is found under a key.
+/// What a look into a bin finds under a key: an entry, a redirect to another key, or nothing.
 #[derive(Drop)]
 pub enum Found {
     /// What is shown, if it is fresh.

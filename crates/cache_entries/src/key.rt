@@ -9,7 +9,7 @@ use content_state::{Depth, Fragment, Mode, Placing};
 use site_access::Shared;
 use std::hash::{Hash, Hasher};
 
-/// What is kept.
+/// What a cache entry is of: a part of pages, the page of a path, or the page of a whole target.
 pub enum Subject {
     /// A part of pages: a block, a menu, a listing, a term's listing or a node in a mode.
     Fragment(Fragment),
@@ -29,7 +29,7 @@ impl Drop for Subject {
     }
 }
 
-/// The key of something that is kept: what it is, and the values of the contexts that it was looked up by.
+/// The key of a cache entry: what is kept, and the values of the contexts that it is looked up by.
 /// <https://www.drupal.org/docs/drupal-apis/render-api/cacheability-of-render-arrays>
 pub struct Key {
     pub subject: Subject,
@@ -46,7 +46,7 @@ impl Drop for Key {
 }
 
 impl Key {
-    /// Whether both are the same key.
+    /// Whether two keys are equal: of one subject, with equal values of their contexts.
     pub fn equals(&self, other: &Key) -> bool
         ensures { IsTrue result ↔ (self.now ≡ other.now) }
     {
@@ -117,7 +117,7 @@ impl Hash for Key {
     }
 }
 
-/// Whether the same is kept.
+/// Whether two subjects are equal.
 fn same_subject(one: &Subject, two: &Subject) -> bool
     ensures { result ≡ same_subject one.now two.now }
 {

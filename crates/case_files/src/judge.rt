@@ -104,7 +104,7 @@ fn is_check(found: &Found) -> bool {
 }
 
 impl Tally {
-    /// There was none.
+    /// A tally in which nothing is counted yet.
     pub fn new() -> Tally {
         Tally {
             cases: 0,
@@ -118,7 +118,7 @@ impl Tally {
         self.cases = self.cases.saturating_add(1);
     }
 
-    /// How many there were.
+    /// A line that tells how many cases and comparisons there were, and how many differed.
     pub fn told(&self, alloc: Global) -> Result<String, AllocError> {
         let cases = self.cases;
         let checks = self.checks;
@@ -130,7 +130,7 @@ impl Tally {
         }
     }
 
-    /// Counts what was found for a section. Where it isn't as the section says, the line that tells so is answered.
+    /// Counts what was found for a section. Where it isn't as the section says, the result is a line that tells so.
     pub fn judge(
         &mut self,
         alloc: Global,

@@ -70,7 +70,8 @@ pub fn arguments(alloc: Global, text: &[u8]) -> Result<Option<Vec<Vec<u8>>>, All
     Ok(Some(arguments))
 }
 
-/// Whether a piece stands in a text past so many bytes of it, which go up to its end then.
+/// Whether a piece stands in a text behind the first `passed` bytes of it. Where it does, `passed` goes up to the end of the
+/// piece.
 pub fn finds(text: &[u8], passed: &mut usize, piece: &[u8]) -> bool {
     let (_, rest) = text.split_at((*passed).min(text.len()));
     let found = rest

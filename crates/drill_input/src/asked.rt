@@ -133,7 +133,7 @@ fn version_of(edited: &[u32], node: u32) -> u64
 }
 
 impl Requests {
-    /// None yet.
+    /// No requests yet, the first of which is to be drawn from these numbers.
     #[tactic(auto, unfolding(crate::specs::Asked::asked))]
     fn new(alloc: Global, draws: Draws) -> Requests
         ensures { result ≡ asked 0 draws }
@@ -145,14 +145,14 @@ impl Requests {
         }
     }
 
-    /// The requests, one after the other.
+    /// The text of the requests, one after the other.
     pub fn into_text(self) -> Vec<u8>
         ensures { result.items ≡ self.text }
     {
         self.text
     }
 
-    /// One more, to see a node.
+    /// Adds a request to see a node.
     fn add_node_page(&mut self, alloc: Global) -> Result<(), AllocError>
         ensures { OnOk result (self.new ≡ and_node_page self.old) }
     {
@@ -163,7 +163,7 @@ impl Requests {
         Ok(())
     }
 
-    /// One more, to see a page of the front page's listing.
+    /// Adds a request to see a page of the front page's listing.
     fn add_listing_page(&mut self, alloc: Global) -> Result<(), AllocError>
         ensures { OnOk result (self.new ≡ and_listing_page self.old) }
     {
@@ -174,7 +174,7 @@ impl Requests {
         Ok(())
     }
 
-    /// One more, to give a node a new title.
+    /// Adds a request to give a node a new title.
     fn add_edit(&mut self, alloc: Global) -> Result<(), AllocError>
         ensures { OnOk result (self.new ≡ and_edit self.old) }
     {
@@ -187,7 +187,7 @@ impl Requests {
         Ok(())
     }
 
-    /// One more, to rebuild the caches or to see the front page.
+    /// Adds a request to rebuild the caches or to see the front page.
     fn add_rebuild(&mut self, alloc: Global) -> Result<(), AllocError>
         ensures { OnOk result (self.new ≡ and_rebuild self.old) }
     {
@@ -199,7 +199,7 @@ impl Requests {
         Ok(())
     }
 
-    /// One more.
+    /// Adds one more request.
     fn add_one(&mut self, alloc: Global) -> Result<(), AllocError>
         ensures { OnOk result (self.new ≡ and_request self.old) }
     {
@@ -212,7 +212,7 @@ impl Requests {
     }
 }
 
-/// So many requests. `Err` only where memory is wanting.
+/// The first `count` requests that are drawn. `Err` only where memory is wanting.
 #[tactic(auto, using(crate::proofs::Folds::next_asked))]
 pub fn requests_after(alloc: Global, draws: Draws, count: u32) -> Result<Requests, AllocError>
     ensures { IfOk result (λ requests. requests ≡ asked count draws) }

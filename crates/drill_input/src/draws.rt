@@ -21,7 +21,7 @@ impl Model for Draws {
 }
 
 impl Draws {
-    /// Nothing is drawn yet of the sequence that begins with this number.
+    /// The sequence that begins with this number, of which nothing is drawn yet.
     pub fn new(seed: u64) -> Draws
         ensures { result ≡ seed }
     {

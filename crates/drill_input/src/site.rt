@@ -196,7 +196,7 @@ impl SiteRows {
         Ok(())
     }
 
-    /// One node more.
+    /// Adds the row of one more node.
     fn add_node(&mut self, alloc: Global, node: u32) -> Result<(), AllocError>
         requires { node ≤ 200 }
         ensures { OnOk result (self.new ≡ and_node node self.old) }

@@ -169,7 +169,7 @@ fn found_at(cache: &LruCache<Key, Kept>, key: &Key) -> Result<Found, AllocError>
     }
 }
 
-/// What is found where this is kept.
+/// What a look finds where this is kept, which it shares.
 fn found_of(kept: &Kept) -> Result<Found, AllocError>
     ensures { IfOk result (λ found. thing_found found ≡ Some (thing_of kept.now)) }
 {

@@ -30,7 +30,8 @@ pub fn compact(alloc: Global, joined: &mut Joined) -> Result<(), AllocError>
     Ok(())
 }
 
-/// The same with its text copied into one piece between two open places. `Err` only where memory is wanting.
+/// A copy of segments that shows what they show, with all text between two open places in one piece. `Err` only where memory is
+/// wanting.
 fn in_few_pieces(alloc: Global, segments: &Segments<Hole>) -> Result<Segments<Hole>, AllocError>
     ensures shows { IfOk result (λ s. pieces_of s ≡ pieces_of segments.now) }
     ensures apart { IfOk result (λ s. AreApart s) }
@@ -63,7 +64,7 @@ fn take_part(
     }
 }
 
-/// The text that was begun as one piece behind what is there, in no more memory than it needs; the next one begins.
+/// Appends the text that was begun as one piece, in no more memory than it needs, and begins the next one.
 fn end_text(alloc: Global, few: &mut Segments<Hole>, text: &mut Vec<u8>) -> Result<(), AllocError>
     ensures ended { OnOk result (few.new ≡ few.old ++ text_part text.old.items) }
     ensures begun { OnOk result (text.new.items ≡ []) }

@@ -148,7 +148,7 @@ fn fill<H: House>(
     Ok(filled)
 }
 
-/// The parts of an element of a level behind what is there, their places filled in.
+/// Appends the parts of an element of a level to what was put together, their places filled in.
 #[cycle(filling)]
 pub fn add_parts<H: House>(
     alloc: Global,
@@ -169,7 +169,7 @@ pub fn add_parts<H: House>(
     Ok(())
 }
 
-/// One part of an element of a level behind what is there, its place filled in.
+/// Appends one part of an element of a level to what was put together, its place filled in.
 #[cycle(filling)]
 fn add_part<H: House>(
     alloc: Global,

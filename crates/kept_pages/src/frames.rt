@@ -100,7 +100,7 @@ fn build_frame<H: House>(
     Ok(filled)
 }
 
-/// The parts of a page behind what is there, all places filled in but those of the libraries and of lazy blocks.
+/// Appends the parts of a page, all places filled in but those of the libraries and of lazy blocks.
 fn add_shared_parts<H: House>(
     alloc: Global,
     house: &mut H,
@@ -119,7 +119,7 @@ fn add_shared_parts<H: House>(
     Ok(())
 }
 
-/// One part of a page behind what is there.
+/// Appends one part of a page: its bytes, or what stands in its place.
 fn add_shared_part<H: House>(
     alloc: Global,
     house: &mut H,
@@ -138,7 +138,7 @@ fn add_shared_part<H: House>(
     }
 }
 
-/// A place of a page behind what is there.
+/// Appends what stands in a place of a page, or the place where it stays open.
 fn add_shared_place<H: House>(
     alloc: Global,
     house: &mut H,
@@ -163,7 +163,7 @@ fn add_shared_place<H: House>(
     }
 }
 
-/// A fragment that isn't lazy behind what is there.
+/// Appends a fragment that isn't lazy.
 fn add_shared_fragment<H: House>(
     alloc: Global,
     house: &mut H,

@@ -37,7 +37,7 @@ pub struct Child {
     pub built: u64,
 }
 
-/// An element that is built, its places left open.
+/// Builds an element, and leaves its places open.
 pub fn begin(alloc: Global, reader: &Reader<'_>, element: &Element) -> Result<Begun, AllocError>
     ensures { IfOk result (λ begun. Begins (plan_of reader.now.ask.path element.now) (visit reader.now) begun) }
 {
@@ -68,7 +68,8 @@ pub fn begin(alloc: Global, reader: &Reader<'_>, element: &Element) -> Result<Be
     })
 }
 
-/// What is kept of a page, of which nothing is there yet.
+/// The page that a kept one is to be filled in to, under way: it has what the kept one declares and attaches, and shows nothing
+/// yet.
 pub fn reopen(alloc: Global, frame: &Child) -> Result<Filled, AllocError>
     ensures opens { IfOk result (λ filled. Reopens (arc_value frame.now.entry) filled.joined) }
     ensures built { IfOk result (λ filled. filled.built ≡ frame.now.built) }
@@ -89,7 +90,7 @@ pub fn reopen(alloc: Global, frame: &Child) -> Result<Filled, AllocError>
     })
 }
 
-/// Bytes behind what is there.
+/// Appends shared bytes to what was put together.
 pub fn add_bytes(joined: &mut Joined, shared: &Arc<Bytes>) -> Result<(), AllocError>
     ensures { OnOk result (Appends (bytes (arc_value shared.now)) joined.old joined.new) }
 {
@@ -97,7 +98,7 @@ pub fn add_bytes(joined: &mut Joined, shared: &Arc<Bytes>) -> Result<(), AllocEr
     Ok(())
 }
 
-/// A hole behind the segments. For want of memory nothing is added.
+/// Appends a hole to segments. Where memory is wanting nothing is added.
 pub fn push_hole<T: Copy + Drop>(segments: &mut Segments<T>, hole: &T) -> Result<(), AllocError>
     ensures { OnOk result (segments.new ≡ segments.old ++ Opening hole.now ∷ []) }
 {
@@ -105,7 +106,7 @@ pub fn push_hole<T: Copy + Drop>(segments: &mut Segments<T>, hole: &T) -> Result
     Ok(())
 }
 
-/// A place behind what is there, which stays open.
+/// Appends a place that stays open to what was put together.
 pub fn leave_open(joined: &mut Joined, hole: &Hole) -> Result<(), AllocError>
     ensures { OnOk result (Appends (Place hole.now ∷ []) joined.old joined.new) }
 {
@@ -113,7 +114,7 @@ pub fn leave_open(joined: &mut Joined, hole: &Hole) -> Result<(), AllocError>
     Ok(())
 }
 
-/// A child behind what is there.
+/// Appends a child to what was put together, and takes over what it declares and attaches, and until when it may be shown.
 pub fn add_child(alloc: Global, joined: &mut Joined, child: &Entry) -> Result<(), AllocError>
     ensures { OnOk result (Takes child.now joined.old joined.new) }
 {

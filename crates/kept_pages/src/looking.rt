@@ -101,7 +101,7 @@ pub fn has_second(bin: Bin) -> bool
     }
 }
 
-/// Makes the key of something that with the values of these contexts.
+/// Turns a key into the one of the same subject with the values of these contexts.
 fn turn_to(
     alloc: Global,
     reader: &Reader<'_>,

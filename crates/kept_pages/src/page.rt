@@ -168,7 +168,7 @@ fn own_page<H: House>(alloc: Global, house: &mut H, reader: &Reader<'_>) -> Resu
     page_of(alloc, reader, Pieces::Own(&joined), built)
 }
 
-/// The page that a whole one gives: the lines of its libraries are made last.
+/// The page of a request, made from a whole page: the lines of its libraries are made last.
 pub fn page_of(
     alloc: Global,
     reader: &Reader<'_>,

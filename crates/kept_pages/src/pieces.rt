@@ -21,7 +21,7 @@ pub enum Pieces<'a> {
 }
 
 impl<'a> Pieces<'a> {
-    /// What it shows.
+    /// The parts that the page shows: pieces of text, and places that are open.
     pub fn parts(self) -> &'a [Segment<Hole>]
         ensures { parts_of result.now ≡ parts_in self.entry }
     {
@@ -31,7 +31,7 @@ impl<'a> Pieces<'a> {
         }
     }
 
-    /// The libraries that it attaches.
+    /// The libraries that the page attaches.
     pub fn libraries(self) -> &'a [Library]
         ensures { result.now ≡ libraries_in self.entry }
     {
@@ -41,7 +41,7 @@ impl<'a> Pieces<'a> {
         }
     }
 
-    /// Its status.
+    /// The status of the page.
     pub fn status(self) -> Option<u16>
         ensures { result ≡ status_in self.entry }
     {
@@ -51,7 +51,7 @@ impl<'a> Pieces<'a> {
         }
     }
 
-    /// The last moment at which it may be shown.
+    /// The last moment at which the page may be shown.
     pub fn last(self) -> u64
         ensures { result ≡ last_in self.entry }
     {

@@ -5,7 +5,7 @@ ghost use Rattle.late_out.specs.Marks as marks;
 
 use std::alloc::{AllocError, Global};
 
-/// What ends a page. It takes no memory.
+/// The text that ends a page. It takes no memory.
 #[tactic(auto, unfolding(crate::specs::Marks::body_end))]
 pub fn body_end() -> &'static [u8]
     ensures { result.now ≡ marks.body_end }
@@ -13,7 +13,7 @@ pub fn body_end() -> &'static [u8]
     b"</body></html>"
 }
 
-/// What ends a template. It takes no memory.
+/// The text that ends a template. It takes no memory.
 #[tactic(auto, unfolding(crate::specs::Marks::template_end))]
 pub fn template_end() -> &'static [u8]
     ensures { result.now ≡ marks.template_end }

@@ -25,7 +25,7 @@ pub fn without_end(alloc: Global, text: &Parts) -> Result<Parts, AllocError>
     Ok(front)
 }
 
-/// A piece behind what is there, no more of it than so many bytes; how many bytes are wanted then.
+/// Appends a piece, but at most `left` bytes of it, and tells how many bytes are still wanted then.
 fn add_front(
     alloc: Global,
     front: &mut Parts,
@@ -43,7 +43,7 @@ fn add_front(
     Ok(0)
 }
 
-/// A copy of so many bytes of a piece behind what is there.
+/// Appends a copy of the first `count` bytes of a piece.
 fn add_copy(
     alloc: Global,
     front: &mut Parts,

@@ -42,7 +42,7 @@ pub fn with_marks(
     Ok(marked)
 }
 
-/// A part behind what is there.
+/// Appends a part: its bytes, those for the place of the libraries, or the mark of a place.
 fn mark_part(
     alloc: Global,
     marked: &mut Marked,
@@ -61,7 +61,7 @@ fn mark_part(
     }
 }
 
-/// The mark of a place behind what is there.
+/// Appends the mark of a place to the text, and the place to the places.
 fn mark_place(alloc: Global, marked: &mut Marked, hole: &Hole) -> Result<(), AllocError>
     ensures text { OnOk result (marked.new.text ≡ marked.old.text ++ mark_of (length marked.old.holes.items)) }
     ensures places { OnOk result (marked.new.holes.items ≡ marked.old.holes.items ++ hole.now ∷ []) }
@@ -71,7 +71,7 @@ fn mark_place(alloc: Global, marked: &mut Marked, hole: &Hole) -> Result<(), All
     add_copy(&mut marked.holes, hole)
 }
 
-/// A copy of an item behind those that are there.
+/// Appends a copy of an item.
 fn add_copy<T: Copy + Drop>(items: &mut Vec<T>, item: &T) -> Result<(), AllocError>
     ensures { OnOk result (items.new.items ≡ items.old.items ++ item.now ∷ []) }
 {

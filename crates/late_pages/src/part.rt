@@ -107,7 +107,7 @@ pub fn template(alloc: Global, number: u64, part: &Part) -> Result<Parts, AllocE
     Ok(text)
 }
 
-/// Pieces behind what is there.
+/// Appends pieces to a text, which shares them.
 #[tactic(auto, unfolding(html_out::specs::Segment::joined))]
 fn append(text: &mut Parts, pieces: &[Arc<Bytes>]) -> Result<(), AllocError>
     ensures { OnOk result (text.new ≡ text.old ++ joined pieces.now) }

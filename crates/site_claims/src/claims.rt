@@ -27,7 +27,7 @@ impl Model for Claims {
     ghost invariant = { λ c. (c.seat.table_id ≡ c.table.shared.table_id) × IsTable c.seat.table_id × (c.seat.me.1 ≡ []) × (c.seat.me.0.limit ≡ c.limit) × (0 < c.limit) };
 }
 
-/// One who claims numbers.
+/// A claimer: one who claims numbers.
 #[derive(Drop)]
 pub struct Claimer {
     seat: ClaimSeat,
@@ -47,7 +47,8 @@ impl Model for Claimer {
 }
 
 impl Claims {
-    /// So many numbers, at least one and at most 2^63, none of which is claimed yet, and room for 16 claimers.
+    /// The claims of the numbers below a limit, which is at least one and at most 2^63: none is claimed yet, and there is room for
+    /// 16 claimers. `Err` only where memory is wanting.
     pub fn new(alloc: Global, limit: u64) -> Result<Claims, AllocError>
         requires { (0 < limit) × (limit ≤ 2 ^ 63) }
         ensures { IfOk result (λ c. c ≡ record { table = c.table; limit = limit; claims = 0; over = 0; room = 16 }) }
@@ -56,7 +57,7 @@ impl Claims {
         Ok(Claims { table, seat, limit })
     }
 
-    /// What claimers share.
+    /// The part of the claims that all claimers share.
     pub fn room(&self) -> &ClaimRoom
         ensures same { result.now.table_id ≡ self.now.table }
         ensures table { IsTable result.now.table_id }
@@ -64,7 +65,7 @@ impl Claims {
         &self.table.shared
     }
 
-    /// One more who claims.
+    /// A new claimer, which has claimed no number yet.
     pub fn claimer(&mut self) -> Claimer
         requires room { 0 < self.old.room }
         requires none_back { (self.old.claims ≡ 0) × (self.old.over ≡ 0) }
@@ -80,7 +81,7 @@ impl Claims {
         }
     }
 
-    /// Takes one who claimed back.
+    /// Takes a claimer back, and what it claimed.
     pub fn give_back(&mut self, claimer: Claimer)
         requires { claimer.table ≡ self.old.table }
         ensures { self.new ≡ record self.old { claims = self.old.claims + claimer.claims; over = self.old.over + as_count claimer.is_over; room = self.old.room + 1 } }
@@ -94,7 +95,8 @@ impl Claims {
         table.shared.join_seat::<Workers>(&mut self.seat, seat);
     }
 
-    /// How many numbers were claimed, once all who claimed are back: all of them where one who claimed was refused.
+    /// Ends the claims, once all claimers are back, and tells how many numbers were claimed: all of them where a claimer was
+    /// refused one.
     pub fn close(self) -> u64
         requires { self.room ≡ 16 }
         ensures sum { result ≡ self.claims }
@@ -110,7 +112,7 @@ impl Claims {
 }
 
 impl Claimer {
-    /// Whether one more number is claimed. Once none is left it never is.
+    /// Claims one more number, and tells whether one was left. Once none was left the claimer gets none any more.
     pub fn claim(&mut self, room: &ClaimRoom) -> bool
         requires { self.old.table ≡ room.now.table_id }
         ensures { self.new ≡ (if result then record self.old { claims = self.old.claims + 1 } else record self.old { is_over = true }) }
@@ -124,7 +126,7 @@ impl Claimer {
     }
 }
 
-/// One who claims numbers, beside what it shares with the others: it gives leave for as many connections as it claims
+/// A claimer as the leave of a worker: with what it shares with the others, it gives leave for as many connections as it claims
 /// numbers.
 #[derive(Drop)]
 pub struct Claiming<'a> {
@@ -136,7 +138,7 @@ pub struct Claiming<'a> {
 }
 
 impl<'a> Claiming<'a> {
-    /// One of those who share this.
+    /// The leave that a claimer gives, beside what it shares with the others.
     pub fn new(room: &'a ClaimRoom, claimer: Claimer) -> Claiming<'a>
         requires { claimer.table ≡ room.now.table_id }
         ensures { result.claimer ≡ claimer }
@@ -148,7 +150,7 @@ impl<'a> Claiming<'a> {
         }
     }
 
-    /// The one who claimed.
+    /// The claimer, taken out again.
     pub fn into_claimer(self) -> Claimer
         ensures { result ≡ self.entry.claimer }
     {

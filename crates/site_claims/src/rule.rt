@@ -45,7 +45,7 @@ impl Join<ClaimNote> for Workers {
     ghost spent = { spent };
 }
 
-/// What all who claim share. It may be used by many threads at once.
+/// What all claimers share. It may be used by many threads at once.
 pub type ClaimRoom = Shared<(), ClaimNote, u64, ClaimRule>;
 
 pub(crate) type ClaimSeat = Seat<(), ClaimNote>;

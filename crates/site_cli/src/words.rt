@@ -56,7 +56,7 @@ impl From<AllocError> for WordFault {
     }
 }
 
-/// `replay [ROWS]`.
+/// The command `replay [ROWS]`.
 fn replay_command<'a>(alloc: Global) -> Result<Command<'a>, AllocError>
     ensures app { IfOk result (λ c. app_of c ≡ replay_app) }
     ensures local { IfOk result (λ c. (fields_of c).has_globals ≡ false) }
@@ -145,7 +145,7 @@ fn serving_site<'a>(alloc: Global) -> Result<Command<'a>, AllocError>
     replay_site(alloc)?.subcommand(serve_command(alloc)?)
 }
 
-/// `drill N`.
+/// The command `drill N`.
 fn drill_command<'a>(alloc: Global) -> Result<Command<'a>, AllocError>
     ensures app { IfOk result (λ c. app_of c ≡ drill_app) }
     ensures local { IfOk result (λ c. (fields_of c).has_globals ≡ false) }

@@ -92,7 +92,8 @@ impl<K: Keeper> Engine<K> {
         Engine::with_rooms(alloc, keeper, stored, Rooms::of_program())
     }
 
-    /// The same, where the bins have so much room.
+    /// The engine of what a keeper holds, as `new` makes it, but with bins of the given room: nothing is kept of pages yet, no
+    /// edit is published, and none is pending. Refused where the rows are no site, or memory is wanting, as by `State::from_rows`.
     pub fn with_rooms(
         alloc: Global,
         keeper: K,

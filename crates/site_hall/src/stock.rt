@@ -24,7 +24,7 @@ pub struct Rooms {
 }
 
 impl Rooms {
-    /// Those of the program: room for 4,096 parts of pages, 1,024 pages by their paths and 1,024 by their targets.
+    /// The rooms of the program's bins: 4,096 parts of pages, 1,024 pages by their paths and 1,024 by their targets.
     pub fn of_program() -> Rooms
         ensures { stock_in result ≡ stock_with 4096 1024 1024 }
     {
@@ -69,7 +69,7 @@ impl Model for Stock {
 }
 
 impl Stock {
-    /// Nothing is kept yet, in bins with so much room. `Err` only where memory is wanting.
+    /// Empty bins with so much room, and a tally in which nothing is counted. `Err` only where memory is wanting.
     pub(crate) fn new(alloc: Global, rooms: Rooms) -> Result<Stock, AllocError>
         ensures { IfOk result (λ stock. stock ≡ stock_in rooms) }
     {

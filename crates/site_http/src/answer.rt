@@ -44,7 +44,7 @@ pub enum Outcome {
     Written,
     /// Writing failed. A front of it was written.
     WriteFault,
-    /// It is a late one, and memory was wanting for a part. A front of it was written.
+    /// Its parts are sent late, and memory was wanting for one. A front of it was written.
     OutOfMemory,
 }
 
@@ -344,7 +344,7 @@ fn reply_made<H: House, E: Entropy, G: Gate>(
     }
 }
 
-/// Answers what a request asks that is known by its bytes.
+/// Answers a request that is known by its bytes, so that what it asks was read before.
 pub fn answer_known<H: House, O: Sink, C: Clock, E: Entropy, G: Gate>(
     alloc: Global,
     house: &mut H,

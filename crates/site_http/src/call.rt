@@ -9,7 +9,7 @@ use edit_paths::{Edit, EditPaths, media_fits, reads_of};
 use http_heads::{Octets, Request};
 use std::alloc::{AllocError, Global};
 
-/// What is answered on a state without changing it.
+/// The answer to a call that changes nothing, on the state that it reads.
 #[derive(Clone, Copy, Debug, PartialEq, Eq)]
 pub enum Reading {
     /// The page of the path.

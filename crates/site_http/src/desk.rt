@@ -27,7 +27,7 @@ impl Drop for Desk {
 }
 
 impl Desk {
-    /// A new one. `Err` only where memory is wanting.
+    /// A new desk, at which no connection was served: an empty inbox, and no replies. `Err` only where memory is wanting.
     pub fn new(alloc: Global) -> Result<Desk, AllocError>
         ensures { IfOk result (λ desk. (house : HouseView) → AreRecent house desk.recent) }
     {

@@ -19,7 +19,7 @@ pub struct KnownRequest {
 }
 
 impl KnownRequest {
-    /// Whether bytes begin with it.
+    /// Whether bytes begin with the known request.
     pub fn begins(&self, bytes: &[u8]) -> bool
         ensures { IsTrue result → Begins self.now bytes.now }
     {
@@ -28,8 +28,8 @@ impl KnownRequest {
     }
 }
 
-/// The bytes of a request of this size, which others begin with, unless it asks to close, or they are many, or memory is wanting
-/// for them.
+/// The bytes of a request, which are the first `size` of those that came, by which it is to be known. None where it asks to close,
+/// where they are more than 1,024, or where memory is wanting for them.
 pub fn plain_bytes(alloc: Global, bytes: &[u8], size: usize, request: &Request) -> Option<Vec<u8>>
     ensures { Parses bytes.now (Whole request.now size) → IfSome result (λ b. IsPlain b.items request.now) }
 {

@@ -11,14 +11,14 @@ use std::alloc::{AllocError, Global};
 use std::marker::Model;
 use std::sync::Arc;
 
-/// Why nothing came.
+/// Why reading a connection gave nothing.
 #[derive(Clone, Copy, Debug, PartialEq, Eq)]
 pub enum Trouble {
     ReadFault,
     OutOfMemory,
 }
 
-/// What comes next.
+/// What comes next from a connection: a request, a refusal of one, the end, or a fault.
 #[derive(Drop)]
 pub enum Next {
     /// A whole request, which is taken out of the inbox, and its bytes, where it is to be known by them.
@@ -71,7 +71,7 @@ impl Model for Inbox {
 }
 
 impl Inbox {
-    /// Nothing came yet. `Err` only where memory is wanting.
+    /// An empty inbox, into which nothing came yet. `Err` only where memory is wanting.
     pub fn new(alloc: Global) -> Result<Inbox, AllocError>
         ensures { IfOk result (λ inbox. inbox ≡ []) }
     {

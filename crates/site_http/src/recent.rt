@@ -110,7 +110,7 @@ impl Model for RecentReplies {
 }
 
 impl RecentReplies {
-    /// None yet. `Err` only where memory is wanting.
+    /// Places for replies, none of which is remembered yet. `Err` only where memory is wanting.
     pub fn new(alloc: Global) -> Result<RecentReplies, AllocError>
         ensures { IfOk result (λ recent. (house : HouseView) → AreRecent house recent) }
     {
@@ -178,8 +178,8 @@ impl RecentReplies {
         }
     }
 
-    /// A reply, on the state of a number, at a moment. Where it is that of a page which may be given again until a last moment it
-    /// is remembered, unless memory is wanting for that.
+    /// Gives a reply on, and remembers it where it is that of a page which may be given again until a last moment, unless memory is
+    /// wanting for that. It was made on the state of a number, at a moment.
     pub fn given(
         &mut self,
         alloc: Global,

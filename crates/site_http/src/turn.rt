@@ -65,7 +65,8 @@ fn turn_known<H: House, O: Sink, C: Clock, E: Entropy, G: Gate>(
     }
 }
 
-/// Takes a request and answers it, with what was answered not long ago where that is the same. None is to go on.
+/// Takes the next request of a connection and answers it, with a reply of not long ago where that is the one. `None` where the
+/// connection goes on.
 pub fn turn<H: House, S: Source, O: Sink, C: Clock, E: Entropy, G: Gate>(
     alloc: Global,
     paths: &EditPaths,

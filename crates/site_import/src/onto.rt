@@ -71,7 +71,7 @@ pub fn import<S: Source>(
     }
 }
 
-/// The same, onto a state.
+/// Reads a file of rows to its end, and gives the edit that imports them onto a state, as `import` says.
 fn import_onto<S: Source>(
     alloc: Global,
     source: &mut S,

@@ -30,7 +30,7 @@ impl Model for Batch {
 }
 
 impl Batch {
-    /// The same batch again, which shares its edit with this one. `Err` only where memory is wanting.
+    /// A copy of the batch, which shares the edit with it. `Err` only where memory is wanting.
     pub fn duplicate(&self, alloc: Global) -> Result<Batch, AllocError>
         ensures { IfOk result (λ copy. copy ≡ self.now) }
     {

@@ -6,7 +6,7 @@ use crate::fault::KeeperFault;
 use crate::stored::Stored;
 use std::alloc::Global;
 
-/// What keeps the rows of a site. An implementor owns what it keeps them in: it holds no `&mut`.
+/// A keeper: the store of a site's rows. An implementor owns what it keeps them in: it holds no `&mut`.
 pub trait Keeper {
     ghost use Rattle.indexed_rows.specs.Rows.{AreValidRows};
     ghost use Rattle.site_keeper.specs.Keeper.{Kept, with_batch, and_batch, IfTold, CountsFault, LeavesBatch, StaysSteadfast};

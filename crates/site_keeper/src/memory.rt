@@ -48,7 +48,7 @@ impl Model for Calls {
 }
 
 impl Calls {
-    /// No call is made yet.
+    /// The calls of a keeper that was called no time yet, of which those that are listed are to fail.
     fn new(fails: Vec<Fail>) -> Calls
         ensures { result ≡ fresh fails.items }
     {
@@ -108,8 +108,8 @@ impl Model for MemoryKeeper {
 }
 
 impl MemoryKeeper {
-    /// Holds this, whose rows are right, each by itself. The calls with these numbers are to fail, counting all of its
-    /// calls from 1; the count stays at the greatest u64. Of a number that is listed twice the first counts.
+    /// A keeper in memory that holds what is given, whose rows are right, each by itself. The listed calls are to fail, counting
+    /// all of its calls from 1; the count stays at the greatest u64. Of a number that is listed twice the first counts.
     ///
     /// An `apply` that is to fail and to keep its batch takes memory, as one that isn't, and answers `OutOfMemory`
     /// where that is wanting. The other calls that are to fail take none.

@@ -24,7 +24,7 @@ pub struct Stored {
 }
 
 impl Stored {
-    /// The same again, which shares each row with this. `Err` only where memory is wanting.
+    /// A copy of all that is held, which shares each row with the original. `Err` only where memory is wanting.
     pub fn duplicate(&self, alloc: Global) -> Result<Stored, AllocError>
         ensures { IfOk result (λ copy. copy ≡ self.now) }
     {

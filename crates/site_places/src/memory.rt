@@ -59,7 +59,7 @@ impl Model for MemoryFile {
 }
 
 impl MemoryFile {
-    /// The file of that path and those bytes. The reads with these numbers, from 1, are to fail.
+    /// The file of a path, with its bytes. The reads whose numbers are listed, counted from 1, are to fail.
     pub fn new(path: String, bytes: Vec<u8>, failing: Vec<u64>) -> MemoryFile
         ensures { result ≡ record { path = string_bytes path; bytes = bytes.items; failing = failing.items } }
     {
@@ -111,7 +111,7 @@ impl Model for MemoryStore {
 }
 
 impl MemoryStore {
-    /// The store of that path, which holds this. The calls of its keeper with these numbers are to fail.
+    /// The store of a path, with what it holds. The calls of its keeper that are listed are to fail.
     pub fn new(path: String, stored: Stored, failing: Vec<Fail>) -> MemoryStore
         requires { AreValidRows stored.rows }
         ensures { result ≡ record { path = string_bytes path; stored = stored; failing = failing.items } }
@@ -303,7 +303,7 @@ impl MemoryPlace {
         self.returned
     }
 
-    /// The openings with these numbers are to fail, counted from here on and from 1. The count stays at the greatest u64.
+    /// The place where the openings with these numbers are to fail, counted from now on and from 1, up to the greatest u64.
     pub fn failing_at(self, failing: Vec<u64>) -> MemoryPlace
         ensures { result ≡ record self { failing = failing.items; opened = 0 } }
     {

@@ -28,7 +28,7 @@ impl Model for StoreFile {
 }
 
 impl StoreFile {
-    /// The same keeper.
+    /// The store of the real program over this keeper of a file, with the count of faults that the keeper has.
     pub fn new(keeper: FileKeeper) -> StoreFile
         ensures { result ≡ keeper.1 }
     {

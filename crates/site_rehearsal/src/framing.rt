@@ -41,7 +41,7 @@ fn stays_open(
     }
 }
 
-/// A fragment behind what is there, or its place.
+/// Appends a fragment to the page, or its place where that stays open.
 fn add_fragment(
     alloc: Global,
     visitor: &Visitor<'_>,
@@ -64,7 +64,7 @@ fn add_fragment(
     add_child(alloc, frame, &child)
 }
 
-/// A part of a page behind what is there.
+/// Appends a part of a page: its bytes, the fragment in its place, or the place where it stays open.
 fn add_part(
     alloc: Global,
     visitor: &Visitor<'_>,
@@ -82,7 +82,7 @@ fn add_part(
     }
 }
 
-/// The parts of a page behind what is there.
+/// Appends the parts of a page, one after the other.
 fn add_all(
     alloc: Global,
     visitor: &Visitor<'_>,

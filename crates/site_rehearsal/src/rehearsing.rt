@@ -50,7 +50,7 @@ fn put_seat(seats: &mut BTreeMap<u32, Seat>, requester: u32, seat: Seat) -> Resu
     }
 }
 
-/// A turn.
+/// Takes a turn of a requester over the engine, and gives the reply to it.
 fn take_turn<K: Keeper>(
     alloc: Global,
     hall: &mut Engine<K>,

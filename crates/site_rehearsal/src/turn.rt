@@ -43,7 +43,7 @@ pub enum Act {
     },
 }
 
-/// What is answered.
+/// The reply to an act of a requester.
 #[derive(Drop)]
 pub enum Reply {
     /// The number of the newest state.

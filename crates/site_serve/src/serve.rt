@@ -110,7 +110,8 @@ where
     }
 }
 
-/// The same, over a new site, with new claims, and lists that are empty and have the room.
+/// Serves the connections of the stations' doors, as `serve_all` does, over a site, claims and lists that were just made: no pass
+/// is made yet, nothing is claimed, and the lists are empty, with room for as many workers as there are stations.
 fn serve_at<
     'r,
     K: Keeper + Send + Drop,

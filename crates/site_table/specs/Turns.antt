@@ -48,7 +48,7 @@ counts_of_keep (Err fault) = zeros
 abbrev pub HasOut : Place → (HallPart → Type 0) → Type 0
 HasOut me P = (old : HallPart) × (me ≡ (with_hall (Some old) (with_desk me.0.desk (bearing (pass_at me))), (0, nothing) ∷ rest me.1)) × P old
 
--- The same, where the seat has the desk out, too.
+-- The seat of a pass has both the hall and the desk out, the hall as it was when it came out, and this holds of the hall.
 abbrev pub HasBothOut : Place → (HallPart → Type 0) → Type 0
 HasBothOut me P = (old : HallPart) × (me ≡ (with_hall (Some old) (with_desk (Some (part_at me)) (bearing (pass_at me))), (0, nothing) ∷ rest me.1)) × P old
 

@@ -94,35 +94,35 @@ impl<K: Keeper> Play<Lodging<K>, Note> for Telling {
     ghost then = { λ _ old _ new. TellsFaults noted_in desk_in old new };
 }
 
-/// The hall comes back into its slot.
+/// The step by which the hall comes back into its slot.
 pub struct GivingHall;
 
 impl<K: Keeper> Play<Lodging<K>, Note> for GivingHall {
     ghost then = { λ _ old _ new. GivesBack old new };
 }
 
-/// The desk comes back into its slot.
+/// The step by which the desk comes back into its slot.
 pub struct GivingDesk;
 
 impl<K: Keeper> Play<Lodging<K>, Note> for GivingDesk {
     ghost then = { λ _ old _ new. GivesDeskBack old new };
 }
 
-/// A new pass is drawn.
+/// The step by which a new pass is drawn.
 pub struct Drawing;
 
 impl<K: Keeper> Play<Lodging<K>, Note> for Drawing {
     ghost then = { λ _ old _ new. Draws old new };
 }
 
-/// Two passes meet.
+/// The step by which two passes meet, and tell each other what they have seen.
 pub struct Meeting;
 
 impl<K: Keeper> Play<Lodging<K>, Note> for Meeting {
     ghost then = { λ _ old _ new. Meets old new };
 }
 
-/// The first pass of a seat gets a seat of its own, or a pass comes to a seat.
+/// The steps by which the first pass of a seat gets a seat of its own, and by which a pass comes to a seat.
 pub struct Seating;
 
 impl Split<Note> for Seating {

@@ -169,7 +169,7 @@ fn count_back<T: Count, K: Keeper + Drop>(room: &Room<K>, seat: &mut Place<K>, h
     open_gate(room, seat);
 }
 
-/// The same, after a turn that did this.
+/// Gives the hall back for a pass, after a turn that left the log as it was and did this deed, which is counted.
 pub fn count_deed<K: Keeper + Drop>(room: &Room<K>, seat: &mut Place<K>, hall: HallHome, deed: Deed)
     requires room { (seat.old.table_id ≡ room.now.table_id) × IsRoom room.now.table_id }
     requires out { HasCounted (counts_of deed) seat.old.me hall }
@@ -186,7 +186,8 @@ pub fn count_deed<K: Keeper + Drop>(room: &Room<K>, seat: &mut Place<K>, hall: H
     }
 }
 
-/// Gives the hall back for a pass that has the desk, after a turn of this kind in which so many edits came into the log.
+/// Gives the hall back for a pass that has the desk, after a turn of the kind `T` in which the log grew by `grown` edits; the
+/// table's first word follows.
 pub fn follow_back<T: Kind, K: Keeper + Drop>(
     room: &Room<K>,
     seat: &mut Place<K>,

@@ -57,7 +57,7 @@ impl<'a, R: Wait, K: Keeper> Guest<'a, R, K> {
     }
 }
 
-/// One more where it is answered that the keeper failed, up to the greatest u64.
+/// How often it was answered that the keeper failed, once this answer is counted, up to the greatest u64.
 fn counted(keepers: u64, answer: &Answer) -> u64
     ensures { result ≡ keepers_after answer.now keepers }
 {
@@ -67,7 +67,7 @@ fn counted(keepers: u64, answer: &Answer) -> u64
     }
 }
 
-/// One more where something wasn't kept, up to the greatest u64.
+/// How often something wasn't kept, once this answer is counted, up to the greatest u64.
 fn unkept_after(unkept: u64, answer: &Result<(), AllocError>) -> u64
     ensures is { result ≡ unkept_by answer.now unkept }
     ensures grows { unkept ≤ result }
@@ -83,7 +83,7 @@ impl<R: Wait, K: Keeper + Drop> House for Guest<'_, R, K> {
 
     ghost sees = { λ g. guest_of g.pass.now g.pass.ghost_name g.keepers g.unkept };
 
-    /// As each house does; it is one turn, in which the hall stays as it is.
+    /// The newest state, as each house gives it, in one turn of the pass, in which the hall stays as it is.
     fn snapshot(&mut self, alloc: Global) -> Result<Arc<State>, AllocError>
         ensures moves { Moves (guest_of self.old.pass.now self.old.pass.ghost_name self.old.keepers self.old.unkept) (guest_of self.new.pass.now self.new.pass.ghost_name self.new.keepers self.new.unkept) }
         ensures own { AreOwn (guest_of self.new.pass.now self.new.pass.ghost_name self.new.keepers self.new.unkept) }
@@ -96,7 +96,8 @@ impl<R: Wait, K: Keeper + Drop> House for Guest<'_, R, K> {
         self.pass.snapshot(self.rt, alloc, self.room)
     }
 
-    /// As each house does; it is one turn, whose answer is that of the hall, which has the edit then or not by what it answered.
+    /// Makes an edit, as each house does, in one turn of the pass, whose answer is that of the hall: the hall has the edit then or
+    /// not by what it answered.
     fn commit(
         &mut self,
         alloc: Global,
@@ -121,8 +122,8 @@ impl<R: Wait, K: Keeper + Drop> House for Guest<'_, R, K> {
         answer
     }
 
-    /// As each house looks; it is one turn, in which the hall is asked for that key in that bin and answers so. The tally of the pass
-    /// rises by the answer, as that of the hall does.
+    /// What is kept under a key in a bin, as each house finds it, in one turn of the pass, in which the hall is asked for that key
+    /// in that bin and answers so. The tally of the pass rises by the answer, as that of the hall does.
     fn look(&mut self, alloc: Global, bin: Bin, key: &Key) -> Result<Found, AllocError>
         ensures moves { Moves (guest_of self.old.pass.now self.old.pass.ghost_name self.old.keepers self.old.unkept) (guest_of self.new.pass.now self.new.pass.ghost_name self.new.keepers self.new.unkept) }
         ensures own { AreOwn (guest_of self.new.pass.now self.new.pass.ghost_name self.new.keepers self.new.unkept) }
@@ -134,8 +135,8 @@ impl<R: Wait, K: Keeper + Drop> House for Guest<'_, R, K> {
         self.pass.look(self.rt, alloc, self.room, bin, key)
     }
 
-    /// As each house keeps; it is one turn, in which the hall keeps that under that key in that bin, or doesn't. The tally of the pass
-    /// rises by the answer, as that of the hall does.
+    /// Keeps something under a key in a bin, as each house does, in one turn of the pass, in which the hall keeps it there or
+    /// doesn't. The tally of the pass rises by the answer, as that of the hall does.
     fn keep(&mut self, alloc: Global, bin: Bin, key: Key, kept: Kept) -> Result<(), AllocError>
         requires { MayBeKeptIn (guest_of self.old.pass.now self.old.pass.ghost_name self.old.keepers self.old.unkept) key kept }
         ensures moves { Moves (guest_of self.old.pass.now self.old.pass.ghost_name self.old.keepers self.old.unkept) (guest_of self.new.pass.now self.new.pass.ghost_name self.new.keepers self.new.unkept) }

@@ -108,7 +108,7 @@ impl<K: Keeper + Drop> Site<K> {
 }
 
 impl<K: Keeper> Site<K> {
-    /// What the threads of the site share.
+    /// The room: what the threads of the site share.
     pub fn room(&self) -> &Room<K>
         ensures same { result.now.table_id ≡ self.now.table }
         ensures room { IsRoom result.now.table_id }

@@ -53,7 +53,7 @@ const GREETING: &str =
 const CLOCK: &str =
     "{\"age\":0,\"cell\":\"block:one\",\"hide\":false,\"kind\":\"clock\",\"label\":\"\",\"name\":null,\"paths\":[],\"region\":\"aside\",\"roles\":[],\"text\":null,\"weight\":0}\n";
 
-// The same, which may be shown for a minute.
+// Aside on each page, the time, which may be shown for a minute.
 const SLOW_CLOCK: &str =
     "{\"age\":60,\"cell\":\"block:one\",\"hide\":false,\"kind\":\"clock\",\"label\":\"\",\"name\":null,\"paths\":[],\"region\":\"aside\",\"roles\":[],\"text\":null,\"weight\":0}\n";
 
@@ -319,7 +319,7 @@ fn what_is_told_as_json_is_kept(rt: HostRuntime) {
             built: [1, 0, 1, 0, 0, 0, 0, 0],
             pieces: &[],
         },
-        // The same, for a session.
+        // A listing that may be shown for a minute, asked for with a session.
         Case {
             placed: RECENT,
             moments: &[1000, 1060, 1061, 1062],

@@ -37,7 +37,7 @@ impl Model for Turns {
 }
 
 impl Turns {
-    /// No turn yet.
+    /// A list of turns in which none is yet.
     pub fn new(alloc: Global) -> Turns {
         Turns {
             list: Vec::new(alloc),

@@ -117,7 +117,7 @@ fn free_address(rt: &HostRuntime) -> io::Result<SocketAddr> {
     TcpListener::bind(rt, "127.0.0.1:0")?.local_addr()
 }
 
-// These words, once the store at the place is filled.
+// The words that serve a store at an address, once the store at the place is filled; none where it can't be filled.
 fn ready(
     rt: &HostRuntime,
     address: SocketAddr,
@@ -184,7 +184,8 @@ fn reads_what_it_wrote(rt: &HostRuntime, mut peer: TcpStream) -> io::Result<bool
     Ok(is_answered(rt, &mut peer, READ, NEW_PAGE)? && good)
 }
 
-// The same at an address, once somebody listens there.
+// Whether a socket to an address, once somebody listens there, reads the old page, is told that its edit made the next state, and
+// then reads the new page.
 fn one_after_another(rt: &HostRuntime, address: SocketAddr) -> io::Result<bool> {
     for _ in 0..10_000_000u32 {
         let Ok(peer) = TcpStream::connect(rt, address) else {
@@ -206,7 +207,8 @@ fn asks_once(rt: &HostRuntime, address: SocketAddr) -> io::Result<()> {
     Ok(())
 }
 
-// The same, and then sockets that use up the leave to serve, whatever became of the first.
+// Whether a first socket reads what it wrote, as `one_after_another` tells; then more sockets use up the leave to serve, whatever
+// became of the first.
 fn all_asked(rt: &HostRuntime, address: SocketAddr) -> io::Result<bool> {
     let good = one_after_another(rt, address);
     for _ in 0..4u32 {

@@ -135,7 +135,7 @@ pub(crate) struct Seen {
     pub(crate) told: u64,
 }
 
-/// A new store.
+/// What a new store holds.
 pub(crate) const NOTHING: Seen = Seen {
     rows: 0,
     next_node: 0,
@@ -146,7 +146,7 @@ pub(crate) const NOTHING: Seen = Seen {
     told: 0,
 };
 
-/// After `BEGIN`.
+/// What is held after `BEGIN`.
 pub(crate) const BEGUN: Seen = Seen {
     rows: 11,
     next_node: 2,
@@ -157,7 +157,7 @@ pub(crate) const BEGUN: Seen = Seen {
     told: 7,
 };
 
-/// After `EDIT` too.
+/// What is held after `BEGIN` and `EDIT`.
 pub(crate) const EDITED: Seen = Seen {
     rows: 10,
     next_node: 3,

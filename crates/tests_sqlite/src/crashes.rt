@@ -83,8 +83,8 @@ fn used<S: Alter + Drop>(
     Some((kept, seen, keeper.into_connection().into_store()))
 }
 
-/// The same in files, which come back, and where nothing is held if they aren't opened. None where no keeper is opened over
-/// them, or memory is wanting.
+/// Keeps a batch in the database of these files, if there is one: whether it is told to be kept, what is held then, which is
+/// nothing where the files aren't opened, and the files. None where no keeper is opened over them, or memory is wanting.
 fn used_in<D: Disk + Drop>(
     rt: &HostRuntime,
     files: Files<D>,

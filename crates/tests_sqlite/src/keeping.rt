@@ -216,12 +216,12 @@ fn kept_in<S: Alter + Drop>(
     }
 }
 
-/// The same of a file that is there or made.
+/// What the keeper of a file holds, where the file is made if none is there, and what it holds once a batch is kept.
 fn kept_at(rt: &HostRuntime, path: &str, words: &Words) -> [Result<Seen, KeeperFault>; 2] {
     kept_in(rt.alloc(), open_or_make_keeper(rt, path), words)
 }
 
-/// The same of one that is there.
+/// What the keeper of a file that is there holds, and what it holds once a batch is kept.
 fn kept_there(rt: &HostRuntime, path: &str, words: &Words) -> [Result<Seen, KeeperFault>; 2] {
     kept_in(rt.alloc(), open_keeper(rt, path), words)
 }

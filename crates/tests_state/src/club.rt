@@ -25,7 +25,7 @@ const ROWS: &[u8] = b"{\"cell\":\"site\",\"front\":\"/node\",\"name\":\"Site\"}
 {\"age\":null,\"cell\":\"listing:frontpage\",\"path\":\"/node\",\"promoted\":true,\"recent\":null,\"term\":null,\"title\":\"Home\",\"types\":[]}
 ";
 
-/// That site, whose tags were invalidated so often.
+/// The site of `ROWS`, with these counts of how often its tags were invalidated.
 pub fn site(alloc: Global, counts: Counts) -> Result<State, AllocError> {
     let lines = Vec::from_slice(alloc, ROWS)?;
     site_of(alloc, lines, counts)

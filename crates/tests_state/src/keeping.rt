@@ -61,7 +61,7 @@ fn entry_on(alloc: Global, state: &State) -> Result<Entry, AllocError> {
     })
 }
 
-/// The same, of the first node after one edit.
+/// An entry that was made on the site after one edit, for the member at moment 100, and holds until 160.
 fn entry(alloc: Global) -> Result<Entry, AllocError> {
     let state = site_after(alloc, 1)?;
     entry_on(alloc, &state)
