@@ -1,12 +1,12 @@
 //! Through which doors pass sockets to each other.
 ghost use Rattle.std.specs.Prelude.{◌≡◌, ◌≤◌, ◌++◌, ◌∷◌, [], IfErr, IfNone, IfSome, OnErr, OnOk};
 ghost use Rattle.std.specs.VecDeque.{deque_len};
-ghost use Rattle.request_framing.specs.Limits.{passed_sockets, passed_bytes};
+ghost use Rattle.request_framing.specs.Limits.{sockets, passed_sockets, passed_bytes};
 ghost use Rattle.request_framing.specs.Gives.{IsRequest};
 
 use crate::guest::Guest;
 use mio::Waker;
-use request_framing::{Framing, PASSED_BYTES, PASSED_SOCKETS, Parcel};
+use request_framing::{Framing, PASSED_BYTES, PASSED_SOCKETS, Parcel, SOCKETS};
 use std::alloc::Global;
 use std::collections::VecDeque;
 use std::marker::PhantomData;
@@ -59,8 +59,9 @@ struct Queues<F: Framing> {
     held: usize,
     back: VecDeque<Box<Guest>>,
     has_ended: bool,
-    ghost sockets: { deque_len asking ≤ passed_sockets },
+    ghost asked: { deque_len asking ≤ passed_sockets },
     ghost bytes: { held ≤ passed_bytes },
+    ghost returned: { deque_len back ≤ sockets },
 }
 
 impl<F: Framing> Queues<F> {
@@ -84,14 +85,14 @@ impl<F: Framing> Queues<F> {
         }
     }
 
-    /// A socket more comes back, behind the others, unless the door has ended.
+    /// A socket more comes back, behind the others, unless the door has ended or so many are on their way as it may hold.
     fn come_back(&mut self, guest: Box<Guest>) -> Result<(), Box<Guest>>
         ensures last { OnOk result (self.new.back.items ≡ self.old.back.items ++ guest ∷ []) }
         ensures same { OnErr result (self.new.back.items ≡ self.old.back.items) }
         ensures others { self.new.asking.items ≡ self.old.asking.items }
         ensures refused { IfErr result (λ back. back ≡ guest) }
     {
-        if self.has_ended {
+        if self.has_ended || self.back.len() >= SOCKETS {
             return Err(guest);
         }
         match self.back.push_back(guest) {
@@ -185,7 +186,8 @@ impl<F: Framing> Hatch<F> {
         Ok(())
     }
 
-    /// Passes a socket back to the door, and wakes it. The socket comes back where the door has ended, or memory is wanting.
+    /// Passes a socket back to the door, and wakes it. The socket comes back where the door has ended, as many are on their way to it as
+    /// it may hold, or memory is wanting.
     pub(crate) fn come_back(&self, guest: Box<Guest>) -> Result<(), Box<Guest>>
         ensures { IfErr result (λ back. back ≡ guest) }
     {

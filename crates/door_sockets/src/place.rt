@@ -153,7 +153,8 @@ impl<F: Framing> Place<F> {
         }
     }
 
-    /// Passes a socket back to the door of a number. It comes back where that has ended, or memory is wanting.
+    /// Passes a socket back to the door of a number. It comes back where that has ended, as many are on their way to it as it may hold,
+    /// or memory is wanting.
     pub fn send_back(&self, number: usize, guest: Box<Guest>) -> Result<(), Box<Guest>>
         ensures { IfErr result (λ back. back ≡ guest) }
     {
