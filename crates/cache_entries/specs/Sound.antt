@@ -1,6 +1,6 @@
 -- When what is kept is sound: it was made on a state of the log, and depends on no more than it says.
 -- https://www.drupal.org/docs/drupal-apis/render-api/cacheability-of-render-arrays
-use Rattle.std.specs.Prelude.{ℕ, List, ◌≡◌, ◌≤◌, Option, None, Contains, length, map}
+use Rattle.std.specs.Prelude.{ℕ, List, ◌≡◌, ◌≤◌, Option, Contains, length, map}
 use Rattle.std.specs.Arc.{arc_value}
 use Rattle.cacheability.specs.declared.context.Context.{Context}
 use Rattle.cacheability.specs.declared.tag.Tag.TheVariants as tag
@@ -12,6 +12,7 @@ use Rattle.content_state.specs.declared.commit.Commit.{Commit}
 use Rattle.content_state.specs.Ask.{IsAsk}
 use Rattle.content_state.specs.Context.{Visit}
 use Rattle.content_state.specs.Plan.{Plan}
+use Rattle.content_state.specs.Viewer.{nobody}
 use Rattle.indexed_rows.specs.Rows.{InOrder}
 use Rattle.content_state.specs.SiteRules.{IsValidState}
 use Rattle.state_commits.specs.Edits.{after}
@@ -34,11 +35,11 @@ pub record IsOf (base : State) (log : List Commit) (state : State) : Type 0 wher
   pub state_is : state ≡ after base log count
   pub valid : IsValidState state
 
--- what is asked for is what is kept: the page of that path, or of that target, which is kept for nobody's session
+-- what is asked for is what is kept: the page of that path, or of that target, which is kept for nobody alone
 abbrev pub IsAskedFor : Subject → Viewer → Ask → Type 0
 IsAskedFor (subject.Fragment f) viewer ask = Unit {0}
 IsAskedFor (subject.Page path) viewer ask = ask.path ≡ path
-IsAskedFor (subject.Target target) viewer ask = (ask.target ≡ target) × (viewer.session ≡ None)
+IsAskedFor (subject.Target target) viewer ask = (ask.target ≡ target) × (viewer ≡ nobody)
 
 -- a visit fits a key: it asks for what is kept, and the key has the values of some contexts there
 pub record Fits (key : Key) (v : Visit) : Type 0 where
