@@ -4,3 +4,4 @@ pub mod Keeping
 pub mod Leaving
 pub mod Making
 pub mod Laws
+pub mod Standing

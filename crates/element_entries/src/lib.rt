@@ -10,6 +10,7 @@ mod laws;
 mod leaving;
 mod making;
 mod reader;
+mod standing;
 
 pub use finding::{if_fresh, is_fresh};
 pub use first::{Declared, FirstContexts, declared_by, first_contexts};
@@ -18,3 +19,4 @@ pub use keys::{duplicate_subject, first_key, key_beside, key_of, shared_values, 
 pub use laws::entries_are_made_on_states;
 pub use making::{Joined, entry_of};
 pub use reader::Reader;
+pub use standing::Standing;

@@ -1,9 +1,11 @@
 //! For whom something is shown.
 ghost use Rattle.std.specs.Prelude.{◌≡◌, IfOk};
 ghost use Rattle.site_access.specs.Account.{IsAccountOf};
+ghost use Rattle.element_entries.specs.Standing.{IsStandingOf};
 
 use crate::first::{Declared, first_contexts};
 use crate::keys::shared_values;
+use crate::standing::Standing;
 use cache_contexts::ContextValue;
 use content_rows::Items;
 use content_state::{Ask, State, Viewer};
@@ -70,6 +72,27 @@ impl<'a> Reader<'a> {
         Ok(Reader {
             state,
             account,
+            ask,
+            moment,
+            required_values: Some(values),
+        })
+    }
+
+    /// The same reader as `new` gives, of the viewer of what stands on the state, whose values of the required contexts it bears. `Err`
+    /// only where these are held as often as can be counted.
+    pub fn standing(
+        state: &'a State,
+        standing: &'a Standing,
+        ask: &'a Ask,
+        moment: u64,
+    ) -> Result<Reader<'a>, AllocError>
+        requires { IsStandingOf state.now standing.now.account.viewer standing.now }
+        ensures { IfOk result (λ reader. reader ≡ record { state = state.now; viewer = standing.now.account.viewer; ask = ask.now; moment = moment }) }
+    {
+        let values = standing.required_values.share()?;
+        Ok(Reader {
+            state,
+            account: &standing.account,
             ask,
             moment,
             required_values: Some(values),
