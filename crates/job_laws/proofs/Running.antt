@@ -23,7 +23,8 @@ use Rattle.site_jobs.specs.declared.fault.NoJob.{NoJob}
 use Rattle.site_jobs.specs.declared.fault.NoJob.TheVariants as none
 use Rattle.site_jobs.specs.declared.job.JobEnd.{JobEnd}
 use Rattle.site_jobs.specs.declared.job.JobEnd.TheVariants as job_end
-use Rattle.site_places.specs.Place.{PlaceView, DoorBack, HoldsMade, HoldsTold, KeeperBack, held}
+use Rattle.site_places.specs.Place.{Known, PlaceView, DoorBack, HoldsMade, HoldsTold, KeeperBack}
+use Rattle.site_places.specs.Place as places
 use Rattle.site_places.specs.declared.place.NoDevice.{NoDevice}
 use Rattle.site_places.specs.declared.place.NoDevice.TheVariants as device
 use Rattle.site_hall.specs.Hall.{HallView}
@@ -38,6 +39,7 @@ use Rattle.site_drill.specs.declared.job.DrillEnd.{DrillEnd}
 use Rattle.site_drill.specs.declared.job.DrillEnd.TheVariants as drill_end
 use Rattle.site_cli.specs.Drilling.{DrillsOrStarves, status_of_drill}
 use Rattle.site_cli.specs.Jobs.{ImportsOrNot, TellsOrNot, around_job, status_of_job}
+use Rattle.site_cli.specs.Load.{OfFile}
 use Rattle.site_cli.specs.Outside.{Outside, HasCause, Starves}
 use Rattle.site_cli.specs.Run.{IsSiteOf, Replays, ReplaysFileOrStarves, ReplaysOrStarves, Runs, RunsWithCause, status_of}
 use Rattle.site_cli.specs.Serving.{HasServingCause, Serves, front_of, status_of_serve}
@@ -166,9 +168,9 @@ file_fault told base (why.Cell f) text site is says =
 file_fault told base why.Source text site is says = absurd cc
 file_fault told base why.OutOfMemory text site is says = absurd cc
 
-no_file_site : (bytes : Option (List ℕ)) (fault : ReadFault) (text told : List ℕ) (base : State) → IsSiteFault bytes fault → fault_text fault ≡ Some text → bytes ≡ Some told → IsSiteOf bytes base → ⊥
-no_file_site bytes fault text told base is says there site =
-    file_fault told base fault text (subst (λ (o : Option (List ℕ)). IsSiteOf o base) there site) (subst (λ (o : Option (List ℕ)). IsSiteFault o fault) there is) says
+no_file_site : (file : Known (List ℕ)) (fault : ReadFault) (text told : List ℕ) (base : State) → OfFile file (λ bytes. IsSiteFault bytes fault) → fault_text fault ≡ Some text → file ≡ places.there told → IsSiteOf (Some told) base → ⊥
+no_file_site file fault text told base is says here site =
+    file_fault told base fault text site (subst (λ (f : Known (List ℕ)). OfFile f (λ bytes. IsSiteFault bytes fault)) here is) says
 
 -- one keeper holds one state
 one_state : (holds : Kept) (base other : State) → Holds (Some holds) base → Holds (Some holds) other → base ≡ other
@@ -183,7 +185,7 @@ no_stored_site kept text holds base refused there held site =
 
 -- ---- a file
 
-answers_file : (path : List ℕ) (old new : Outside) (status : ℕ) → ReplaysFileOrStarves path old new status → HasCause old new status → NothingFails old new → NoneTold status → AnswersOrFaults (held (old.place.file path)) old new status
+answers_file : (path : List ℕ) (old new : Outside) (status : ℕ) → ReplaysFileOrStarves path old new status → HasCause old new status → NothingFails old new → NoneTold status → AnswersOrFaults (old.place.file path) old new status
 answers_file path old new status (inl (inl file)) cause nothing told =
     elim (by_nine file.base old new status file.replays cause nothing told (is_nine status)) [
       | inl all ↦ inl (record { base = file.base; site = file.site; answers = all })
@@ -195,7 +197,7 @@ answers_file path old new status (inl (inr refused)) cause nothing told = inr (i
   is_fault = refused.is_fault;
   fault_says = refused.says;
   says = record { printed = printed refused.text old.written new.written old.writing new.writing nothing.output refused.sink; status_is = refused.status_is };
-  no_site = λ bytes base there site. no_file_site (held (old.place.file path)) refused.fault refused.text bytes base refused.is_fault refused.says there site;
+  no_site = λ bytes base there site. no_file_site (old.place.file path) refused.fault refused.text bytes base refused.is_fault refused.says there site;
 }))
 answers_file path old new status (inr (inl fails)) cause nothing told = absurd (told.place fails.status_is)
 answers_file path old new status (inr (inr starves)) cause nothing told = inr (inr starves.status_is)

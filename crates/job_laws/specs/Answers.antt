@@ -12,7 +12,7 @@ use Rattle.site_hall.specs.Hall.{HallView}
 use Rattle.site_jobs.specs.Ground.{Holds, IsNoGround, IsNoSiteOf, IsSite}
 use Rattle.site_jobs.specs.Jobs.{KeepsImport, IsRefusedBy, IsRefusedFile, checked, exported}
 use Rattle.site_jobs.specs.Texts.{fault_text, imported_text}
-use Rattle.site_places.specs.Place.{PlaceView, held, HoldsMade, HoldsTold}
+use Rattle.site_places.specs.Place.{Known, there, PlaceView, HoldsMade, HoldsTold}
 use Rattle.site_serve.specs.Stations.{StationView}
 use Rattle.site_alone.specs.Sites.{starter_site}
 use Rattle.serve_store.specs.Job.{IsOpened, ServedAt, ToServe}
@@ -24,6 +24,7 @@ use Rattle.site_drill.specs.Drill.{IsDrilled, drill_requests, drill_site}
 use Rattle.site_drill.specs.Lines.{drill_text}
 use Rattle.site_drill.specs.Stops.{AreNoRequests}
 use Rattle.site_drill.specs.declared.figures.Figures.{Figures}
+use Rattle.site_cli.specs.Load.{OfFile}
 use Rattle.site_cli.specs.Outside.{Outside}
 use Rattle.site_cli.specs.Run.{IsSiteOf, Replays, Runs, RunsWithCause}
 use Rattle.site_cli.specs.Words.{usage, Asked, replay, serves, imports, exports, checks, lists, drills}
@@ -78,22 +79,23 @@ abbrev pub AnswersOrWants : State → Outside → Outside → ℕ → Type 0
 AnswersOrWants base old new status = AnswersInput base old new status ⊎ Wants status
 
 -- the input was answered over the site of a file
-pub record AnswersFile (bytes : Option (List ℕ)) (old new : Outside) (status : ℕ) : Type 0 where
+pub record AnswersFile (file : Known (List ℕ)) (old new : Outside) (status : ℕ) : Type 0 where
   pub base : State
-  pub site : IsSiteOf bytes base
+  pub site : OfFile file (λ bytes. IsSiteOf bytes base)
   pub answers : AnswersInput base old new status
 
 -- the rows of the file are no site, and the first fault was printed
-pub record FaultsFile (bytes : Option (List ℕ)) (old new : Outside) (status : ℕ) : Type 0 where
+pub record FaultsFile (file : Known (List ℕ)) (old new : Outside) (status : ℕ) : Type 0 where
   pub fault : ReadFault
   pub text : List ℕ
-  pub is_fault : IsSiteFault bytes fault
+  pub is_fault : OfFile file (λ bytes. IsSiteFault bytes fault)
   pub fault_says : fault_text fault ≡ Some text
   pub says : Says text 3 old new status
-  pub no_site : (told : List ℕ) (base : State) → bytes ≡ Some told → IsSiteOf bytes base → ⊥
+  pub no_site : (told : List ℕ) (base : State) → file ≡ there told → IsSiteOf (Some told) base → ⊥
 
-abbrev pub AnswersOrFaults : Option (List ℕ) → Outside → Outside → ℕ → Type 0
-AnswersOrFaults bytes old new status = AnswersFile bytes old new status ⊎ (FaultsFile bytes old new status ⊎ Wants status)
+-- of a file that the place told is not there, memory is wanting
+abbrev pub AnswersOrFaults : Known (List ℕ) → Outside → Outside → ℕ → Type 0
+AnswersOrFaults file old new status = AnswersFile file old new status ⊎ (FaultsFile file old new status ⊎ Wants status)
 
 -- ---- over a store
 
@@ -191,7 +193,7 @@ DrillsOrFaults number old new status =
 abbrev pub Completes : Option Asked → Outside → Outside → ℕ → Type 0
 Completes None old new status = Says usage 2 old new status ⊎ Wants status
 Completes (Some (replay None)) old new status = AnswersOrWants starter_site old new status
-Completes (Some (replay (Some path))) old new status = AnswersOrFaults (held (old.place.file path)) old new status
+Completes (Some (replay (Some path))) old new status = AnswersOrFaults (old.place.file path) old new status
 Completes (Some (serves what)) old new status = ServesOrFaults what old new status
 Completes (Some (imports path)) old new status = ImportsOrFaults path old new status
 Completes (Some (exports path)) old new status = TellsOrFaults exported path old new status

@@ -3,29 +3,31 @@ use Rattle.std.proofs.Common.{◌≡◌, ◌∙◌, ◌⊎◌, ◌+◌, ◌-◌,
 use Rattle.std.specs.Prelude.{◌<◌, ◌≤◌}
 use Rattle.content_state.specs.State.{State}
 use Rattle.site_io.specs.Told.{Rose}
-use Rattle.site_files.specs.Rows.{IsToldBy, IsSiteFault}
+use Rattle.site_files.specs.Rows.{IsSiteFault}
 use Rattle.site_files.specs.declared.fault.ReadFault.{ReadFault}
 use Rattle.site_files.specs.declared.fault.ReadFault.TheVariants as why
-use Rattle.site_places.specs.Place.{Known, untold, absent, there, held, rows_given, rows_returned, PlaceView, HasTold, OpeningFails, RowsFail}
-use Rattle.site_cli.specs.Load.{ReadingFails}
+use Rattle.site_places.specs.Place.{Known, untold, absent, there, rows_given, rows_returned, PlaceView, HasTold, OpeningFails, RowsFail}
+use Rattle.site_cli.specs.Load.{OfFile, ReadingFails}
 use Rattle.serve_store.specs.Job.{ToServe}
 use Rattle.site_cli.specs.Serving.{HasServingCause, Serves}
 use Rattle.site_cli.specs.Run.{IsSiteOf, ReplaysOrStarves, ReplaysFileOrStarves, Runs, RunsJob, RunsWithCause}
 use Rattle.site_cli.specs.Outside.{Outside, Starves}
 use Rattle.site_cli.specs.Words.{Asked, replay, serves, imports, exports, checks, lists, drills}
 
--- rows that a device told are those that the place told of it beforehand
-pub told_before : (bytes : Known (List ℕ)) (left : Option (List ℕ)) (P : List ℕ → Type 0) → HasTold bytes left → IsToldBy left P → IsToldBy (held bytes) P
-told_before untold left P has told = tt
-told_before absent left P has told = absurd has
-told_before (there bytes) left P has told = subst (λ (o : Option (List ℕ)). IsToldBy o P) has told
+-- the site of a device of rows is that of the file of which the place told beforehand
+pub site_before : (file : Known (List ℕ)) (left : Option (List ℕ)) (base : State) → HasTold file left → IsSiteOf left base → OfFile file (λ bytes. IsSiteOf bytes base)
+site_before untold left base has is = record { told = tt; counts = is.counts; number = is.number; valid = is.valid }
+site_before absent left base has is = absurd has
+site_before (there bytes) left base has is = subst (λ (o : Option (List ℕ)). IsSiteOf o base) has is
 
--- and so are their faults
-pub fault_before : (bytes : Known (List ℕ)) (left : Option (List ℕ)) (fault : ReadFault) → HasTold bytes left → IsSiteFault left fault → IsSiteFault (held bytes) fault
-fault_before bytes left (why.Line n f) has is = told_before bytes left _ has is
-fault_before bytes left (why.Cell f) has is = told_before bytes left _ has is
-fault_before bytes left why.Source has is = tt
-fault_before bytes left why.OutOfMemory has is = tt
+-- and so are the faults of its rows
+pub fault_before : (file : Known (List ℕ)) (left : Option (List ℕ)) (fault : ReadFault) → HasTold file left → IsSiteFault left fault → OfFile file (λ bytes. IsSiteFault bytes fault)
+fault_before untold left (why.Line n f) has is = tt
+fault_before untold left (why.Cell f) has is = tt
+fault_before untold left why.Source has is = tt
+fault_before untold left why.OutOfMemory has is = tt
+fault_before absent left fault has is = absurd has
+fault_before (there bytes) left fault has is = subst (λ (o : Option (List ℕ)). IsSiteFault o fault) has is
 
 -- a device without faults has some once its count rose
 pub some_rose : (old new : ℕ) → old ≡ 0 → Rose old new → 0 < new
@@ -60,7 +62,7 @@ one_rose old new (inr rows) = inr rows.rose
 
 -- a connection over the site of a file, once the place has its rows back
 pub over_file : (path : List ℕ) (base : State) (left written : Option (List ℕ)) (reading writing : ℕ) (before mid : PlaceView) (new : Outside) (status : ℕ)
-    → mid ≡ before → IsSiteOf (held (before.file path)) base
+    → mid ≡ before → OfFile (before.file path) (λ bytes. IsSiteOf bytes base)
     → ReplaysOrStarves base (record { left = left; written = written; reading = reading; writing = writing; place = mid }) new status
     → ReplaysFileOrStarves path (record { left = left; written = written; reading = reading; writing = writing; place = before }) new status
 over_file path base left written reading writing before mid new status same site does =

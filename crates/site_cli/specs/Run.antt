@@ -16,8 +16,8 @@ use Rattle.content_state.specs.declared.commit.Commit.{Commit}
 use Rattle.content_state.specs.SiteRules.{IsValidState}
 use Rattle.site_files.specs.Rows.{rows_of as rows_of_file, IsToldBy, IsSiteFault}
 use Rattle.site_files.specs.declared.fault.ReadFault.{ReadFault}
-use Rattle.site_places.specs.Place.{held, next_list, clock_given, entropy_given, none_given, IsNoneReached, OpeningFails}
-use Rattle.site_cli.specs.Load.{ReadingFails}
+use Rattle.site_places.specs.Place.{Known, next_list, clock_given, entropy_given, none_given, IsNoneReached, OpeningFails}
+use Rattle.site_cli.specs.Load.{OfFile, ReadingFails}
 use Rattle.site_cli.specs.Outside.{Outside, Starves, HasCause}
 use Rattle.site_cli.specs.Drilling.{DrillsOrStarves}
 use Rattle.site_cli.specs.Jobs.{ImportsOrNot, TellsOrNot}
@@ -88,10 +88,10 @@ pub record Refuses (old new : Outside) (status : ℕ) : Type 0 where
   pub status_is : status ≡ 2
 
 -- the rows of the file are no site: nothing of the input was taken, and the first fault of the rows was printed
-pub record RefusesRows (bytes : Option (List ℕ)) (old new : Outside) (status : ℕ) : Type 0 where
+pub record RefusesRows (file : Known (List ℕ)) (old new : Outside) (status : ℕ) : Type 0 where
   pub fault : ReadFault
   pub text : List ℕ
-  pub is_fault : IsSiteFault bytes fault
+  pub is_fault : OfFile file (λ bytes. IsSiteFault bytes fault)
   pub says : fault_text fault ≡ Some text
   pub source : new.left ≡ old.left
   pub sink : Prints text old new
@@ -106,9 +106,9 @@ pub record FailsPlace (old new : Outside) (status : ℕ) : Type 0 where
   pub status_is : status ≡ 7
 
 -- one connection over the site of a file was answered
-pub record ReplaysFile (bytes : Option (List ℕ)) (old new : Outside) (status : ℕ) : Type 0 where
+pub record ReplaysFile (file : Known (List ℕ)) (old new : Outside) (status : ℕ) : Type 0 where
   pub base : State
-  pub site : IsSiteOf bytes base
+  pub site : OfFile file (λ bytes. IsSiteOf bytes base)
   pub replays : Replays base old new status
 
 -- one connection over a site was answered, or memory was wanting before
@@ -116,10 +116,10 @@ abbrev pub ReplaysOrStarves : State → Outside → Outside → ℕ → Type 0
 ReplaysOrStarves base old new status = Replays base old new status ⊎ Starves old new status
 
 -- One connection over the site of the file of that path was answered, or its rows were refused, or the place failed to
--- give them, or memory was wanting before.
+-- give them, or memory was wanting before. Of a file that the place told is not there, only the last two are left.
 abbrev pub ReplaysFileOrStarves : List ℕ → Outside → Outside → ℕ → Type 0
 ReplaysFileOrStarves path old new status =
-    (ReplaysFile (held (old.place.file path)) old new status ⊎ RefusesRows (held (old.place.file path)) old new status)
+    (ReplaysFile (old.place.file path) old new status ⊎ RefusesRows (old.place.file path) old new status)
     ⊎ (FailsPlace old new status ⊎ Starves old new status)
 
 -- What the program does where nothing is to be served: by the job that its words name, if they name one. Where they ask to

@@ -1,8 +1,7 @@
 //! Loading the site of a file of rows.
 ghost use Rattle.std.specs.Prelude.{◌≡◌, IfOk, IfErr};
-ghost use Rattle.site_cli.specs.Load.{IsNoSiteOf, Says};
+ghost use Rattle.site_cli.specs.Load.{IsNoSiteOf, OfFile, Says};
 ghost use Rattle.site_cli.specs.Run.{IsSiteOf};
-ghost use Rattle.site_places.specs.Place.{held};
 
 use content_rows::Text;
 use content_state::State;
@@ -62,11 +61,11 @@ fn told(alloc: Global, fault: &ReadFault) -> NoSite
 }
 
 /// Loads the site of the file of rows of that path: opens it, reads it to its end, and gives it back.
-#[tactic(auto, using(crate::proofs::Loading::told_before, crate::proofs::Loading::fault_before, crate::proofs::Loading::some_rose, crate::proofs::Loading::some_out, crate::proofs::Loading::back_again, crate::proofs::Loading::reading_fails))]
+#[tactic(auto, using(crate::proofs::Loading::site_before, crate::proofs::Loading::fault_before, crate::proofs::Loading::some_rose, crate::proofs::Loading::some_out, crate::proofs::Loading::back_again, crate::proofs::Loading::reading_fails))]
 pub(crate) fn load<P: Place>(alloc: Global, place: &mut P, path: &str) -> Result<State, NoSite>
-    ensures site { IfOk result (IsSiteOf (held ((P.sees place.old).file path.now))) }
+    ensures site { IfOk result (λ state. OfFile ((P.sees place.old).file path.now) (λ bytes. IsSiteOf bytes state)) }
     ensures steady { IfOk result (λ _. P.sees place.new ≡ P.sees place.old) }
-    ensures fault { IfErr result (IsNoSiteOf (held ((P.sees place.old).file path.now)) (P.sees place.old) (P.sees place.new)) }
+    ensures fault { IfErr result (IsNoSiteOf ((P.sees place.old).file path.now) (P.sees place.old) (P.sees place.new)) }
 {
     let mut rows = place.rows(path)?;
     let read = read_site(alloc, &mut rows);
