@@ -27,12 +27,14 @@ some_same x y e = cc
 -- a turn was counted
 pub counted : (more : TallyNote) (old new : Place) (pass : PassNote) (desk : Option DeskPart) (out : HallPart) (hall : HallSide) (others : List (ℕ × Lodging))
     → old ≡ (with_hall (Some out) (with_desk desk (bearing pass)), (0, (Some hall, None)) ∷ others) → Looks noted_in desk_in more old new
-    → (new ≡ (with_hall (Some (part_of hall)) (with_desk desk (bearing (after_look more (part_of hall) pass))), (0, (Some hall, None)) ∷ others)) × KnowsHall (part_of hall) (after_look more (part_of hall) pass)
+    → (new ≡ (with_hall (Some (part_of hall)) (with_desk desk (bearing (after_look more out (part_of hall) pass))), (0, (Some hall, None)) ∷ others)) × KnowsHall (part_of hall) (after_look more out (part_of hall) pass)
 counted more old new pass desk out hall others is f =
-    let same : f.0 ≡ part_of hall = some_same f.0 (part_of hall) (sym f.1 ∙ ap (λ (m : Place). noted_out noted_in desk_in m.1) is) in
-    let me = f.2 ∙ ap (λ (m : Place). (with_hall (Some f.0) (with_passes (map (after_look more f.0) m.0.passes) m.0), m.1)) is in
-    let knows = All-head (KnowsHall f.0) (after_look more f.0 pass) [] (subst (λ (m : Place). All (KnowsHall f.0) (map (after_look more f.0) m.0.passes)) is f.3) in
-    subst (λ (h : HallPart). (new ≡ (with_hall (Some h) (with_desk desk (bearing (after_look more h pass))), (0, (Some hall, None)) ∷ others)) × KnowsHall h (after_look more h pass)) same (me, knows)
+    let before : f.0 ≡ out = some_same f.0 out (sym f.2 ∙ ap (λ (m : Place). m.0.hall) is) in
+    let same : f.1 ≡ part_of hall = some_same f.1 (part_of hall) (sym f.3 ∙ ap (λ (m : Place). noted_out noted_in desk_in m.1) is) in
+    let me = f.4 ∙ ap (λ (m : Place). (with_hall (Some f.1) (with_passes (map (after_look more f.0 f.1) m.0.passes) m.0), m.1)) is in
+    let knows = All-head (KnowsHall f.1) (after_look more f.0 f.1 pass) [] (subst (λ (m : Place). All (KnowsHall f.1) (map (after_look more f.0 f.1) m.0.passes)) is f.5) in
+    subst (λ (t : HallPart × HallPart). (new ≡ (with_hall (Some t.1) (with_desk desk (bearing (after_look more t.0 t.1 pass))), (0, (Some hall, None)) ∷ others)) × KnowsHall t.1 (after_look more t.0 t.1 pass))
+    (λ i. (before i, same i)) (me, knows)
 
 -- the word has followed the log
 pub followed : (hands : Bool) (old new : Place) (pass : PassNote) (part : DeskPart) (out : HallPart) (hall : HallSide) (others : List (ℕ × Lodging))

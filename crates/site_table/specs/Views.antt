@@ -9,9 +9,10 @@ use Rattle.turn_rule.specs.declared.notes.DeskPart.{DeskPart}
 use Rattle.turn_rule.specs.declared.notes.DeskNote.{DeskNote}
 use Rattle.turn_rule.specs.declared.notes.PassNote.{PassNote}
 use Rattle.turn_rule.specs.declared.notes.Note.{Note}
+use Rattle.turn_rule.specs.Logs.{hall_part}
 use Rattle.turn_rule.specs.Steps.{zeros}
 use Rattle.site_hall.specs.Sides.{HallSide, DeskSide}
-use Rattle.site_hall.specs.Stock.{tally_in}
+use Rattle.site_hall.specs.Stock.{bins_in, tally_in, empty_bins}
 use Rattle.site_hall.specs.declared.tally.Tally.{Tally}
 
 -- ---- halls and desks
@@ -22,7 +23,13 @@ tally_note tally = record { looks = tally.looks; found = tally.found; kept = tal
 
 -- what is noted of a hall
 abbrev pub part_of : HallSide → HallPart
-part_of hall = record { base = hall.base; log = hall.log; pending = hall.pending; tally = tally_note (tally_in hall.stock) }
+part_of hall = record {
+  base = hall.base;
+  log = hall.log;
+  pending = hall.pending;
+  tally = tally_note (tally_in hall.stock);
+  bins = bins_in hall.stock;
+}
 
 -- what is noted of a desk
 abbrev pub desk_note : DeskSide → DeskNote
@@ -62,10 +69,23 @@ no_hall = record {
   pending = None;
   faults = 0;
   tally = zeros;
+  bins = empty_bins 0 0 0;
 }
 
+abbrev pub no_part : HallPart
+no_part = hall_part no_hall
+
 abbrev pub no_pass : PassNote
-no_pass = record { number = 0; opened = no_hall; seen = []; handed = []; faults = 0; tally = zeros }
+no_pass = record {
+  number = 0;
+  opened = no_hall;
+  seen = [];
+  handed = [];
+  faults = 0;
+  tally = zeros;
+  found = no_part;
+  left = no_part;
+}
 
 -- the first of these passes
 abbrev pub first_pass : List PassNote → PassNote
@@ -81,9 +101,17 @@ abbrev pub part_in : Option DeskPart → DeskPart
 part_in None = record { loaded = no_hall.loaded; log = []; pending = None; faults = 0 }
 part_in (Some part) = part
 
--- the pass of a seat, and what the seat says of the desk that it has out
+-- what is said of a hall that is out
+abbrev pub out_in : Option HallPart → HallPart
+out_in None = no_part
+out_in (Some part) = part
+
+-- the pass of a seat, and what the seat says of the hall and of the desk that it has out
 abbrev pub pass_at : Place → PassNote
 pass_at me = first_pass me.0.passes
+
+abbrev pub out_at : Place → HallPart
+out_at me = out_in me.0.hall
 
 abbrev pub part_at : Place → DeskPart
 part_at me = part_in me.0.desk

@@ -6,7 +6,7 @@ ghost use Rattle.turn_rule.specs.Logs.{StandsFor, whole_of};
 ghost use Rattle.turn_rule.specs.Steps.{zeros, bearing, with_hall, with_desk, with_faults, after_look, after_turn, after_forgetting, after_fault, front, Knows, KnowsHall, KnowsDesk, AgreesWith};
 ghost use Rattle.site_table.specs.Kinds.{counts_of};
 ghost use Rattle.site_table.specs.Turns.{HasCounted, HasTurned, HasForgotten, HasBack, HasDeskBack, AtDesk, turned_place, forgotten_place};
-ghost use Rattle.site_table.specs.Views.{IsRoom, part_of, desk_note, nothing, part_in, pass_at, part_at};
+ghost use Rattle.site_table.specs.Views.{IsRoom, part_of, desk_note, nothing, part_in, pass_at, out_at, part_at};
 
 use crate::home::{DeskHome, HallHome};
 use crate::kinds::{Count, Deed, Finds, Keeps, Kind, Looks, Nothing};
@@ -154,13 +154,14 @@ fn open_gate<K: Keeper>(room: &Room<K>, seat: &mut Place<K>)
     }
 }
 
-/// Gives the hall back for a pass, after a turn that left the log as it was and counted this.
+/// Gives the hall back for a pass, after a turn that left the log as it was and counted this. The pass notes the hall as the turn found it,
+/// and as it left it.
 fn count_back<T: Count, K: Keeper + Drop>(room: &Room<K>, seat: &mut Place<K>, hall: HallHome)
     requires room { (seat.old.table_id ≡ room.now.table_id) × IsRoom room.now.table_id }
     requires out { HasCounted T.counts seat.old.me hall }
     ensures same { seat.new.table_id ≡ seat.old.table_id }
-    ensures back { seat.new.me ≡ (with_desk seat.old.me.0.desk (bearing (after_look T.counts (part_of hall) (pass_at seat.old.me))), rest seat.old.me.1) }
-    ensures knows { KnowsHall (part_of hall) (after_look T.counts (part_of hall) (pass_at seat.old.me)) }
+    ensures back { seat.new.me ≡ (with_desk seat.old.me.0.desk (bearing (after_look T.counts (out_at seat.old.me) (part_of hall) (pass_at seat.old.me))), rest seat.old.me.1) }
+    ensures knows { KnowsHall (part_of hall) (after_look T.counts (out_at seat.old.me) (part_of hall) (pass_at seat.old.me)) }
     ensures is_hall { IsHallSide hall }
 {
     let _length = hall.len();
@@ -174,8 +175,8 @@ pub fn count_deed<K: Keeper + Drop>(room: &Room<K>, seat: &mut Place<K>, hall: H
     requires room { (seat.old.table_id ≡ room.now.table_id) × IsRoom room.now.table_id }
     requires out { HasCounted (counts_of deed) seat.old.me hall }
     ensures same { seat.new.table_id ≡ seat.old.table_id }
-    ensures back { seat.new.me ≡ (with_desk seat.old.me.0.desk (bearing (after_look (counts_of deed) (part_of hall) (pass_at seat.old.me))), rest seat.old.me.1) }
-    ensures knows { KnowsHall (part_of hall) (after_look (counts_of deed) (part_of hall) (pass_at seat.old.me)) }
+    ensures back { seat.new.me ≡ (with_desk seat.old.me.0.desk (bearing (after_look (counts_of deed) (out_at seat.old.me) (part_of hall) (pass_at seat.old.me))), rest seat.old.me.1) }
+    ensures knows { KnowsHall (part_of hall) (after_look (counts_of deed) (out_at seat.old.me) (part_of hall) (pass_at seat.old.me)) }
     ensures is_hall { IsHallSide hall }
 {
     match deed {

@@ -22,7 +22,7 @@ use Rattle.site_turn.specs.Edits.{hall_at, engine_at, settled_engine, announced_
 
 -- a snapshot leaves all as it was
 pub still : (hall : HallSide) → Counts zeros (part_of hall) (part_of hall)
-still hall = record { base = refl; log = refl; pending = refl; tally = refl }
+still hall = record { base = refl; log = refl; pending = refl; tally = refl; still = λ _. refl }
 
 -- what comes into the log where an edit is settled
 abbrev pub came : Bool → Commit → List Commit
@@ -45,6 +45,7 @@ settled_turn kept hall part n c is = subst (λ (p : Option Commit). TurnsBoth fa
         faults = le_refl part.faults;
         steady = λ _. refl;
         tally = refl;
+        bins = refl;
         handed = subst (λ (p : Option Commit). IsSublist (c ∷ []) (option_to_list p ++ [])) (sym is) (inr ([], refl, refl));
         own = All-nil (λ (x : Commit). x.pass ≡ n);
       };
@@ -57,6 +58,7 @@ settled_turn kept hall part n c is = subst (λ (p : Option Commit). TurnsBoth fa
         faults = le_refl part.faults;
         steady = λ _. refl;
         tally = refl;
+        bins = refl;
         handed = subst (λ (p : Option Commit). IsSublist [] (option_to_list p ++ [])) (sym is) (inl refl);
         own = All-nil (λ (x : Commit). x.pass ≡ n);
       };
@@ -72,6 +74,7 @@ announced_turn hall part n c none own = record {
     faults = le_refl part.faults;
     steady = λ _. refl;
     tally = refl;
+    bins = refl;
     handed = subst (λ (p : Option Commit). IsSublist (c ∷ []) (option_to_list p ++ c ∷ [])) (sym none) (inr ([], refl, refl));
     own = All-cons (λ (x : Commit). x.pass ≡ n) c [] own (All-nil (λ (x : Commit). x.pass ≡ n));
   };
@@ -87,6 +90,7 @@ stays_turn hall part n = record {
     faults = le_refl part.faults;
     steady = λ _. refl;
     tally = refl;
+    bins = refl;
     handed = same hall.pending;
     own = All-nil (λ (x : Commit). x.pass ≡ n);
   };

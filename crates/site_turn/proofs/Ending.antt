@@ -70,6 +70,7 @@ whole_is hall part desk agree stands = λ i. record {
   pending = hall.pending;
   faults = sym stands.faults i;
   tally = (part_of hall).tally;
+  bins = (part_of hall).bins;
 }
 
 -- the desk's keeper stands for the hall's log

@@ -13,6 +13,7 @@ use Rattle.site_hall.specs.Hall.{IsHall, StaysSteadfast, Answers, Tells}
 use Rattle.site_hall.specs.Sides.{HallSide, DeskSide, engine_of}
 use Rattle.site_hall.specs.Stock.{AreSound, bins_in}
 use Rattle.turn_rule.specs.declared.notes.TallyNote.{TallyNote}
+use Rattle.turn_rule.specs.declared.notes.HallPart.{HallPart}
 use Rattle.turn_rule.specs.declared.notes.DeskPart.{DeskPart}
 use Rattle.turn_rule.specs.declared.notes.PassNote.{PassNote}
 use Rattle.turn_rule.specs.declared.notes.Note.{Note}
@@ -21,9 +22,9 @@ use Rattle.turn_rule.specs.Steps.{zeros, bearing, with_hall, with_desk, with_fau
 use Rattle.turn_rule.proofs.Books.{of_hall, own_in_log}
 use Rattle.turn_rule.proofs.Edits.{begins_then}
 use Rattle.site_table.specs.Turns.{HasCounted, AtDesk}
-use Rattle.site_table.specs.Views.{Place, nothing, part_of, desk_note, part_in, pass_of, pass_at, part_at}
+use Rattle.site_table.specs.Views.{Place, nothing, part_of, desk_note, part_in, pass_of, pass_at, out_at, part_at}
 use Rattle.site_turn.specs.Views.{noted, HasPass}
-use Rattle.site_turn.specs.Turns.{IsOut, HasLooked, Went, Commits}
+use Rattle.site_turn.specs.Turns.{IsOut, HasLooked, finding, Went, Commits}
 use Rattle.site_turn.specs.Edits.{bare, hall_at, engine_at, IsEdited}
 use Rattle.site_turn.proofs.Halls.{IsTurn, commit_turn}
 
@@ -41,20 +42,20 @@ pub out_counted : (more : TallyNote) (me : Place) (hall : HallSide) → IsOut mo
 out_counted more me hall o = subst (λ (m : Place). HasCounted more m hall) (sym o.me_is) (o.old, refl, o.counts)
 
 -- the seat once the hall went back
-pub back_is : (more : TallyNote) (me after : Place) (hall : HallSide) → IsOut more me hall → (after ≡ (with_desk me.0.desk (bearing (after_look more (part_of hall) (pass_at me))), rest me.1)) → after ≡ (bearing (after_look more (part_of hall) (pass_at me)), [])
-back_is more me after hall o back = back ∙ ap (λ (m : Place). (with_desk m.0.desk (bearing (after_look more (part_of hall) (pass_at me))), rest m.1)) o.me_is
+pub back_is : (more : TallyNote) (me after : Place) (hall : HallSide) → IsOut more me hall → (after ≡ (with_desk me.0.desk (bearing (after_look more (out_at me) (part_of hall) (pass_at me))), rest me.1)) → after ≡ (bearing (after_look more (out_at me) (part_of hall) (pass_at me)), [])
+back_is more me after hall o back = back ∙ ap (λ (m : Place). (with_desk m.0.desk (bearing (after_look more (out_at me) (part_of hall) (pass_at me))), rest m.1)) o.me_is
 
 -- the pass, once its seat is a badge again
-pub looked_back : (more : TallyNote) (pass first : PassNote) (notes : List Note) (old new : HallSide) → first ≡ pass → notes ≡ bearing (after_look more (part_of new) first) ∷ [] → KnowsHall (part_of old) pass → Counts more (part_of old) (part_of new)
-    → KnowsHall (part_of new) (after_look more (part_of new) first) → HasLooked more pass (pass_of notes) (part_of new)
-looked_back more pass first notes old new same is before counts after = record {
+pub looked_back : (more : TallyNote) (pass first : PassNote) (out : HallPart) (notes : List Note) (old new : HallSide) → first ≡ pass → out ≡ part_of old → notes ≡ bearing (after_look more out (part_of new) first) ∷ [] → KnowsHall (part_of old) pass
+    → Counts more (part_of old) (part_of new) → KnowsHall (part_of new) (after_look more out (part_of new) first) → HasLooked more pass (pass_of notes) (part_of old) (part_of new)
+looked_back more pass first out notes old new same out_is is before counts after = record {
   is = this;
   grows = subst (λ (p : PassNote). Begins pass.seen p.seen) (sym this) (subst (Begins pass.seen) (sym counts.log) before.seen);
   knows = subst (KnowsHall (part_of new)) (sym (ap pass_of is)) after;
 }
   where
-    this : pass_of notes ≡ after_look more (part_of new) pass
-    this = ap pass_of is ∙ ap (after_look more (part_of new)) same
+    this : pass_of notes ≡ after_look more (part_of old) (part_of new) pass
+    this = ap pass_of is ∙ λ i. after_look more (out_is i) (part_of new) (same i)
 
 -- ---- an edit
 
@@ -105,7 +106,7 @@ engine_right me desk a = record { valid = a.stands.valid; keeps = a.stands.keeps
 
 module _ (a : Answer) (ask : Ask) (csrf : Option (List ℕ)) (command : Command) (now number : ℕ) (me mid : Place) (desk desk' : DeskSide) (start : AtDesk me desk) (faults : desk.faults ≡ (part_at me).faults) (edited : IsEdited a me mid desk desk' ask csrf command now number) (end : AtDesk mid desk')
     (same : number ≡ (pass_at me).number) (notes : List Note) (back : notes ≡ bearing (after_fault desk'.faults (part_at mid) (pass_at mid)) ∷ []) (knows : KnowsDesk (with_faults desk'.faults (part_at mid)) (after_fault desk'.faults (part_at mid) (pass_at mid))) where
-  pass_then : after_fault desk'.faults (part_at mid) (pass_at mid) ≡ after_turn zeros edited.hands (noted (engine_at mid desk')) (pass_at me)
+  pass_then : after_fault desk'.faults (part_at mid) (pass_at mid) ≡ finding (pass_at mid).found (pass_at mid).left (after_turn zeros edited.hands (noted (engine_at mid desk')) (pass_at me))
   pass_then = λ i. record {
     number = edited.handed.number i;
     opened = edited.handed.opened i;
@@ -113,6 +114,8 @@ module _ (a : Answer) (ask : Ask) (csrf : Option (List ℕ)) (command : Command)
     handed = edited.handed.handed_is i;
     faults = desk'.faults;
     tally = edited.handed.tally i;
+    found = (pass_at mid).found;
+    left = (pass_at mid).left;
   }
 
   rise : desk.faults ≤ desk'.faults
@@ -153,8 +156,8 @@ module _ (a : Answer) (ask : Ask) (csrf : Option (List ℕ)) (command : Command)
     went = went;
   }
     where
-      is : pass_of notes ≡ after_turn zeros edited.hands (noted (engine_at mid desk')) (pass_at me)
-      is = ap pass_of back ∙ pass_then
+      is : pass_of notes ≡ finding (pass_of notes).found (pass_of notes).left (after_turn zeros edited.hands (noted (engine_at mid desk')) (pass_at me))
+      is = ap pass_of back ∙ pass_then ∙ ap (λ (p : PassNote). finding p.found p.left (after_turn zeros edited.hands (noted (engine_at mid desk')) (pass_at me))) (sym (ap pass_of back))
 
       went : Went zeros edited.hands (pass_at me) (pass_of notes) (noted (engine_at mid desk'))
       went = record {

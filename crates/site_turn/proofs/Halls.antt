@@ -18,13 +18,14 @@ use Rattle.site_commands.specs.declared.command.Command.{Command}
 use Rattle.site_house.specs.House.{IsSublist}
 use Rattle.site_hall.specs.Hall.{HallView, StaysSteadfast, Settles, settled_by, number_of, Accepts, FailsHead, FailsApply, Answers, Tells}
 use Rattle.site_hall.specs.Sides.{HallSide, with_shelves}
-use Rattle.site_hall.specs.Stock.{Stock, looked, tally_in}
+use Rattle.site_hall.specs.Stock.{Stock, looked, bins_in, tally_in}
 use Rattle.site_hall.specs.Looked.{LooksUp, KeepsUnder}
 use Rattle.site_hall.specs.declared.tally.Tally.{Tally}
 use Rattle.site_hall.proofs.Sublists.{sublist_both}
 use Rattle.turn_rule.specs.Logs.{waiting, last_of, newest_of}
 use Rattle.turn_rule.specs.Steps.{zeros, raised, given, Turns, Counts}
 use Rattle.turn_rule.specs.declared.notes.TallyNote.{TallyNote}
+use Rattle.turn_rule.proofs.Accounts.{one_not_zero}
 use Rattle.site_table.specs.Views.{tally_note, part_of}
 use Rattle.site_table.specs.Turns.{counts_of_found, counts_of_look, counts_of_keep, one_kept}
 use Rattle.site_turn.specs.Views.{noted}
@@ -69,8 +70,8 @@ abbrev pub IsTurn : TallyNote → Bool → ℕ → HallView → HallView → Typ
 IsTurn more hands pass old new = (commits : List Commit) × Turns more hands pass (noted old) (noted new) commits
 
 -- nothing is handed in, and nothing comes into the log
-still : (more : TallyNote) (pass : ℕ) (old new : HallView) → (noted new).tally ≡ raised more (noted old).tally → (noted new).loaded ≡ (noted old).loaded → new.log ≡ old.log → new.pending ≡ old.pending → old.faults ≤ new.faults → StaysSteadfast old new → IsTurn more false pass old new
-still more pass old new tally loaded log pending faults steady = (
+still : (more : TallyNote) (pass : ℕ) (old new : HallView) → (noted new).tally ≡ raised more (noted old).tally → (noted new).bins ≡ (noted old).bins → (noted new).loaded ≡ (noted old).loaded → new.log ≡ old.log → new.pending ≡ old.pending → old.faults ≤ new.faults → StaysSteadfast old new → IsTurn more false pass old new
+still more pass old new tally bins loaded log pending faults steady = (
   [],
   record {
     loaded = loaded;
@@ -78,6 +79,7 @@ still more pass old new tally loaded log pending faults steady = (
     faults = faults;
     steady = steady.stays;
     tally = tally;
+    bins = bins;
     handed = subst (λ (p : Option Commit). IsSublist (option_to_list p) (waiting (noted old) ++ [])) (sym pending) (same old.pending);
     own = All-nil (λ (c : Commit). c.pass ≡ pass);
   },
@@ -89,7 +91,7 @@ still more pass old new tally loaded log pending faults steady = (
 
 -- a call that changes nothing
 pub quiet_turn : (pass : ℕ) (hall : HallView) → IsTurn zeros false pass hall hall
-quiet_turn pass hall = still zeros pass hall hall refl refl refl refl (le_refl hall.faults) (record { tells = refl; stays = λ _. refl })
+quiet_turn pass hall = still zeros pass hall hall refl refl refl refl refl (le_refl hall.faults) (record { tells = refl; stays = λ _. refl })
 
 -- what was pending is settled, and nothing is handed in
 settled_turn : (pass : ℕ) (old new : HallView) → Settles old new → old.faults ≤ new.faults → StaysSteadfast old new → IsTurn zeros false pass old new
@@ -102,6 +104,7 @@ settled_turn pass old new settles faults steady =
         faults = faults;
         steady = steady.stays;
         tally = ap note_of s.1.stock;
+        bins = ap bins_in s.1.stock;
         handed = subst (λ (t : List Commit × List Commit). IsSublist t.0 t.1) (λ i. (sym (ap (λ (p : Option Commit). s.0 ++ option_to_list p) s.1.none ∙ append-nil s.0) i, sym (append-nil (waiting (noted old))) i)) s.1.handed;
         own = All-nil (λ (c : Commit). c.pass ≡ pass);
       },
@@ -118,6 +121,7 @@ handed_turn pass old mid new commits more c s own loaded tally log edits is faul
     faults = faults;
     steady = steady.stays;
     tally = ap note_of (tally ∙ s.stock);
+    bins = ap bins_in (tally ∙ s.stock);
     handed = subst (λ (t : List Commit × List Commit). IsSublist t.0 (waiting (noted old) ++ t.1)) (λ i. (sym (append_assoc commits more (waiting (noted new)) ∙ ap (λ (l : List Commit). commits ++ l) edits) i, sym is i)) (sublist_both commits (waiting (noted old)) c s.handed);
     own = subst (All (λ (d : Commit). d.pass ≡ pass)) (sym is) (All-cons (λ (d : Commit). d.pass ≡ pass) c [] own (All-nil (λ (d : Commit). d.pass ≡ pass)));
   },
@@ -147,7 +151,7 @@ module _ (old new : HallView) (ask : Ask) (csrf : Option (List ℕ)) (command : 
       (ap (λ (h : HallView). option_to_list h.pending) f.stays) (failed_given f) faults steady
 
   head_turn : FailsHead old new → old.faults ≤ new.faults → StaysSteadfast old new → IsTurn zeros false pass old new
-  head_turn f = still zeros pass old new (ap (λ (h : HallView). (noted h).tally) f.stays) (ap (λ (h : HallView). (noted h).loaded) f.stays) (ap (λ (h : HallView). h.log) f.stays) (ap (λ (h : HallView). h.pending) f.stays)
+  head_turn f = still zeros pass old new (ap (λ (h : HallView). (noted h).tally) f.stays) (ap (λ (h : HallView). (noted h).bins) f.stays) (ap (λ (h : HallView). (noted h).loaded) f.stays) (ap (λ (h : HallView). h.log) f.stays) (ap (λ (h : HallView). h.pending) f.stays)
 
   -- an edit is a turn
   pub commit_turn : (a : Answer) (hands : Bool) → Answers a old new ask csrf command now pass → Tells a hands old new ask csrf command now pass → old.faults ≤ new.faults → StaysSteadfast old new → IsTurn zeros hands pass old new
@@ -168,21 +172,28 @@ found_tally (found.Entry e) tally = refl
 found_tally (found.Redirect contexts) tally = refl
 found_tally found.Absent tally = refl
 
+-- a look that came to an answer is counted
+some_look : (f : Found) → counts_of_found f ≡ zeros → ⊥
+some_look (found.Entry e) is = one_not_zero (ap (λ (t : TallyNote). t.looks) is)
+some_look (found.Redirect contexts) is = one_not_zero (ap (λ (t : TallyNote). t.looks) is)
+some_look found.Absent is = one_not_zero (ap (λ (t : TallyNote). t.looks) is)
+
 -- nothing but what is kept of pages changes
-beside_counts : (more : TallyNote) (old new : HallSide) → new ≡ with_shelves old new.stock → note_of new.stock ≡ raised more (note_of old.stock) → Counts more (part_of old) (part_of new)
-beside_counts more old new same tally = record {
+beside_counts : (more : TallyNote) (old new : HallSide) → new ≡ with_shelves old new.stock → note_of new.stock ≡ raised more (note_of old.stock) → (more ≡ zeros → bins_in new.stock ≡ bins_in old.stock) → Counts more (part_of old) (part_of new)
+beside_counts more old new same tally still = record {
   base = ap (λ (h : HallSide). h.base) same;
   log = ap (λ (h : HallSide). h.log) same;
   pending = ap (λ (h : HallSide). h.pending) same;
   tally = tally;
+  still = still;
 }
 
 -- a look is counted
 pub look_counts : (result : Result Found AllocError) (old new : HallSide) (b : Bin) (key : Key) → LooksUp result old.stock new.stock b key → new ≡ with_shelves old new.stock → Counts (counts_of_look result) (part_of old) (part_of new)
-look_counts (Ok f) old new b key looks same = beside_counts (counts_of_found f) old new same (ap tally_note looks.tally ∙ found_tally f (tally_in old.stock))
-look_counts (Err e) old new b key looks same = beside_counts zeros old new same (ap note_of looks)
+look_counts (Ok f) old new b key looks same = beside_counts (counts_of_found f) old new same (ap tally_note looks.tally ∙ found_tally f (tally_in old.stock)) (λ none. absurd (some_look f none))
+look_counts (Err e) old new b key looks same = beside_counts zeros old new same (ap note_of looks) (λ _. ap bins_in looks)
 
 -- and so is keeping something
 pub keep_counts : (result : Result (Unit {0}) AllocError) (old new : HallSide) (b : Bin) (key : Key) (k : Kept) → KeepsUnder result old.stock new.stock b key k → new ≡ with_shelves old new.stock → Counts (counts_of_keep result) (part_of old) (part_of new)
-keep_counts (Ok done) old new b key k keeps same = beside_counts one_kept old new same (ap tally_note keeps.tally)
-keep_counts (Err e) old new b key k keeps same = beside_counts zeros old new same (ap note_of keeps)
+keep_counts (Ok done) old new b key k keeps same = beside_counts one_kept old new same (ap tally_note keeps.tally) (λ none. absurd (one_not_zero (ap (λ (t : TallyNote). t.kept) none)))
+keep_counts (Err e) old new b key k keeps same = beside_counts zeros old new same (ap note_of keeps) (λ _. ap bins_in keeps)

@@ -72,7 +72,7 @@ module _ (more : TallyNote) (hands : Bool) (old new : PassNote) (after : HallNot
 
 -- ---- turns that read
 
-module _ (more : TallyNote) (old new : PassNote) (after : HallPart) (w : HasLooked more old new after) where
+module _ (more : TallyNote) (old new : PassNote) (before after : HallPart) (w : HasLooked more old new before after) where
   looked_seen : new.seen ≡ after.log
   looked_seen = ap (λ (p : PassNote). p.seen) w.is
 
@@ -102,21 +102,21 @@ module _ (more : TallyNote) (old new : PassNote) (after : HallPart) (w : HasLook
   looked_stays name keepers unkept unkept' = record { handed = ap (λ (p : PassNote). p.handed) w.is; keepers = refl }
 
 -- what the pass has seen, of the base that the site was opened with, is what the hall published
-seen_there : (more : TallyNote) (old new : PassNote) (hall : HallSide) → HasLooked more old new (part_of hall) → (P : State → List Commit → Type 0) → P hall.base hall.log → P new.opened.loaded.base new.seen
-seen_there more old new hall w P p = subst (λ (t : State × List Commit). P t.0 t.1) (λ i. (w.knows.base i, sym (looked_seen more old new (part_of hall) w) i)) p
+seen_there : (more : TallyNote) (old new : PassNote) (before : HallPart) (hall : HallSide) → HasLooked more old new before (part_of hall) → (P : State → List Commit → Type 0) → P hall.base hall.log → P new.opened.loaded.base new.seen
+seen_there more old new before hall w P p = subst (λ (t : State × List Commit). P t.0 t.1) (λ i. (w.knows.base i, sym (looked_seen more old new before (part_of hall) w) i)) p
 
 module _ (more : TallyNote) (does : HallSide → HallSide → Type 0) (old new : PassNote) where
   pub looks_valid : Looks more does old new → AreValid new.opened.loaded.base new.seen
-  looks_valid l = seen_there more old new l.after l.went AreValid (valid_without l.after.base l.after.log l.after.pending l.is_hall.valid)
+  looks_valid l = seen_there more old new (part_of l.before) l.after l.went AreValid (valid_without l.after.base l.after.log l.after.pending l.is_hall.valid)
 
   pub looks_moves : (name : List ℕ) (keepers unkept unkept' : ℕ) → unkept ≤ unkept' → Looks more does old new → Moves (house_of old name keepers unkept) (house_of new name keepers unkept')
-  looks_moves name keepers unkept unkept' rose l = looked_moves more old new (part_of l.after) l.went name keepers unkept unkept' rose
+  looks_moves name keepers unkept unkept' rose l = looked_moves more old new (part_of l.before) (part_of l.after) l.went name keepers unkept unkept' rose
 
   pub looks_stays : (name : List ℕ) (keepers unkept unkept' : ℕ) → Looks more does old new → Stays (house_of old name keepers unkept) (house_of new name keepers unkept')
-  looks_stays name keepers unkept unkept' l = looked_stays more old new (part_of l.after) l.went name keepers unkept unkept'
+  looks_stays name keepers unkept unkept' l = looked_stays more old new (part_of l.before) (part_of l.after) l.went name keepers unkept unkept'
 
   pub looks_own : Looks more does old new → AreOwnIn new new.seen
-  looks_own l = looked_own more old new (part_of l.after) l.went
+  looks_own l = looked_own more old new (part_of l.before) (part_of l.after) l.went
 
 -- the same, of a guest whose site is in the same table
 pub guest_looks : (more : TallyNote) (does : HallSide → HallSide → Type 0) (old new : PassView) (borrow keepers unkept unkept' : ℕ) → new.table ≡ old.table → unkept ≤ unkept' → Looks more does old.note new.note
@@ -126,9 +126,9 @@ guest_looks more does old new borrow keepers unkept unkept' same rose l =
     (looks_moves more does old.note new.note (borrow ∷ table_name old.table) keepers unkept unkept' rose l)
 
 -- what was found is sound over what the pass has seen then
-pub looks_sound : (more : TallyNote) (old new : PassNote) (hall : HallSide) (key : Key) (result : Result Found AllocError) → HasLooked more old new (part_of hall) → IfOk result (λ f. IsSoundFound meaning hall.base hall.log key f)
+pub looks_sound : (more : TallyNote) (old new : PassNote) (before : HallPart) (hall : HallSide) (key : Key) (result : Result Found AllocError) → HasLooked more old new before (part_of hall) → IfOk result (λ f. IsSoundFound meaning hall.base hall.log key f)
     → IfOk result (λ f. IsSoundFound meaning new.opened.loaded.base new.seen key f)
-looks_sound more old new hall key result w sound = seen_there more old new hall w (λ base log. IfOk result (λ f. IsSoundFound meaning base log key f)) sound
+looks_sound more old new before hall key result w sound = seen_there more old new before hall w (λ base log. IfOk result (λ f. IsSoundFound meaning base log key f)) sound
 
 -- what is sound over what a pass has seen is sound over the log of the hall
 pub sound_out : (pass : PassNote) (hall : HallSide) (key : Key) (k : Kept) → KnowsHall (part_of hall) pass → IsSoundKept meaning pass.opened.loaded.base pass.seen key k → IsSoundKept meaning hall.base hall.log key k

@@ -80,6 +80,7 @@ whole_same told hall desk whole note s none part is stands = λ i. record {
   pending = ap (λ (p : HallPart). p.pending) (sym part) i;
   faults = faults i;
   tally = ap (λ (p : HallPart). p.tally) (sym part) i;
+  bins = ap (λ (p : HallPart). p.bins) (sym part) i;
 }
   where
     base : whole.loaded.base ≡ hall.base

@@ -38,9 +38,9 @@ has_seen old new number faults log h is own =
     subst (λ (l : List Note). HasPass l number faults) (sym is) (record { bears = refl; number_is = h.number_is; faults_is = h.faults_is; own = own })
 
 -- a pass finds its own edits in what it has seen, once it gave the hall back
-pub back_own : (more : TallyNote) (hall : HallPart) (pass : PassNote) (notes : List Note) → notes ≡ bearing (after_look more hall pass) ∷ [] → KnowsHall hall (after_look more hall pass) → AreOwnIn (pass_of notes) (pass_of notes).seen
-back_own more hall pass notes is knows =
-    subst (λ (l : List Note). AreOwnIn (pass_of l) (pass_of l).seen) (sym is) (own_in_log hall (after_look more hall pass) knows)
+pub back_own : (more : TallyNote) (before hall : HallPart) (pass : PassNote) (notes : List Note) → notes ≡ bearing (after_look more before hall pass) ∷ [] → KnowsHall hall (after_look more before hall pass) → AreOwnIn (pass_of notes) (pass_of notes).seen
+back_own more before hall pass notes is knows =
+    subst (λ (l : List Note). AreOwnIn (pass_of l) (pass_of l).seen) (sym is) (own_in_log hall (after_look more before hall pass) knows)
 
 -- a new pass has seen no edit since the opening
 pub new_own : (founder : FounderNote) → AreOwnIn (new_pass founder) founder.opened.log

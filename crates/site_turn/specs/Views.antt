@@ -7,7 +7,7 @@ use Rattle.turn_rule.specs.declared.notes.FounderNote.{FounderNote}
 use Rattle.turn_rule.specs.declared.notes.Note.{Note}
 use Rattle.turn_rule.specs.Steps.{bearing, founding, AreOwnIn}
 use Rattle.site_hall.specs.Hall.{HallView}
-use Rattle.site_hall.specs.Stock.{tally_in}
+use Rattle.site_hall.specs.Stock.{bins_in, tally_in}
 use Rattle.site_table.specs.Views.{IsRoom, tally_note, no_hall, pass_of}
 
 -- a pass: the table that its site lies in, and what the pass knows
@@ -28,6 +28,7 @@ noted hall = record {
   pending = hall.pending;
   faults = hall.faults;
   tally = tally_note (tally_in hall.stock);
+  bins = bins_in hall.stock;
 }
 
 -- ---- what is read off the seats' notes

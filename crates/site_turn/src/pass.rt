@@ -9,7 +9,7 @@ ghost use Rattle.cache_entries.specs.Sound.{IsSoundKept, IsSoundFound};
 ghost use Rattle.page_meaning.specs.Meaning.{meaning};
 ghost use Rattle.site_hall.specs.Sides.{IsHallSide};
 ghost use Rattle.site_table.specs.Kinds.{counts_of};
-ghost use Rattle.site_table.specs.Views.{IsRoom, part_of, nothing, pass_of, pass_at};
+ghost use Rattle.site_table.specs.Views.{IsRoom, part_of, nothing, pass_of, pass_at, out_at};
 ghost use Rattle.turn_rule.specs.Steps.{AreOwnIn, KnowsHall, bearing, with_hall, after_look};
 ghost use Rattle.site_turn.specs.Turns.{IsOut, Reads, LooksFor, PutsUnder, Commits};
 
@@ -75,8 +75,8 @@ fn back<K: Keeper + Drop>(
     requires room { (seat.table_id ≡ room.now.table_id) × IsRoom room.now.table_id }
     requires out { IsOut (counts_of deed) seat.me hall }
     ensures same { result.table_id ≡ seat.table_id }
-    ensures back { result.views ≡ bearing (after_look (counts_of deed) (part_of hall) (pass_at seat.me)) ∷ [] }
-    ensures knows { KnowsHall (part_of hall) (after_look (counts_of deed) (part_of hall) (pass_at seat.me)) }
+    ensures back { result.views ≡ bearing (after_look (counts_of deed) (out_at seat.me) (part_of hall) (pass_at seat.me)) ∷ [] }
+    ensures knows { KnowsHall (part_of hall) (after_look (counts_of deed) (out_at seat.me) (part_of hall) (pass_at seat.me)) }
     ensures own { AreOwnIn (pass_of result.views) (pass_of result.views).seen }
     ensures is_hall { IsHallSide hall }
 {

@@ -84,15 +84,16 @@ module _ {S : Type 0} (noted : S → Option HallPart) (noted_desk : S → Option
           let mine = f.hall h refl in
           let c = f.passes in
           let r = o.sound.each p.number p c.0 in
-          let whole : HallNote = record { loaded = b.hall.loaded; log = b.hall.log; pending = b.hall.pending; faults = b.hall.faults; tally = raised more b.hall.tally } in
+          let whole : HallNote = record { loaded = b.hall.loaded; log = b.hall.log; pending = b.hall.pending; faults = b.hall.faults; tally = raised more b.hall.tally; bins = h'.bins } in
           let part : h' ≡ hall_part whole = λ i. record {
             base = (turn.base ∙ ap (λ (x : HallPart). x.base) mine.1) i;
             log = (turn.log ∙ ap (λ (x : HallPart). x.log) mine.1) i;
             pending = (turn.pending ∙ ap (λ (x : HallPart). x.pending) mine.1) i;
             tally = (turn.tally ∙ ap (λ (x : HallPart). raised more x.tally) mine.1) i;
+            bins = h'.bins;
           } in
-          let p' = after_look more (hall_part whole) p in
-          let goes : Goes more b p p' whole [] = still_goes more b p p.faults whole o.sound c.0 refl refl refl (le_refl b.hall.faults) (λ _. refl) refl (le_refl p.faults) r.faults_to in
+          let p' = after_look more h (hall_part whole) p in
+          let goes : Goes more b p p' whole [] = still_goes more b p p.faults h (hall_part whole) whole o.sound c.0 refl refl refl (le_refl b.hall.faults) (λ _. refl) refl (le_refl p.faults) r.faults_to in
           let w = with_hall (Some (hall_part whole)) (with_passes (p' ∷ []) v) in
           let a' = booked a (turned b p p' whole []) in
           let bare : Fits a' gate door id (with_passes [] w) = record { old = refl; hall = λ q e. (mine.0, sym (some_same (hall_part whole) q e), mine.2); desk = f.desk; founder = λ q e. absurd (none_some q e); passes = tt } in
@@ -103,7 +104,7 @@ module _ {S : Type 0} (noted : S → Option HallPart) (noted_desk : S → Option
             keeps,
             tt,
             inr (record { account = a'; gate = gate; door = door; is_open = gone s a gate door id v w p p' whole [] more o at refl refl refl goes (λ z. absurd (mine.2 z)) (λ _. out_here (λ note. note.hall) s.views id a.owner v w (hall_part whole) at mine.0 refl) o.desk (λ z. out_stays (λ note. note.desk) s.views id a.clerk v w (desk_part a.books.hall) at (o.desk_away z) (λ e. e)) bare apart (length b.hall.log) refl }),
-            (hall_part whole, at_home ∙ ap Some part, refl, All-cons (KnowsHall (hall_part whole)) p' [] knows_it (All-nil (KnowsHall (hall_part whole)))),
+            (h, hall_part whole, refl, at_home ∙ ap Some part, refl, All-cons (KnowsHall (hall_part whole)) p' [] knows_it (All-nil (KnowsHall (hall_part whole)))),
           )
 
   -- a turn of a pass that has the desk too
@@ -131,6 +132,7 @@ module _ {S : Type 0} (noted : S → Option HallPart) (noted_desk : S → Option
             log = h'.log;
             pending = h'.pending;
             tally = h'.tally;
+            bins = h'.bins;
           } in
           let w = with_hall (Some h') (with_desk (Some (desk_part whole)) (with_passes (p' ∷ []) v)) in
           let a' = booked a (turned b p p' whole commits) in
@@ -169,6 +171,7 @@ module _ {S : Type 0} (noted : S → Option HallPart) (noted_desk : S → Option
             pending = ap (λ (x : HallPart). x.pending) (sym forgets.new_is) i;
             faults = (ap (λ (x : DeskPart). x.faults) (sym desk.1)) i;
             tally = (ap (λ (x : HallPart). x.tally) (sym mine.1) ∙ ap (λ (x : HallPart). x.tally) (sym forgets.new_is)) i;
+            bins = (ap (λ (x : HallPart). x.bins) (sym mine.1) ∙ ap (λ (x : HallPart). x.bins) (sym forgets.new_is)) i;
           } in
           let p' = after_forgetting (front p.handed) whole p in
           let went = forgets_go b p handed commit o.sound c.0 waits forgets.own handed_is in
@@ -178,6 +181,7 @@ module _ {S : Type 0} (noted : S → Option HallPart) (noted_desk : S → Option
             log = h'.log;
             pending = h'.pending;
             tally = h'.tally;
+            bins = h'.bins;
           } in
           let w = with_hall (Some h') (with_desk (Some (desk_part whole)) (with_passes (p' ∷ []) v)) in
           let a' = booked a (turned b p p' whole []) in
@@ -206,7 +210,7 @@ module _ {S : Type 0} (noted : S → Option HallPart) (noted_desk : S → Option
           let desk = f.desk part refl in
           let c = f.passes in
           let r = o.sound.each p.number p c.0 in
-          let whole : HallNote = record { loaded = b.hall.loaded; log = b.hall.log; pending = b.hall.pending; faults = dn.faults; tally = b.hall.tally } in
+          let whole : HallNote = record { loaded = b.hall.loaded; log = b.hall.log; pending = b.hall.pending; faults = dn.faults; tally = b.hall.tally; bins = b.hall.bins } in
           let before : part.faults ≡ b.hall.faults = ap (λ (x : DeskPart). x.faults) desk.1 in
           let up : b.hall.faults ≤ dn.faults = subst (λ (n : ℕ). n ≤ dn.faults) before rise in
           let calm : b.hall.loaded.steadfast ≡ true → dn.faults ≡ b.hall.faults = λ e. steady (ap (λ (x : DeskPart). x.loaded.steadfast) desk.1 ∙ e) ∙ before in
@@ -214,7 +218,7 @@ module _ {S : Type 0} (noted : S → Option HallPart) (noted_desk : S → Option
           let told = with_faults dn.faults part in
           let told_is : told ≡ desk_part whole = λ i. with_faults dn.faults (desk.1 i) in
           let p' = after_fault dn.faults (desk_part whole) p in
-          let goes : Goes zeros b p p' whole [] = still_goes zeros b p dn.faults whole o.sound c.0 refl refl refl up calm refl to (le_refl dn.faults) in
+          let goes : Goes zeros b p p' whole [] = still_goes zeros b p dn.faults p.found p.left whole o.sound c.0 refl refl refl up calm refl to (le_refl dn.faults) in
           let w = with_desk (Some (desk_part whole)) (with_passes (p' ∷ []) v) in
           let a' = booked a (turned b p p' whole []) in
           let bare : Fits a' gate door id (with_passes [] w) = record { old = refl; hall = λ q e. absurd (none_some q e); desk = λ q e. (desk.0, sym (some_same (desk_part whole) q e), desk.2); founder = λ q e. absurd (none_some q e); passes = tt } in

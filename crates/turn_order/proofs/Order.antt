@@ -147,12 +147,13 @@ module _ {S : Type 0} (noted : S → Option HallPart) (noted_desk : S → Option
   of_counted s t rule c =
       let m = c.step in
       let k = knows s c.seat c.me.0 rule m.sits in
-      let hall = m.told.0 in
-      let new_is : c.new ≡ hall = some_same c.new hall (sym c.has ∙ m.told.1) in
+      let found = m.told.0 in
+      let hall = m.told.1 in
+      let new_is : c.new ≡ hall = some_same c.new hall (sym c.has ∙ m.told.3) in
       let log_is : hall.log ≡ k.log = ap (λ (h : HallPart). h.log) (sym new_is) ∙ c.counts.log ∙ k.hall c.old c.had in
-      let each = λ (p : PassNote) (a : IsAmong p c.me.0.passes). later_of p (after_look c.more hall p) (subst (Begins p.seen) (sym log_is) (k.seen p a)) refl refl in
-      reads s t c.seat c.me _ rule m (subst (GoOn c.me.0.passes) (sym (ap (λ (x : Me S Note). x.0.passes) m.told.2)) (map_goes_on (after_look c.more hall) c.me.0.passes each))
-      (found_same c.me.0 m.note (ap (λ (x : Me S Note). x.0.founder) m.told.2))
+      let each = λ (p : PassNote) (a : IsAmong p c.me.0.passes). later_of p (after_look c.more found hall p) (subst (Begins p.seen) (sym log_is) (k.seen p a)) refl refl in
+      reads s t c.seat c.me _ rule m (subst (GoOn c.me.0.passes) (sym (ap (λ (x : Me S Note). x.0.passes) m.told.4)) (map_goes_on (after_look c.more found hall) c.me.0.passes each))
+      (found_same c.me.0 m.note (ap (λ (x : Me S Note). x.0.founder) m.told.4))
 
   of_followed : (s t : State S Note) → Opened noted noted_desk s → IsFollowed noted noted_desk s t → Stepped s t
   of_followed s t rule c =
@@ -307,7 +308,7 @@ number_grows h k same begins =
 
 -- what a pass has seen, as a hall
 abbrev seen_hall : PassNote → HallPart
-seen_hall pass = record { base = pass.opened.loaded.base; log = pass.seen; pending = None; tally = zeros }
+seen_hall pass = record { base = pass.opened.loaded.base; log = pass.seen; pending = None; tally = zeros; bins = pass.left.bins }
 
 pub never_falls : {S : Type 0} (noted : S → Option HallPart) (noted_desk : S → Option DeskNote) → NumbersNeverFall noted noted_desk
 never_falls {S} noted noted_desk first others rule steps =

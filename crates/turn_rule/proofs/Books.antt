@@ -63,8 +63,8 @@ pub of_desk : (whole : HallNote) (p : PassNote) → Knows whole p → KnowsDesk 
 of_desk whole p k = record { loaded = k.loaded; seen = k.seen; whole = k.whole; faults = k.faults; steady = k.steady; own = k.own }
 
 -- a pass that looks at the hall while its seat has the desk out goes on to know the desk
-pub desk_seen : (more : TallyNote) (hall : HallPart) (desk : DeskPart) (p : PassNote) → Agree hall desk → KnowsDesk desk p → KnowsDesk desk (after_look more hall p)
-desk_seen more hall desk p same k = record {
+pub desk_seen : (more : TallyNote) (before hall : HallPart) (desk : DeskPart) (p : PassNote) → Agree hall desk → KnowsDesk desk p → KnowsDesk desk (after_look more before hall p)
+desk_seen more before hall desk p same k = record {
   loaded = k.loaded;
   seen = ([], sym same.log ∙ sym (append-nil hall.log));
   whole = k.whole;
@@ -187,12 +187,21 @@ module _ (more : TallyNote) (hands : Bool) (b : Books) (p : PassNote) (h : HallN
 
 -- ---- a turn that leaves the log and the pending edit
 
-abbrev pub after_still : TallyNote → HallNote → ℕ → PassNote → PassNote
-after_still more h faults pass = record { number = pass.number; opened = pass.opened; seen = h.log; handed = pass.handed; faults = faults; tally = raised more pass.tally }
+abbrev pub after_still : TallyNote → HallNote → ℕ → HallPart → HallPart → PassNote → PassNote
+after_still more h faults before after pass = record {
+  number = pass.number;
+  opened = pass.opened;
+  seen = h.log;
+  handed = pass.handed;
+  faults = faults;
+  tally = raised more pass.tally;
+  found = before;
+  left = after;
+}
 
-pub still_goes : (more : TallyNote) (b : Books) (p : PassNote) (faults : ℕ) (h : HallNote) → AreSound b → get_elem? b.passes p.number ≡ some p → h.loaded ≡ b.hall.loaded → h.log ≡ b.hall.log → h.pending ≡ b.hall.pending
-    → b.hall.faults ≤ h.faults → (b.hall.loaded.steadfast ≡ true → h.faults ≡ b.hall.faults) → h.tally ≡ raised more b.hall.tally → p.faults ≤ faults → faults ≤ h.faults → Goes more b p (after_still more h faults p) h []
-still_goes more b p faults h s at loaded log pending rise steady tally from to =
+pub still_goes : (more : TallyNote) (b : Books) (p : PassNote) (faults : ℕ) (before after : HallPart) (h : HallNote) → AreSound b → get_elem? b.passes p.number ≡ some p → h.loaded ≡ b.hall.loaded → h.log ≡ b.hall.log → h.pending ≡ b.hall.pending
+    → b.hall.faults ≤ h.faults → (b.hall.loaded.steadfast ≡ true → h.faults ≡ b.hall.faults) → h.tally ≡ raised more b.hall.tally → p.faults ≤ faults → faults ≤ h.faults → Goes more b p (after_still more h faults before after p) h []
+still_goes more b p faults before after h s at loaded log pending rise steady tally from to =
     let r = s.each p.number p at in
     let same : b.past ++ waiting b.hall ≡ (b.past ++ []) ++ waiting h = sym (ap (λ (l : List Commit). l ++ waiting h) (append-nil b.past) ∙ ap (λ (o : Option Commit). b.past ++ option_to_list o) pending) in
     record {
@@ -218,7 +227,7 @@ still_goes more b p faults h s at loaded log pending rise steady tally from to =
 -- ---- the edit that was handed in last is forgotten
 
 abbrev pub forgotten : HallNote → HallNote
-forgotten h = record { loaded = h.loaded; log = h.log; pending = None; faults = h.faults; tally = h.tally }
+forgotten h = record { loaded = h.loaded; log = h.log; pending = None; faults = h.faults; tally = h.tally; bins = h.bins }
 
 pub forgets_go : (b : Books) (p : PassNote) (handed : List Commit) (c : Commit) → AreSound b → get_elem? b.passes p.number ≡ some p → b.hall.pending ≡ Some c → c.pass ≡ p.number → p.handed ≡ handed ++ c ∷ []
     → Goes zeros b p (after_forgetting handed (forgotten b.hall) p) (forgotten b.hall) []

@@ -39,7 +39,7 @@ newest_of log (Some commit) = commit ∷ []
 
 -- what the hall says of it
 abbrev pub hall_part : HallNote → HallPart
-hall_part whole = record { base = whole.loaded.base; log = whole.log; pending = whole.pending; tally = whole.tally }
+hall_part whole = record { base = whole.loaded.base; log = whole.log; pending = whole.pending; tally = whole.tally; bins = whole.bins }
 
 -- what is said of it at the desk
 abbrev pub desk_part : HallNote → DeskPart
@@ -48,7 +48,7 @@ desk_part whole = record { loaded = whole.loaded; log = whole.log; pending = who
 -- a hall with its desk, which says what was loaded and how often the keeper failed
 abbrev pub whole_of : HallPart → DeskPart → HallNote
 whole_of hall desk =
-    record { loaded = desk.loaded; log = hall.log; pending = hall.pending; faults = desk.faults; tally = hall.tally }
+    record { loaded = desk.loaded; log = hall.log; pending = hall.pending; faults = desk.faults; tally = hall.tally; bins = hall.bins }
 
 -- They are of one state, one log and one pending edit.
 pub record Agree (hall : HallPart) (desk : DeskPart) : Type 0 where

@@ -94,17 +94,18 @@ given false hall = []
 given true hall = newest_of hall.log hall.pending
 
 -- What a turn of a pass does to the hall, and these edits come into the log. They, and the one that is pending then, are of what was
--- pending and what the turn handed in, in that order.
+-- pending and what the turn handed in, in that order. The bins stay.
 pub record Turns (more : TallyNote) (hands : Bool) (number : ℕ) (old new : HallNote) (commits : List Commit) : Type 0 where
   pub loaded : new.loaded ≡ old.loaded
   pub log : new.log ≡ old.log ++ commits
   pub faults : old.faults ≤ new.faults
   pub steady : old.loaded.steadfast ≡ true → new.faults ≡ old.faults
   pub tally : new.tally ≡ raised more old.tally
+  pub bins : new.bins ≡ old.bins
   pub handed : IsSublist (commits ++ waiting new) (waiting old ++ given hands new)
   pub own : All (λ commit. commit.pass ≡ number) (given hands new)
 
--- a pass after a turn that leaves this hall
+-- a pass after a turn with the desk that leaves this hall
 abbrev pub after_turn : TallyNote → Bool → HallNote → PassNote → PassNote
 after_turn more hands hall pass = record {
   number = pass.number;
@@ -113,26 +114,31 @@ after_turn more hands hall pass = record {
   handed = pass.handed ++ given hands hall;
   faults = hall.faults;
   tally = raised more pass.tally;
+  found = pass.found;
+  left = pass.left;
 }
 
 -- ---- a turn of a pass that hasn't the desk, or leaves it as it is
 
--- The log and the pending edit stay as they were; it may count something.
+-- The log and the pending edit stay as they were; it may count something. Where it counts nothing the bins stay, too.
 pub record Counts (more : TallyNote) (old new : HallPart) : Type 0 where
   pub base : new.base ≡ old.base
   pub log : new.log ≡ old.log
   pub pending : new.pending ≡ old.pending
   pub tally : new.tally ≡ raised more old.tally
+  pub still : more ≡ zeros → new.bins ≡ old.bins
 
--- a pass after such a turn
-abbrev pub after_look : TallyNote → HallPart → PassNote → PassNote
-after_look more hall pass = record {
+-- a pass after such a turn, which found the first of these halls, and left the second
+abbrev pub after_look : TallyNote → HallPart → HallPart → PassNote → PassNote
+after_look more found hall pass = record {
   number = pass.number;
   opened = pass.opened;
   seen = hall.log;
   handed = pass.handed;
   faults = pass.faults;
   tally = raised more pass.tally;
+  found = found;
+  left = hall;
 }
 
 -- ---- a turn of a pass that has the desk
@@ -146,7 +152,7 @@ pub record TurnsBoth (hands : Bool) (number : ℕ) (desk : DeskPart) (old new : 
 pub record Forgets (number : ℕ) (commit : Commit) (desk : DeskPart) (old new : HallPart) : Type 0 where
   pub pending : desk.pending ≡ Some commit
   pub own : commit.pass ≡ number
-  pub new_is : new ≡ record { base = old.base; log = old.log; pending = None; tally = old.tally }
+  pub new_is : new ≡ record { base = old.base; log = old.log; pending = None; tally = old.tally; bins = old.bins }
 
 -- all but the last of these
 abbrev pub front : List Commit → List Commit
@@ -163,6 +169,8 @@ after_forgetting handed whole pass = record {
   handed = handed;
   faults = whole.faults;
   tally = raised zeros pass.tally;
+  found = pass.found;
+  left = pass.left;
 }
 
 -- ---- the keeper has failed
@@ -180,6 +188,8 @@ after_fault faults desk pass = record {
   handed = pass.handed;
   faults = faults;
   tally = pass.tally;
+  found = pass.found;
+  left = pass.left;
 }
 
 -- ---- new passes, and passes that meet
@@ -192,6 +202,8 @@ new_pass founder = record {
   handed = [];
   faults = founder.opened.faults;
   tally = zeros;
+  found = hall_part founder.opened;
+  left = hall_part founder.opened;
 }
 
 abbrev pub longer : List Commit → List Commit → List Commit
@@ -205,6 +217,8 @@ seeing log pass = record {
   handed = pass.handed;
   faults = pass.faults;
   tally = pass.tally;
+  found = pass.found;
+  left = pass.left;
 }
 
 -- two passes that meet have seen the longer log
@@ -286,11 +300,12 @@ module _ {S : Type 0} (noted : S → Option HallPart) (noted_desk : S → Option
   desk_out [] = None
   desk_out (slot ∷ slots) = noted_desk slot.1
 
-  -- what the pass counted with the hall that the seat has out is known to all from now on
+  -- what the pass counted with the hall that the seat has out is known to all from now on; the pass notes how it found the hall and how
+  -- it leaves it
   abbrev pub Looks : TallyNote → Me S Note → Me S Note → Type 0
-  Looks more me new = (hall : HallPart) × (noted_out me.1 ≡ Some hall)
-      × (new ≡ (with_hall (Some hall) (with_passes (map (after_look more hall) me.0.passes) me.0), me.1))
-      × All (KnowsHall hall) (map (after_look more hall) me.0.passes)
+  Looks more me new = (found : HallPart) × (hall : HallPart) × (me.0.hall ≡ Some found) × (noted_out me.1 ≡ Some hall)
+      × (new ≡ (with_hall (Some hall) (with_passes (map (after_look more found hall) me.0.passes) me.0), me.1))
+      × All (KnowsHall hall) (map (after_look more found hall) me.0.passes)
 
   -- what the pass did with the hall and the desk that the seat has out is known to all from now on
   abbrev pub Follows : Bool → Me S Note → Me S Note → Type 0

@@ -1,6 +1,7 @@
 //! What is known of a hall, of a pass and of a seat. No value of these types is made: contracts alone speak of them.
 
 use content_state::{Commit, State};
+use fragment_cache::Bins;
 use site_keeper::{Batch, Stored};
 use std::collections::LinkedList;
 use std::marker::Model;
@@ -35,22 +36,24 @@ pub struct TallyNote {
 }
 
 /// What is known of a hall and its desk together: what was loaded, the edits that were published since, the one that is
-/// pending, how often the keeper has failed, and what the caches counted.
+/// pending, how often the keeper has failed, what the caches counted, and the bins.
 pub struct HallNote {
     pub loaded: Loaded,
     pub log: LinkedList<Commit>,
     pub pending: Option<Commit>,
     pub faults: u64,
     pub tally: TallyNote,
+    pub bins: Bins,
 }
 
 /// What is known of a hall alone: the state that was loaded, the edits that were published since, the one that is pending,
-/// and what its caches counted.
+/// what its caches counted, and its bins.
 pub struct HallPart {
     pub base: State,
     pub log: LinkedList<Commit>,
     pub pending: Option<Commit>,
     pub tally: TallyNote,
+    pub bins: Bins,
 }
 
 /// What a seat knows that has the desk out: what was loaded, the edits that the hall has published since, the one that is
@@ -72,7 +75,8 @@ pub struct DeskNote {
 }
 
 /// What a pass knows: its number, the hall that the site was opened with, the edits that it has seen, those that it handed
-/// in, how often the keeper had failed when it last had the desk, and what its own turns counted.
+/// in, how often the keeper had failed when it last had the desk, and what its own turns counted; and the hall as its last
+/// turn that read, looked or kept found it, and as that left it.
 pub struct PassNote {
     pub number: u32,
     pub opened: HallNote,
@@ -80,6 +84,8 @@ pub struct PassNote {
     pub handed: LinkedList<Commit>,
     pub faults: u64,
     pub tally: TallyNote,
+    pub found: HallPart,
+    pub left: HallPart,
 }
 
 /// What the founder of the passes knows: how many were made, and the hall that the site was opened with.

@@ -4,7 +4,7 @@ use Rattle.site_hall.specs.Looked.{KeepsUnder}
 use Rattle.site_hall.specs.Sides.{HallSide, with_shelves}
 use Rattle.site_table.specs.Kinds.{counts_of}
 use Rattle.site_table.specs.Turns.{counts_of_keep}
-use Rattle.site_table.specs.Views.{part_of, pass_of, pass_at}
+use Rattle.site_table.specs.Views.{part_of, pass_of, pass_at, out_at}
 use Rattle.site_turn.specs.Turns.{Looks}
 use Rattle.site_turn.proofs.Going.{is_out, looked_back}
 use Rattle.site_turn.proofs.Halls.{keep_counts}
@@ -39,5 +39,5 @@ returns-clause-looks g c =
       knows = before;
       did = (c.keep-answer.ensures.keeps, c.keep-answer.ensures.beside);
       is_hall = c.back.ensures.is_hall;
-      went = looked_back (counts_of c.kept_by-deed.result) pass _ c.back.result.views old new (ap pass_at c.out-seat.ensures.taken ∙ same) c.back.ensures.back before counts c.back.ensures.knows;
+      went = looked_back (counts_of c.kept_by-deed.result) pass _ _ c.back.result.views old new (ap pass_at c.out-seat.ensures.taken ∙ same) (ap out_at c.out-seat.ensures.taken) c.back.ensures.back before counts c.back.ensures.knows;
     }))

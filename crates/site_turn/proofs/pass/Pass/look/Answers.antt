@@ -4,7 +4,7 @@ use Rattle.site_hall.specs.Looked.{LooksUp}
 use Rattle.site_hall.specs.Sides.{HallSide, with_shelves}
 use Rattle.site_table.specs.Kinds.{counts_of}
 use Rattle.site_table.specs.Turns.{counts_of_look}
-use Rattle.site_table.specs.Views.{part_of, pass_of, pass_at}
+use Rattle.site_table.specs.Views.{part_of, pass_of, pass_at, out_at}
 use Rattle.site_turn.specs.Turns.{Looks}
 use Rattle.site_turn.proofs.Going.{is_out, looked_back}
 use Rattle.site_turn.proofs.Halls.{look_counts}
@@ -34,7 +34,7 @@ returns-clause-looks g c =
       knows = before;
       did = (c.look-found.ensures.looks, c.look-found.ensures.beside);
       is_hall = c.back.ensures.is_hall;
-      went = looked_back (counts_of c.looked_by-deed.result) pass _ c.back.result.views old new (ap pass_at c.out-seat.ensures.taken ∙ same) c.back.ensures.back before counts c.back.ensures.knows;
+      went = looked_back (counts_of c.looked_by-deed.result) pass _ _ c.back.result.views old new (ap pass_at c.out-seat.ensures.taken ∙ same) (ap out_at c.out-seat.ensures.taken) c.back.ensures.back before counts c.back.ensures.knows;
     }))
 
 pub returns-clause-sound : goal.returns-clause-sound
@@ -45,5 +45,5 @@ returns-clause-sound g c =
     let same = ap (λ b. pass_of b.views) c.replace-badge.ensures.value in
     let before = subst (KnowsHall (part_of old)) same c.out-seat.ensures.knows in
     let counts = subst (λ m. Counts m (part_of old) (part_of new)) (sym c.looked_by-deed.ensures) (look_counts c.look-found.result old new c.args.bin c.args.key.now c.look-found.ensures.looks c.look-found.ensures.beside) in
-    looks_sound (counts_of c.looked_by-deed.result) pass (pass_of c.back.result.views) new c.args.key.now c.look-found.result
-    (looked_back (counts_of c.looked_by-deed.result) pass _ c.back.result.views old new (ap pass_at c.out-seat.ensures.taken ∙ same) c.back.ensures.back before counts c.back.ensures.knows) c.look-found.ensures.sound
+    looks_sound (counts_of c.looked_by-deed.result) pass (pass_of c.back.result.views) (part_of old) new c.args.key.now c.look-found.result
+    (looked_back (counts_of c.looked_by-deed.result) pass _ _ c.back.result.views old new (ap pass_at c.out-seat.ensures.taken ∙ same) (ap out_at c.out-seat.ensures.taken) c.back.ensures.back before counts c.back.ensures.knows) c.look-found.ensures.sound

@@ -1,6 +1,6 @@
 use Rattle.std.proofs.Common.{◌∙◌, ap, refl, subst}
 use Rattle.turn_rule.specs.Steps.{zeros, KnowsHall}
-use Rattle.site_table.specs.Views.{part_of, pass_of, pass_at}
+use Rattle.site_table.specs.Views.{part_of, pass_of, pass_at, out_at}
 use Rattle.site_turn.specs.Turns.{Reads}
 use Rattle.site_turn.proofs.Editing.{still}
 use Rattle.site_turn.proofs.Going.{is_out, looked_back}
@@ -23,5 +23,5 @@ returns-clause-looks g c =
       knows = before;
       did = refl;
       is_hall = c.back.ensures.is_hall;
-      went = looked_back zeros pass _ c.back.result.views hall hall (ap pass_at c.out-seat.ensures.taken ∙ same) c.back.ensures.back before (still hall) c.back.ensures.knows;
+      went = looked_back zeros pass _ _ c.back.result.views hall hall (ap pass_at c.out-seat.ensures.taken ∙ same) (ap out_at c.out-seat.ensures.taken) c.back.ensures.back before (still hall) c.back.ensures.knows;
     })
