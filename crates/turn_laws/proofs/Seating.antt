@@ -17,20 +17,21 @@ use Rattle.turn_rule.specs.declared.notes.Note.{Note}
 use Rattle.turn_rule.specs.Logs.{hall_part, desk_part}
 use Rattle.turn_rule.specs.Rule.{Account, Claims, IsAmong, Stands, Fits, IsOpen, IsFresh, Opened, founder_in}
 use Rattle.turn_rule.specs.Steps.{bearing, founding, spent, with_passes, new_pass, longer, seeing, first_of, others_of, left_of, right_of, joined, Draws, Meets}
-use Rattle.turn_laws.specs.Laws.{PassesAreDrawn, PassesMeet, PassesGetSeats, PassesJoinSeats}
+use Rattle.turn_laws.specs.Laws.{Stays, Leads, Lets, PassesAreDrawn, PassesMeet, PassesGetSeats, PassesJoinSeats, HallsStayAtSplits, HallsStayAtJoins}
+use Rattle.turn_laws.specs.Words.{home, out}
 use Rattle.turn_rule.proofs.Edits.{longer_is, begins_then}
 use Rattle.turn_rule.proofs.Claims.{moved, moved_here, moved_else, at_below, at_one, stands_on, stands_longer, each_set, each_more, others_of_claims, claims_moved, claims_changed, claims_left, claims_new}
 use Rattle.turn_rule.proofs.Books.{drawn, drawn_sound, seen_to, seeing_sound, own_in}
 use Rattle.turn_rule.proofs.Accounts.{out_stays, out_longer, none_some, some_same, number_at, seated, booked, plain_fits, comes}
-use Rattle.turn_laws.proofs.Opened.{K, is_opened, Law, in_open}
+use Rattle.turn_laws.proofs.Opened.{K, is_opened, kept_by, Law, in_open, lets}
 
 module _ {S : Type 0} (noted : S → Option HallPart) (noted_desk : S → Option DeskNote) where
   -- ---- new passes, and passes that meet
 
-  pub passes_drawn : PassesAreDrawn noted noted_desk
-  passes_drawn slots id me f one is = in_open noted noted_desk slots id me (founding f, []) 0 (λ n. n) (λ m _ w. Draws m w) one is refl law
+  pub passes_drawn_leads : PassesAreDrawn noted noted_desk (Leads noted noted_desk)
+  passes_drawn_leads slots id me f one is = in_open noted noted_desk Stays slots id me (founding f, []) 0 (λ n. n) (λ m _ w. Draws m w) one is refl law
     where
-      law : Law noted noted_desk id (founding f, []) 0 (λ n. n) (λ _ w. Draws (founding f, []) w)
+      law : Law noted noted_desk Stays id (founding f, []) 0 (λ n. n) (λ _ w. Draws (founding f, []) w)
       law s a gate door o count at =
           let b = a.books in
           let mine = (o.fits id (founding f) at).founder f refl in
@@ -55,7 +56,7 @@ module _ {S : Type 0} (noted : S → Option HallPart) (noted_desk : S → Option
             w f,
             keeps,
             tt,
-            inr (record {
+            kept_by noted noted_desk Stays s _ a gate door o (record {
               account = a';
               gate = gate;
               door = door;
@@ -69,14 +70,14 @@ module _ {S : Type 0} (noted : S → Option HallPart) (noted_desk : S → Option
                 fits = each_set (Fits a' gate door) s.views id (w f) others (subst (λ (k : FounderNote). Fits a' gate door id (w k)) (sym mine.1) here);
                 placed = placed;
               };
-            }),
+            }) refl,
             (f, refl, refl),
           )
 
-  pub passes_met : PassesMeet noted noted_desk
-  passes_met slots id me p q one is = in_open noted noted_desk slots id me (with_passes (p ∷ q ∷ []) spent, []) 0 (λ n. n) (λ m _ w. Meets m w) one is refl law
+  pub passes_met_leads : PassesMeet noted noted_desk (Leads noted noted_desk)
+  passes_met_leads slots id me p q one is = in_open noted noted_desk Stays slots id me (with_passes (p ∷ q ∷ []) spent, []) 0 (λ n. n) (λ m _ w. Meets m w) one is refl law
     where
-      law : Law noted noted_desk id (with_passes (p ∷ q ∷ []) spent, []) 0 (λ n. n) (λ _ w. Meets (with_passes (p ∷ q ∷ []) spent, []) w)
+      law : Law noted noted_desk Stays id (with_passes (p ∷ q ∷ []) spent, []) 0 (λ n. n) (λ _ w. Meets (with_passes (p ∷ q ∷ []) spent, []) w)
       law s a gate door o count at =
           let b = a.books in
           let c = (o.fits id (with_passes (p ∷ q ∷ []) spent) at).passes in
@@ -118,7 +119,7 @@ module _ {S : Type 0} (noted : S → Option HallPart) (noted_desk : S → Option
             w,
             keeps,
             tt,
-            inr (record {
+            kept_by noted noted_desk Stays s _ a gate door o (record {
               account = a';
               gate = gate;
               door = door;
@@ -132,9 +133,16 @@ module _ {S : Type 0} (noted : S → Option HallPart) (noted_desk : S → Option
                 fits = each_set (Fits a' gate door) s.views id w others here;
                 placed = placed;
               };
-            }),
+            }) refl,
             (refl, (both.first, both.second, own_in b p l o.sound c.0 whole seen, own_in b q l o.sound d.0 whole seen)),
           )
+
+  -- what a table asks of these steps
+  pub passes_drawn : PassesAreDrawn noted noted_desk (Lets noted noted_desk)
+  passes_drawn slots id me f one is = lets noted noted_desk Stays slots id me 0 (λ n. n) (λ _ w. Draws me w) (passes_drawn_leads slots id me f one is)
+
+  pub passes_met : PassesMeet noted noted_desk (Lets noted noted_desk)
+  passes_met slots id me p q one is = lets noted noted_desk Stays slots id me 0 (λ n. n) (λ _ w. Meets me w) (passes_met_leads slots id me p q one is)
 
   -- ---- passes change their seats
 
@@ -229,3 +237,19 @@ module _ {S : Type 0} (noted : S → Option HallPart) (noted_desk : S → Option
 
       here : Joins (K noted noted_desk) id v other (bearing q) (joined v (bearing q)) spent
       here s h at differ there = ⊎_elim (λ (x : IsFresh noted noted_desk s). absurd (is_opened noted noted_desk s id v old at x)) (λ (x : Opened noted noted_desk s). law s x.account x.gate x.door x.is_open at differ there) h
+
+  -- ---- the hall stays where passes change their seats
+
+  pub stay_at_splits : HallsStayAtSplits noted noted_desk
+  stay_at_splits s id v at hall (home value shut there is) = (hall, home value shut there is, refl)
+  stay_at_splits s id v at hall (out j u sits has) =
+      let left = set s.views id (left_of v) in
+      let held = out_longer (λ note. note.hall) left (right_of v ∷ []) j hall (out_stays (λ note. note.hall) s.views id j v (left_of v) hall at (u, sits, has) (λ e. e)) in
+      (hall, out j held.0 held.1 held.2, refl)
+
+  pub stay_at_joins : HallsStayAtJoins noted noted_desk
+  stay_at_joins s id other v more q at is there hall (home value shut lies held) = (hall, home value shut lies held, refl)
+  stay_at_joins s id other v more q at is there hall (out j u sits has) =
+      let one = out_stays (λ note. note.hall) s.views id j v (joined v more) hall at (u, sits, has) (λ e. e) in
+      let held = out_stays (λ note. note.hall) (set s.views id (joined v more)) other j more spent hall there one (λ e. absurd (none_some hall (ap (λ (n : Note). n.hall) (sym is) ∙ e))) in
+      (hall, out j held.0 held.1 held.2, refl)

@@ -1,5 +1,5 @@
 -- Hall and desk go out and come back, and keep the rule.
-use Rattle.std.proofs.Common.{◌≡◌, ◌≢◌, ℕ, List, [], ◌∷◌, length, set, ◌==◌, inr, Option, Some, None, refl, sym, ap, ◌∙◌, subst, arith}
+use Rattle.std.proofs.Common.{◌≡◌, ◌≢◌, ℕ, List, [], ◌∷◌, length, set, ◌==◌, Option, Some, None, refl, sym, ap, ◌∙◌, subst, arith}
 use mathlib.Core.Option.{some}
 use lib.ListN.{get_elem?}
 use mathlib.Core.Option as maybe
@@ -14,11 +14,11 @@ use Rattle.turn_rule.specs.declared.notes.Note.{Note}
 use Rattle.turn_rule.specs.Logs.{hall_part, desk_part, StandsFor}
 use Rattle.turn_rule.specs.Rule.{Account, Fits, HasHall, HasDesk, IsOpen}
 use Rattle.turn_rule.specs.Steps.{with_hall, with_desk, AgreesWith, TakesOut, TakesDesk, Marks, GivesBack, GivesDeskBack}
-use Rattle.turn_laws.specs.Laws.{HallsAreTakenOut, DesksAreTakenOut, GatesAreMarked, DoorsAreMarked, HallsAreGivenBack, DesksAreGivenBack}
+use Rattle.turn_laws.specs.Laws.{Stays, Leads, Lets, HallsAreTakenOut, DesksAreTakenOut, GatesAreMarked, DoorsAreMarked, HallsAreGivenBack, DesksAreGivenBack}
 use Rattle.turn_rule.proofs.Claims.{each_set}
 use Rattle.turn_rule.proofs.Books.{all_know}
 use Rattle.turn_rule.proofs.Accounts.{none_some, some_same, one_not_zero, zero_not_one, two_not_zero, owned, clerked, no_hall, no_desk, marked_fits, door_fits, out_stays, out_here, still_placed, unchanged, all_of_hall, all_of_desk}
-use Rattle.turn_laws.proofs.Opened.{K, with_words, Law, in_open, stays_open}
+use Rattle.turn_laws.proofs.Opened.{with_words, Kept, kept_by, Law, in_open, lets, stays_open}
 
 module _ {S : Type 0} (noted : S → Option HallPart) (noted_desk : S → Option DeskNote) where
   -- ---- a slot goes out and comes back, and the other stays as it is
@@ -33,7 +33,7 @@ module _ {S : Type 0} (noted : S → Option HallPart) (noted_desk : S → Option
 
   abbrev Ends : ℕ → Me S Note → State S Note → Account → ℕ → ℕ → ℕ → Type 0
   Ends id me s a gate door m = (w : Note) × (x : Act S) × Valid s.homes me.1 x
-      × K noted noted_desk (stepped (with_words s (length a.books.hall.log ∷ gate ∷ door ∷ [])) 1 m id me.1 w x)
+      × Kept noted noted_desk Stays (with_words s (length a.books.hall.log ∷ gate ∷ door ∷ [])) (stepped (with_words s (length a.books.hall.log ∷ gate ∷ door ∷ [])) 1 m id me.1 w x)
       × TakesOut noted noted_desk me gate (w, carried_after me.1 x)
 
   agrees : (a : Account) (gate door id : ℕ) (v : Note) (desk : Option DeskPart) → Fits a gate door id v → v.desk ≡ desk → AgreesWith (hall_part a.books.hall) desk
@@ -53,7 +53,7 @@ module _ {S : Type 0} (noted : S → Option HallPart) (noted_desk : S → Option
         w,
         takes 0 home.0,
         home.1,
-        inr (record {
+        kept_by noted noted_desk Stays s _ a gate door o (record {
           account = b;
           gate = taken;
           door = door;
@@ -67,7 +67,7 @@ module _ {S : Type 0} (noted : S → Option HallPart) (noted_desk : S → Option
             fits = each_set (Fits b taken door) s.views id w others mine;
             placed = still_placed s.views a id v w o.placed at refl;
           };
-        }),
+        }) refl,
         ((λ _. (home.0, part, home.2, refl, agrees a gate door id v v.desk f refl, all_of_hall a.books.hall v.passes (all_know a.books a.holder id v.passes o.sound f.passes))), (λ ne. absurd (ne e))),
       )
 
@@ -80,16 +80,16 @@ module _ {S : Type 0} (noted : S → Option HallPart) (noted_desk : S → Option
     ((λ e. absurd (ne e)), (λ _. refl)),
   )
 
-  pub halls_out : HallsAreTakenOut noted noted_desk
-  halls_out slots id me taken one some_gate old =
-      in_open noted noted_desk slots id me me 1 (λ n. either (n == 0) taken n) (TakesOut noted noted_desk) one refl old
+  pub halls_out_leads : HallsAreTakenOut noted noted_desk (Leads noted noted_desk)
+  halls_out_leads slots id me taken one some_gate old =
+      in_open noted noted_desk Stays slots id me me 1 (λ n. either (n == 0) taken n) (TakesOut noted noted_desk) one refl old
       (λ s a gate door o count at. exchanged gate 0 taken (Ends id me s a gate door) (out_hit id me s a gate door taken o at some_gate) (out_miss id me s a gate door o at))
 
   -- ---- the desk goes out
 
   abbrev Leaves : ℕ → Me S Note → State S Note → Account → ℕ → ℕ → ℕ → Type 0
   Leaves id me s a gate door m = (w : Note) × (x : Act S) × Valid s.homes me.1 x
-      × K noted noted_desk (stepped (with_words s (length a.books.hall.log ∷ gate ∷ door ∷ [])) 2 m id me.1 w x)
+      × Kept noted noted_desk Stays (with_words s (length a.books.hall.log ∷ gate ∷ door ∷ [])) (stepped (with_words s (length a.books.hall.log ∷ gate ∷ door ∷ [])) 2 m id me.1 w x)
       × TakesDesk noted noted_desk me door (w, carried_after me.1 x)
 
   desk_hit : (id : ℕ) (me : Me S Note) (s : State S Note) (a : Account) (gate door taken : ℕ) → IsOpen noted noted_desk s a gate door → get_elem? s.views id ≡ some me.0 → taken ≢ 0 → door ≡ 0 → Leaves id me s a gate door taken
@@ -105,7 +105,7 @@ module _ {S : Type 0} (noted : S → Option HallPart) (noted_desk : S → Option
         w,
         takes 1 home.0,
         home.2,
-        inr (record {
+        kept_by noted noted_desk Stays s _ a gate door o (record {
           account = b;
           gate = gate;
           door = taken;
@@ -119,7 +119,7 @@ module _ {S : Type 0} (noted : S → Option HallPart) (noted_desk : S → Option
             fits = each_set (Fits b gate taken) s.views id w others mine;
             placed = still_placed s.views a id v w o.placed at refl;
           };
-        }),
+        }) refl,
         ((λ _. (home.0, home.1, part, home.3, home.4, refl, all_of_desk a.books.hall v.passes (all_know a.books a.holder id v.passes o.sound f.passes))), (λ ne. absurd (ne e))),
       )
 
@@ -132,27 +132,27 @@ module _ {S : Type 0} (noted : S → Option HallPart) (noted_desk : S → Option
     ((λ e. absurd (ne e)), (λ _. refl)),
   )
 
-  pub desks_out : DesksAreTakenOut noted noted_desk
-  desks_out slots id me taken one some_gate old =
-      in_open noted noted_desk slots id me me 2 (λ n. either (n == 0) taken n) (TakesDesk noted noted_desk) one refl old
+  pub desks_out_leads : DesksAreTakenOut noted noted_desk (Leads noted noted_desk)
+  desks_out_leads slots id me taken one some_gate old =
+      in_open noted noted_desk Stays slots id me me 2 (λ n. either (n == 0) taken n) (TakesDesk noted noted_desk) one refl old
       (λ s a gate door o count at. exchanged door 0 taken (Leaves id me s a gate door) (desk_hit id me s a gate door taken o at some_gate) (desk_miss id me s a gate door o at))
 
   -- ---- the gates are marked
 
-  abbrev Stays : ℕ → Me S Note → State S Note → Account → ℕ → ℕ → ℕ → ℕ → Type 0
-  Stays id me s a gate door i m = (w : Note) × (x : Act S) × Valid s.homes me.1 x
-      × K noted noted_desk (stepped (with_words s (length a.books.hall.log ∷ gate ∷ door ∷ [])) i m id me.1 w x)
+  abbrev Remains : ℕ → Me S Note → State S Note → Account → ℕ → ℕ → ℕ → ℕ → Type 0
+  Remains id me s a gate door i m = (w : Note) × (x : Act S) × Valid s.homes me.1 x
+      × Kept noted noted_desk Stays (with_words s (length a.books.hall.log ∷ gate ∷ door ∷ [])) (stepped (with_words s (length a.books.hall.log ∷ gate ∷ door ∷ [])) i m id me.1 w x)
       × Marks me (w, carried_after me.1 x)
 
-  pub gates_marked : GatesAreMarked noted noted_desk
-  gates_marked slots id me one old =
-      in_open noted noted_desk slots id me me 1 (λ n. either (n == 1) 2 n) (λ m _ w. Marks m w) one refl old
-      (λ s a gate door o count at. exchanged gate 1 2 (Stays id me s a gate door 1)
+  pub gates_marked_leads : GatesAreMarked noted noted_desk (Leads noted noted_desk)
+  gates_marked_leads slots id me one old =
+      in_open noted noted_desk Stays slots id me me 1 (λ n. either (n == 1) 2 n) (λ m _ w. Marks m w) one refl old
+      (λ s a gate door o count at. exchanged gate 1 2 (Remains id me s a gate door 1)
       (λ e. (
         me.0,
         keeps,
         tt,
-        inr (record {
+        kept_by noted noted_desk Stays s _ a gate door o (record {
           account = a;
           gate = 2;
           door = door;
@@ -166,20 +166,20 @@ module _ {S : Type 0} (noted : S → Option HallPart) (noted_desk : S → Option
             fits = unchanged s.views a 2 door id me.0 at (λ j u x. marked_fits a gate 2 door j u two_not_zero (o.fits j u x));
             placed = still_placed s.views a id me.0 me.0 o.placed at refl;
           };
-        }),
+        }) refl,
         refl,
       ))
       (λ ne. (me.0, keeps, tt, stays_open noted noted_desk s a gate door id me.0 o at, refl)))
 
-  pub doors_marked : DoorsAreMarked noted noted_desk
-  doors_marked slots id me one old =
-      in_open noted noted_desk slots id me me 2 (λ n. either (n == 1) 2 n) (λ m _ w. Marks m w) one refl old
-      (λ s a gate door o count at. exchanged door 1 2 (Stays id me s a gate door 2)
+  pub doors_marked_leads : DoorsAreMarked noted noted_desk (Leads noted noted_desk)
+  doors_marked_leads slots id me one old =
+      in_open noted noted_desk Stays slots id me me 2 (λ n. either (n == 1) 2 n) (λ m _ w. Marks m w) one refl old
+      (λ s a gate door o count at. exchanged door 1 2 (Remains id me s a gate door 2)
       (λ e. (
         me.0,
         keeps,
         tt,
-        inr (record {
+        kept_by noted noted_desk Stays s _ a gate door o (record {
           account = a;
           gate = gate;
           door = 2;
@@ -193,18 +193,18 @@ module _ {S : Type 0} (noted : S → Option HallPart) (noted_desk : S → Option
             fits = unchanged s.views a gate 2 id me.0 at (λ j u x. door_fits a gate 2 door j u two_not_zero (o.fits j u x));
             placed = still_placed s.views a id me.0 me.0 o.placed at refl;
           };
-        }),
+        }) refl,
         refl,
       ))
       (λ ne. (me.0, keeps, tt, stays_open noted noted_desk s a gate door id me.0 o at, refl)))
 
   -- ---- the hall comes back, and the desk
 
-  pub halls_back : HallsAreGivenBack noted noted_desk
-  halls_back slots id me v y others h one is old on at_home =
-      in_open noted noted_desk slots id me (v, (0, y) ∷ others) 1 (λ _. 0) (λ m _ w. GivesBack m w) one is old law
+  pub halls_back_leads : HallsAreGivenBack noted noted_desk (Leads noted noted_desk)
+  halls_back_leads slots id me v y others h one is old on at_home =
+      in_open noted noted_desk Stays slots id me (v, (0, y) ∷ others) 1 (λ _. 0) (λ m _ w. GivesBack m w) one is old law
     where
-      law : Law noted noted_desk id (v, (0, y) ∷ others) 1 (λ _. 0) (λ _ w. GivesBack (v, (0, y) ∷ others) w)
+      law : Law noted noted_desk Stays id (v, (0, y) ∷ others) 1 (λ _. 0) (λ _ w. GivesBack (v, (0, y) ∷ others) w)
       law s a gate door o count at =
           let f = o.fits id v at in
           let mine = f.hall h on in
@@ -214,7 +214,7 @@ module _ {S : Type 0} (noted : S → Option HallPart) (noted_desk : S → Option
             w,
             gives,
             tt,
-            inr (record {
+            kept_by noted noted_desk Stays s _ a gate door o (record {
               account = a;
               gate = 0;
               door = door;
@@ -228,15 +228,15 @@ module _ {S : Type 0} (noted : S → Option HallPart) (noted_desk : S → Option
                 fits = each_set (Fits a 0 door) s.views id w apart here;
                 placed = still_placed s.views a id v w o.placed at refl;
               };
-            }),
+            }) refl,
             refl,
           )
 
-  pub desks_back : DesksAreGivenBack noted noted_desk
-  desks_back slots id me v y others d part one is old on at_home stands =
-      in_open noted noted_desk slots id me (v, (1, y) ∷ others) 2 (λ _. 0) (λ m _ w. GivesDeskBack m w) one is old law
+  pub desks_back_leads : DesksAreGivenBack noted noted_desk (Leads noted noted_desk)
+  desks_back_leads slots id me v y others d part one is old on at_home stands =
+      in_open noted noted_desk Stays slots id me (v, (1, y) ∷ others) 2 (λ _. 0) (λ m _ w. GivesDeskBack m w) one is old law
     where
-      law : Law noted noted_desk id (v, (1, y) ∷ others) 2 (λ _. 0) (λ _ w. GivesDeskBack (v, (1, y) ∷ others) w)
+      law : Law noted noted_desk Stays id (v, (1, y) ∷ others) 2 (λ _. 0) (λ _ w. GivesDeskBack (v, (1, y) ∷ others) w)
       law s a gate door o count at =
           let f = o.fits id v at in
           let mine = f.desk part on in
@@ -246,7 +246,7 @@ module _ {S : Type 0} (noted : S → Option HallPart) (noted_desk : S → Option
             w,
             gives,
             tt,
-            inr (record {
+            kept_by noted noted_desk Stays s _ a gate door o (record {
               account = a;
               gate = gate;
               door = 0;
@@ -260,6 +260,26 @@ module _ {S : Type 0} (noted : S → Option HallPart) (noted_desk : S → Option
                 fits = each_set (Fits a gate 0) s.views id w apart here;
                 placed = still_placed s.views a id v w o.placed at refl;
               };
-            }),
+            }) refl,
             refl,
           )
+
+  -- ---- what a table asks of these steps
+
+  pub halls_out : HallsAreTakenOut noted noted_desk (Lets noted noted_desk)
+  halls_out slots id me taken one some_gate old = lets noted noted_desk Stays slots id me 1 (λ n. either (n == 0) taken n) (TakesOut noted noted_desk me) (halls_out_leads slots id me taken one some_gate old)
+
+  pub desks_out : DesksAreTakenOut noted noted_desk (Lets noted noted_desk)
+  desks_out slots id me taken one some_gate old = lets noted noted_desk Stays slots id me 2 (λ n. either (n == 0) taken n) (TakesDesk noted noted_desk me) (desks_out_leads slots id me taken one some_gate old)
+
+  pub gates_marked : GatesAreMarked noted noted_desk (Lets noted noted_desk)
+  gates_marked slots id me one old = lets noted noted_desk Stays slots id me 1 (λ n. either (n == 1) 2 n) (λ _ w. Marks me w) (gates_marked_leads slots id me one old)
+
+  pub doors_marked : DoorsAreMarked noted noted_desk (Lets noted noted_desk)
+  doors_marked slots id me one old = lets noted noted_desk Stays slots id me 2 (λ n. either (n == 1) 2 n) (λ _ w. Marks me w) (doors_marked_leads slots id me one old)
+
+  pub halls_back : HallsAreGivenBack noted noted_desk (Lets noted noted_desk)
+  halls_back slots id me v y others h one is old on at_home = lets noted noted_desk Stays slots id me 1 (λ _. 0) (λ _ w. GivesBack me w) (halls_back_leads slots id me v y others h one is old on at_home)
+
+  pub desks_back : DesksAreGivenBack noted noted_desk (Lets noted noted_desk)
+  desks_back slots id me v y others d part one is old on at_home stands = lets noted noted_desk Stays slots id me 2 (λ _. 0) (λ _ w. GivesDeskBack me w) (desks_back_leads slots id me v y others d part one is old on at_home stands)

@@ -1,5 +1,5 @@
 -- What a pass does with the hall and the desk that are out keeps the rule.
-use Rattle.std.proofs.Common.{◌≡◌, ◌≢◌, ℕ, ◌+◌, ◌%◌, ◌^◌, ◌≤◌, List, [], ◌∷◌, ◌++◌, length, set, map, true, inl, inr, Option, Some, ⊎_elim, refl, sym, ap, ◌∙◌, subst, arith, length-append, mod-eq_of_lt, le_refl}
+use Rattle.std.proofs.Common.{◌≡◌, ◌≢◌, ℕ, ◌+◌, ◌%◌, ◌^◌, ◌≤◌, List, [], ◌∷◌, ◌++◌, length, set, map, true, inl, Option, Some, ⊎_elim, refl, sym, ap, ◌∙◌, subst, arith, length-append, mod-eq_of_lt, le_refl}
 use Rattle.std.specs.List.{All}
 use mathlib.Core.Option.{some}
 use lib.ListN.{get_elem?}
@@ -17,12 +17,12 @@ use Rattle.turn_rule.specs.declared.notes.Note.{Note}
 use Rattle.turn_rule.specs.Logs.{hall_part, desk_part, whole_of}
 use Rattle.turn_rule.specs.Rule.{Books, Account, AreSound, Claims, IsAmong, Stands, Fits, HasOut, HasHall, HasDesk, IsOpen}
 use Rattle.turn_rule.specs.Steps.{bearing, with_hall, with_desk, with_passes, zeros, raised, after_turn, after_look, after_forgetting, after_fault, with_faults, front, Turns, Knows, KnowsHall, KnowsDesk, Looks, Follows, FollowsForgetting, TellsFaults}
-use Rattle.turn_laws.specs.Laws.{LooksAreCounted, LogsAreFollowed, EditsAreForgotten, FaultsAreTold}
+use Rattle.turn_laws.specs.Laws.{Stays, Becomes, Leads, Lets, LooksAreCounted, LogsAreFollowed, EditsAreForgotten, FaultsAreTold}
 use Rattle.turn_rule.proofs.Edits.{front_snoc}
 use Rattle.turn_rule.proofs.Claims.{at_below, stands_on, each_set, claims_changed}
 use Rattle.turn_rule.proofs.Books.{turned, Goes, goes_sound, turns_go, still_goes, forgotten, forgets_go, knows, of_hall, of_desk}
 use Rattle.turn_rule.proofs.Accounts.{out_stays, out_here, none_some, some_same, number_at, booked, comes}
-use Rattle.turn_laws.proofs.Opened.{Law, in_open}
+use Rattle.turn_laws.proofs.Opened.{kept_by, Law, in_open, lets}
 
 module _ {S : Type 0} (noted : S → Option HallPart) (noted_desk : S → Option DeskNote) where
   -- what another seat says after a turn of a pass that has hall and desk
@@ -70,14 +70,14 @@ module _ {S : Type 0} (noted : S → Option HallPart) (noted_desk : S → Option
       knows (turned b p p' h commits) p' (goes_sound more b p p' h commits s at goes) (ap (get_elem? (set b.passes p.number p')) number ∙ set_here b.passes p.number p' (at_below b.passes p.number p at))
 
   -- a turn that leaves log and pending edit as they were
-  pub looks_counted : LooksAreCounted noted noted_desk
-  looks_counted more slots id me p dk y others h h' one is at_home turn =
-      in_open noted noted_desk slots id me (with_hall (Some h) (with_desk dk (bearing p)), (0, y) ∷ others) 0 (λ n. n) (λ m _ w. Looks noted noted_desk more m w) one is refl law
+  pub looks_counted_leads : LooksAreCounted noted noted_desk (Leads noted noted_desk)
+  looks_counted_leads more slots id me p dk y others h h' one is at_home turn =
+      in_open noted noted_desk (Becomes h h') slots id me (with_hall (Some h) (with_desk dk (bearing p)), (0, y) ∷ others) 0 (λ n. n) (λ m _ w. Looks noted noted_desk more m w) one is refl law
     where
       v : Note
       v = with_hall (Some h) (with_desk dk (bearing p))
 
-      law : Law noted noted_desk id (v, (0, y) ∷ others) 0 (λ n. n) (λ _ w. Looks noted noted_desk more (v, (0, y) ∷ others) w)
+      law : Law noted noted_desk (Becomes h h') id (v, (0, y) ∷ others) 0 (λ n. n) (λ _ w. Looks noted noted_desk more (v, (0, y) ∷ others) w)
       law s a gate door o count at =
           let b = a.books in
           let f = o.fits id v at in
@@ -103,19 +103,19 @@ module _ {S : Type 0} (noted : S → Option HallPart) (noted_desk : S → Option
             w,
             keeps,
             tt,
-            inr (record { account = a'; gate = gate; door = door; is_open = gone s a gate door id v w p p' whole [] more o at refl refl refl goes (λ z. absurd (mine.2 z)) (λ _. out_here (λ note. note.hall) s.views id a.owner v w (hall_part whole) at mine.0 refl) o.desk (λ z. out_stays (λ note. note.desk) s.views id a.clerk v w (desk_part a.books.hall) at (o.desk_away z) (λ e. e)) bare apart (length b.hall.log) refl }),
+            kept_by noted noted_desk (Becomes h h') s _ a gate door o (record { account = a'; gate = gate; door = door; is_open = gone s a gate door id v w p p' whole [] more o at refl refl refl goes (λ z. absurd (mine.2 z)) (λ _. out_here (λ note. note.hall) s.views id a.owner v w (hall_part whole) at mine.0 refl) o.desk (λ z. out_stays (λ note. note.desk) s.views id a.clerk v w (desk_part a.books.hall) at (o.desk_away z) (λ e. e)) bare apart (length b.hall.log) refl }) (sym mine.1, sym part),
             (h, hall_part whole, refl, at_home ∙ ap Some part, refl, All-cons (KnowsHall (hall_part whole)) p' [] knows_it (All-nil (KnowsHall (hall_part whole)))),
           )
 
   -- a turn of a pass that has the desk too
-  pub logs_follow : LogsAreFollowed noted noted_desk
-  logs_follow hands slots id me p d y others h h' commits grown one is at_home turn count_is small =
-      in_open noted noted_desk slots id me (with_hall (Some h) (with_desk (Some d) (bearing p)), (0, y) ∷ others) 0 (λ n. (n + grown) % 2 ^ 64) (λ m _ w. Follows noted noted_desk hands m w) one is refl law
+  pub logs_follow_leads : LogsAreFollowed noted noted_desk (Leads noted noted_desk)
+  logs_follow_leads hands slots id me p d y others h h' commits grown one is at_home turn count_is small =
+      in_open noted noted_desk (Becomes h h') slots id me (with_hall (Some h) (with_desk (Some d) (bearing p)), (0, y) ∷ others) 0 (λ n. (n + grown) % 2 ^ 64) (λ m _ w. Follows noted noted_desk hands m w) one is refl law
     where
       v : Note
       v = with_hall (Some h) (with_desk (Some d) (bearing p))
 
-      law : Law noted noted_desk id (v, (0, y) ∷ others) 0 (λ n. (n + grown) % 2 ^ 64) (λ _ w. Follows noted noted_desk hands (v, (0, y) ∷ others) w)
+      law : Law noted noted_desk (Becomes h h') id (v, (0, y) ∷ others) 0 (λ n. (n + grown) % 2 ^ 64) (λ _ w. Follows noted noted_desk hands (v, (0, y) ∷ others) w)
       law s a gate door o count at =
           let b = a.books in
           let f = o.fits id v at in
@@ -143,19 +143,19 @@ module _ {S : Type 0} (noted : S → Option HallPart) (noted_desk : S → Option
             w,
             keeps,
             tt,
-            inr (record { account = a'; gate = gate; door = door; is_open = gone s a gate door id v w p p' whole commits zeros o at refl refl refl goes (λ z. absurd (mine.2 z)) (λ _. out_here (λ note. note.hall) s.views id a.owner v w (hall_part whole) at mine.0 (ap Some part)) (λ z. absurd (desk.2 z)) (λ _. out_here (λ note. note.desk) s.views id a.clerk v w (desk_part whole) at desk.0 refl) bare apart ((length b.hall.log + grown) % 2 ^ 64) word }),
+            kept_by noted noted_desk (Becomes h h') s _ a gate door o (record { account = a'; gate = gate; door = door; is_open = gone s a gate door id v w p p' whole commits zeros o at refl refl refl goes (λ z. absurd (mine.2 z)) (λ _. out_here (λ note. note.hall) s.views id a.owner v w (hall_part whole) at mine.0 (ap Some part)) (λ z. absurd (desk.2 z)) (λ _. out_here (λ note. note.desk) s.views id a.clerk v w (desk_part whole) at desk.0 refl) bare apart ((length b.hall.log + grown) % 2 ^ 64) word }) (sym mine.1, sym part),
             (h', d, at_home, refl, refl, All-cons (Knows whole) p' [] (knows_then b p p' whole commits zeros o.sound c.0 refl goes) (All-nil (Knows whole))),
           )
 
   -- the edit that was handed in last is forgotten
-  pub edits_forgotten : EditsAreForgotten noted noted_desk
-  edits_forgotten slots id me p handed commit d y others h h' one is at_home handed_is forgets =
-      in_open noted noted_desk slots id me (with_hall (Some h) (with_desk (Some d) (bearing p)), (0, y) ∷ others) 0 (λ n. n) (λ m _ w. FollowsForgetting noted noted_desk m w) one is refl law
+  pub edits_forgotten_leads : EditsAreForgotten noted noted_desk (Leads noted noted_desk)
+  edits_forgotten_leads slots id me p handed commit d y others h h' one is at_home handed_is forgets =
+      in_open noted noted_desk (Becomes h h') slots id me (with_hall (Some h) (with_desk (Some d) (bearing p)), (0, y) ∷ others) 0 (λ n. n) (λ m _ w. FollowsForgetting noted noted_desk m w) one is refl law
     where
       v : Note
       v = with_hall (Some h) (with_desk (Some d) (bearing p))
 
-      law : Law noted noted_desk id (v, (0, y) ∷ others) 0 (λ n. n) (λ _ w. FollowsForgetting noted noted_desk (v, (0, y) ∷ others) w)
+      law : Law noted noted_desk (Becomes h h') id (v, (0, y) ∷ others) 0 (λ n. n) (λ _ w. FollowsForgetting noted noted_desk (v, (0, y) ∷ others) w)
       law s a gate door o count at =
           let b = a.books in
           let f = o.fits id v at in
@@ -191,19 +191,19 @@ module _ {S : Type 0} (noted : S → Option HallPart) (noted_desk : S → Option
             w,
             keeps,
             tt,
-            inr (record { account = a'; gate = gate; door = door; is_open = gone s a gate door id v w p p' whole [] zeros o at refl refl refl goes (λ z. absurd (mine.2 z)) (λ _. out_here (λ note. note.hall) s.views id a.owner v w (hall_part whole) at mine.0 (ap Some part)) (λ z. absurd (desk.2 z)) (λ _. out_here (λ note. note.desk) s.views id a.clerk v w (desk_part whole) at desk.0 refl) bare apart (length b.hall.log) word }),
+            kept_by noted noted_desk (Becomes h h') s _ a gate door o (record { account = a'; gate = gate; door = door; is_open = gone s a gate door id v w p p' whole [] zeros o at refl refl refl goes (λ z. absurd (mine.2 z)) (λ _. out_here (λ note. note.hall) s.views id a.owner v w (hall_part whole) at mine.0 (ap Some part)) (λ z. absurd (desk.2 z)) (λ _. out_here (λ note. note.desk) s.views id a.clerk v w (desk_part whole) at desk.0 refl) bare apart (length b.hall.log) word }) (sym mine.1, sym part),
             (h', d, at_home, refl, refl, All-cons (Knows whole) p' [] (knows_then b p p' whole [] zeros o.sound c.0 refl goes) (All-nil (Knows whole))),
           )
 
   -- how often the keeper has failed is told
-  pub faults_told : FaultsAreTold noted noted_desk
-  faults_told slots id me p part y dn one is noted_is rise steady =
-      in_open noted noted_desk slots id me (with_desk (Some part) (bearing p), (1, y) ∷ []) 0 (λ n. n) (λ m _ w. TellsFaults noted noted_desk m w) one is refl law
+  pub faults_told_leads : FaultsAreTold noted noted_desk (Leads noted noted_desk)
+  faults_told_leads slots id me p part y dn one is noted_is rise steady =
+      in_open noted noted_desk Stays slots id me (with_desk (Some part) (bearing p), (1, y) ∷ []) 0 (λ n. n) (λ m _ w. TellsFaults noted noted_desk m w) one is refl law
     where
       v : Note
       v = with_desk (Some part) (bearing p)
 
-      law : Law noted noted_desk id (v, (1, y) ∷ []) 0 (λ n. n) (λ _ w. TellsFaults noted noted_desk (v, (1, y) ∷ []) w)
+      law : Law noted noted_desk Stays id (v, (1, y) ∷ []) 0 (λ n. n) (λ _ w. TellsFaults noted noted_desk (v, (1, y) ∷ []) w)
       law s a gate door o count at =
           let b = a.books in
           let f = o.fits id v at in
@@ -228,7 +228,7 @@ module _ {S : Type 0} (noted : S → Option HallPart) (noted_desk : S → Option
             w,
             keeps,
             tt,
-            inr (record { account = a'; gate = gate; door = door; is_open = gone s a gate door id v w p p' whole [] zeros o at refl refl refl goes o.home (λ z. out_stays (λ note. note.hall) s.views id a.owner v w (hall_part a.books.hall) at (o.away z) (λ e. e)) (λ z. absurd (desk.2 z)) (λ _. out_here (λ note. note.desk) s.views id a.clerk v w (desk_part whole) at desk.0 refl) bare apart (length b.hall.log) refl }),
+            kept_by noted noted_desk Stays s _ a gate door o (record { account = a'; gate = gate; door = door; is_open = gone s a gate door id v w p p' whole [] zeros o at refl refl refl goes o.home (λ z. out_stays (λ note. note.hall) s.views id a.owner v w (hall_part a.books.hall) at (o.away z) (λ e. e)) (λ z. absurd (desk.2 z)) (λ _. out_here (λ note. note.desk) s.views id a.clerk v w (desk_part whole) at desk.0 refl) bare apart (length b.hall.log) refl }) refl,
             (
               dn,
               part,
@@ -238,3 +238,21 @@ module _ {S : Type 0} (noted : S → Option HallPart) (noted_desk : S → Option
               subst (λ (x : DeskPart). All (KnowsDesk (with_faults dn.faults x)) (map (after_fault dn.faults x) (p ∷ []))) (sym desk.1) (All-cons (KnowsDesk (desk_part whole)) p' [] knows_it (All-nil (KnowsDesk (desk_part whole)))),
             ),
           )
+
+  -- ---- what a table asks of these steps
+
+  pub looks_counted : LooksAreCounted noted noted_desk (Lets noted noted_desk)
+  looks_counted more slots id me p dk y others h h' one is at_home turn =
+      lets noted noted_desk (Becomes h h') slots id me 0 (λ n. n) (λ _ w. Looks noted noted_desk more me w) (looks_counted_leads more slots id me p dk y others h h' one is at_home turn)
+
+  pub logs_follow : LogsAreFollowed noted noted_desk (Lets noted noted_desk)
+  logs_follow hands slots id me p d y others h h' commits grown one is at_home turn count_is small =
+      lets noted noted_desk (Becomes h h') slots id me 0 (λ n. (n + grown) % 2 ^ 64) (λ _ w. Follows noted noted_desk hands me w) (logs_follow_leads hands slots id me p d y others h h' commits grown one is at_home turn count_is small)
+
+  pub edits_forgotten : EditsAreForgotten noted noted_desk (Lets noted noted_desk)
+  edits_forgotten slots id me p handed commit d y others h h' one is at_home handed_is forgets =
+      lets noted noted_desk (Becomes h h') slots id me 0 (λ n. n) (λ _ w. FollowsForgetting noted noted_desk me w) (edits_forgotten_leads slots id me p handed commit d y others h h' one is at_home handed_is forgets)
+
+  pub faults_told : FaultsAreTold noted noted_desk (Lets noted noted_desk)
+  faults_told slots id me p part y dn one is noted_is rise steady =
+      lets noted noted_desk Stays slots id me 0 (λ n. n) (λ _ w. TellsFaults noted noted_desk me w) (faults_told_leads slots id me p part y dn one is noted_is rise steady)

@@ -23,6 +23,11 @@ Sits state seat note = get_elem? state.views seat ≡ some note
 abbrev pub Bears : {S : Type 0} → State S Note → ℕ → PassNote → Type 0
 Bears state seat pass = Stands state.views seat pass
 
+-- this is the hall, in its slot or out with a seat
+pub data IsHallAt {S : Type 0} (noted : S → Option HallPart) (state : State S Note) (hall : HallPart) : Type 0 where
+  home : (value : S) → slice_index state.words 1 ≡ 0 → get_elem? state.homes 0 ≡ some (some value) → noted value ≡ Some hall → IsHallAt noted state hall
+  out : (seat : ℕ) (note : Note) → Sits state seat note → note.hall ≡ Some hall → IsHallAt noted state hall
+
 module _ {S : Type 0} (noted : S → Option HallPart) (noted_desk : S → Option DeskNote) (state : State S Note) where
   -- Where the hall is, whether it lies in its slot or is out with a seat.
   pub record IsTheHall (hall : HallNote) : Type 0 where

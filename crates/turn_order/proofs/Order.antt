@@ -26,7 +26,8 @@ use Rattle.turn_rule.proofs.Edits.{begins_same, begins_more, begins_then}
 use Rattle.turn_rule.proofs.Claims.{at_below}
 use Rattle.turn_rule.proofs.Accounts.{some_same, none_some}
 use Rattle.turn_order.specs.Steps.{IsMade, IsSplit, IsJoined, IsCounted, IsFollowed, IsForgotten, IsStep, opens, takes_hall, takes_desk, marks_gate, marks_door, counts, follows, forgets, tells_faults, gives_hall, gives_desk, draws, meets, splits, joins, AreSteps, last_state}
-use Rattle.turn_order.specs.Order.{StepsAreMade, NumbersNeverFall, IsJustOpened, IsHallAt, home, out, LogsOnlyGrow, number_seen, newest_number}
+use Rattle.turn_laws.proofs.Opened.{hall_is}
+use Rattle.turn_order.specs.Order.{StepsAreMade, NumbersNeverFall, IsJustOpened, LogsOnlyGrow, number_seen, newest_number}
 use Rattle.turn_order.proofs.Seats.{later_same, later_of, GoOn, same_go_on, map_goes_on, met_go_on, AllGoOn, all_then, seat_goes_on, split_goes_on, join_goes_on, Founds, AllFound, found_same, found_then, seat_founds, more_found, join_founds}
 
 -- the first word
@@ -60,7 +61,7 @@ module _ {S : Type 0} (noted : S → Option HallPart) (noted_desk : S → Option
   three s x = (length x.account.books.hall.log, x.gate, x.door, x.is_open.words)
 
   -- a seat of a table that isn't opened says nothing
-  fresh_note : (s : State S Note) (seat : ℕ) (v : Note) → IsFresh noted noted_desk s → get_elem? s.views seat ≡ some v → unopened ≡ v
+  pub fresh_note : (s : State S Note) (seat : ℕ) (v : Note) → IsFresh noted noted_desk s → get_elem? s.views seat ≡ some v → unopened ≡ v
   fresh_note s seat v f at = here seat (subst (λ (l : List Note). get_elem? l seat ≡ some v) f.views at)
     where
       here : (j : ℕ) → get_elem? (unopened ∷ []) j ≡ some v → unopened ≡ v
@@ -415,14 +416,6 @@ module _ {S : Type 0} (noted : S → Option HallPart) (noted_desk : S → Option
   whole_at first [] w steps = w
   whole_at first (next ∷ others) w steps = whole_at next others (whole_on first next w steps.0 steps.1) steps.2
 
-  -- the hall is that of the books
-  hall_is : (s : State S Note) (x : Opened noted noted_desk s) (hall : HallPart) → IsHallAt noted noted_desk s hall → hall ≡ hall_part x.account.books.hall
-  hall_is s x hall (out seat note sits has) = ((x.is_open.fits seat note sits).hall hall has).1
-  hall_is s x hall (home value gate at is) =
-      let there = x.is_open.home (sym (ap (λ (ws : List ℕ). slice_index ws 1) x.is_open.words) ∙ gate) in
-      let same : value ≡ there.0 = some-injective value there.0 (some-injective (some value) (some there.0) (sym at ∙ there.1)) in
-      some_same hall (hall_part x.account.books.hall) (sym is ∙ ap noted same ∙ there.2)
-
   pub steps_made : (tells : Step S → Me S Note → ℕ → Me S Note → Type 0) → StepsAreMade noted noted_desk tells
   steps_made tells step slots seat me word becomes allows before rule homes sits small =
       let t = allows before rule homes sits small in
@@ -440,5 +433,5 @@ module _ {S : Type 0} (noted : S → Option HallPart) (noted_desk : S → Option
       let then = seen_is_true t v.site w.opened k.0 k.2 in
       let front = begins_then old.log k.0 now.log k.1 then.front in
       let base = sym (seen_is_true s w.site w.opened old.log w.seen).base ∙ then.base in
-      subst (λ (x : HallPart × HallPart). Begins x.0.log x.1.log × (newest_number x.0 ≤ newest_number x.1)) (λ i. (sym (hall_is s w.site hall is) i, sym (hall_is t v.site later its) i))
+      subst (λ (x : HallPart × HallPart). Begins x.0.log x.1.log × (newest_number x.0 ≤ newest_number x.1)) (λ i. (sym (hall_is noted noted_desk s w.site.account w.site.gate w.site.door w.site.is_open hall is) i, sym (hall_is noted noted_desk t v.site.account v.site.gate v.site.door v.site.is_open later its) i))
       (front, number_grows (hall_part old) (hall_part now) base front)

@@ -11,6 +11,7 @@ use Rattle.turn_rule.specs.declared.notes.FounderNote.{FounderNote}
 use Rattle.turn_rule.specs.declared.notes.Note.{Note}
 use Rattle.turn_rule.specs.Rule.{KeepsRule, IsAmong}
 use Rattle.turn_laws.specs.Words.{Sits, Bears}
+use Rattle.turn_laws.specs.Words as words
 use Rattle.turn_order.specs.Steps.{IsMade, AreSteps, last_state}
 
 -- the number of the newest state that a pass has seen
@@ -58,9 +59,8 @@ pub record IsJustOpened {S : Type 0} (state : State S Note) : Type 0 where
 
 module _ {S : Type 0} (noted : S → Option HallPart) (noted_desk : S → Option DeskNote) where
   -- this is the hall, in its slot or out with a seat
-  pub data IsHallAt (state : State S Note) (hall : HallPart) : Type 0 where
-    home : (value : S) → slice_index state.words 1 ≡ 0 → get_elem? state.homes 0 ≡ some (some value) → noted value ≡ Some hall → IsHallAt state hall
-    out : (seat : ℕ) (note : Note) → Sits state seat note → note.hall ≡ Some hall → IsHallAt state hall
+  abbrev pub IsHallAt : State S Note → HallPart → Type 0
+  IsHallAt state hall = words.IsHallAt noted state hall
 
   -- What a law of turn_laws allows leads from any state that keeps the rule to one that is made so, and keeps it.
   abbrev pub StepsAreMade : (Step S → Me S Note → ℕ → Me S Note → Type 0) → Type 0

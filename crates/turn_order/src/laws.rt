@@ -2,6 +2,7 @@
 ghost use Rattle.std.specs.Prelude.{Option};
 ghost use Rattle.turn_rule.specs.declared.notes.HallPart.{HallPart};
 ghost use Rattle.turn_rule.specs.declared.notes.DeskNote.{DeskNote};
+ghost use Rattle.turn_order.specs.Bins.{BinsStay};
 ghost use Rattle.turn_order.specs.Order.{LogsOnlyGrow, NumbersNeverFall, StepsAreMade};
 
 use atomic_table::Play;
@@ -23,4 +24,10 @@ pub fn numbers_never_fall<S, L: Slot<S>>()
 /// had in the earlier is a front of the one that it has in the later, in its slot or with whoever has it out.
 pub fn logs_only_grow<S, L: Slot<S>>()
     ensures { LogsOnlyGrow L.noted L.noted_desk }
+{}
+
+/// Of any two tables, of which the later came from the earlier by any number of steps that leave the bins, as each kind of step does but
+/// a turn that is counted: the hall has the bins in the later that it had in the earlier.
+pub fn bins_stay<S, L: Slot<S>>()
+    ensures { BinsStay L.noted L.noted_desk }
 {}

@@ -4,4 +4,4 @@
 
 mod laws;
 
-pub use laws::{logs_only_grow, numbers_never_fall, steps_are_made};
+pub use laws::{bins_stay, logs_only_grow, numbers_never_fall, steps_are_made};

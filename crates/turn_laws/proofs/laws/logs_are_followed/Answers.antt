@@ -1,5 +1,5 @@
-use Rattle.turn_laws.proofs.Turning.{logs_follow}
+use Rattle.turn_laws.proofs.Turning.{logs_follow_leads}
 use Rattle.turn_laws.proofs.laws.logs_are_followed.Goals as goal
 
 pub returns : goal.returns
-returns g c = logs_follow g.L.Slot.noted g.L.Slot.noted_desk
+returns g c = logs_follow_leads g.L.Slot.noted g.L.Slot.noted_desk
