@@ -11,11 +11,10 @@ use Rattle.site_house.specs.House.{IsSublist, by_pass}
 use Rattle.turn_rule.specs.declared.notes.TallyNote.{TallyNote}
 use Rattle.turn_rule.specs.declared.notes.HallNote.{HallNote}
 use Rattle.turn_rule.specs.declared.notes.HallPart.{HallPart}
-use Rattle.turn_rule.specs.declared.notes.DeskPart.{DeskPart}
 use Rattle.turn_rule.specs.declared.notes.PassNote.{PassNote}
-use Rattle.turn_rule.specs.Logs.{waiting, hall_part, desk_part, Agree}
+use Rattle.turn_rule.specs.Logs.{waiting, hall_part, desk_part}
 use Rattle.turn_rule.specs.Rule.{Books, IsPass, AreSound, Claims, Counted, looks, found, kept, count_of, capped, IsSum, founder_in}
-use Rattle.turn_rule.specs.Steps.{plus, AreOwnIn, Knows, KnowsHall, KnowsDesk, raised, zeros, given, after_turn, after_look, after_forgetting, Turns, new_pass, seeing}
+use Rattle.turn_rule.specs.Steps.{plus, AreOwnIn, Knows, KnowsHall, KnowsDesk, raised, zeros, given, after_turn, after_forgetting, Turns, new_pass, seeing}
 use Rattle.turn_rule.proofs.Edits.{sub_same, sub_cancel, sub_left, sub_all, own_all, own_front, own_none, own_goes_on, edits_go_on, begins_same, begins_more, drop_front, capped_on}
 use Rattle.turn_rule.proofs.Claims.{at_below, at_get, each_set, each_more}
 
@@ -61,17 +60,6 @@ of_hall whole p k = record { base = ap (λ l. l.base) k.loaded; seen = k.seen; w
 
 pub of_desk : (whole : HallNote) (p : PassNote) → Knows whole p → KnowsDesk (desk_part whole) p
 of_desk whole p k = record { loaded = k.loaded; seen = k.seen; whole = k.whole; faults = k.faults; steady = k.steady; own = k.own }
-
--- a pass that looks at the hall while its seat has the desk out goes on to know the desk
-pub desk_seen : (more : TallyNote) (before hall : HallPart) (desk : DeskPart) (p : PassNote) → Agree hall desk → KnowsDesk desk p → KnowsDesk desk (after_look more before hall p)
-desk_seen more before hall desk p same k = record {
-  loaded = k.loaded;
-  seen = ([], sym same.log ∙ sym (append-nil hall.log));
-  whole = k.whole;
-  faults = k.faults;
-  steady = k.steady;
-  own = k.own;
-}
 
 -- a pass that knows a hall finds its own edits in the log, without the pending one, as it handed them in
 pub own_in_log : (hall : HallPart) (p : PassNote) → KnowsHall hall p → AreOwnIn p hall.log
