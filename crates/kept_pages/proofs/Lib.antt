@@ -1,5 +1,6 @@
 pub mod Parts
 pub mod Entries
+pub mod Current
 pub mod OfFrames
 pub mod Shelves
 pub mod Using

@@ -1,5 +1,5 @@
 -- What a look and a keep do to what is kept.
-use Rattle.std.proofs.Common.{ℕ, List, [], ◌∷◌, ◌++◌, ◌≡◌, ◌≤◌, ◌<◌, ◌⊎◌, min, inl, inr, refl, sym, ◌∙◌, ap, subst, arith, Contains, true, false, true≢false, Option, Some, None, IfSome, IsSomeAnd, MatchOption, option_copied, option_map, OnOk, Result, Ok, Err, Bor}
+use Rattle.std.proofs.Common.{ℕ, List, [], ◌∷◌, ◌++◌, ◌≡◌, ◌≤◌, ◌<◌, ◌⊎◌, min, inl, inr, refl, sym, ◌∙◌, ap, subst, arith, Contains, true, Option, Some, None, IfSome, IsSomeAnd, MatchOption, option_copied, option_map, OnOk, Result, Ok, Err, Bor}
 use Rattle.std.proofs.lemmas.List.Elements.{All-head, All-tail}
 use Rattle.std.specs.Arc.{arc_value}
 use Rattle.std.specs.declared.sync.Arc.{Arc}

@@ -1,6 +1,7 @@
 -- What a house does while a page is put together, for whom that is, and what was made for a reader.
 use Rattle.std.specs.Prelude.{◌≡◌, ◌≤◌}
 use Rattle.content_state.specs.Ask.{IsAsk}
+use Rattle.content_state.specs.Viewer.{nobody}
 use Rattle.cache_entries.specs.declared.entry.Entry.{Entry}
 use Rattle.cache_entries.specs.declared.key.Subject.{Subject}
 use Rattle.cache_entries.specs.Sound.{IsAskedFor, IsMadeOn}
@@ -25,3 +26,11 @@ pub record IsMadeFor (r : Reader) (s : Subject) (e : Entry) : Type 0 where
   pub moment : e.made_moment ≡ r.moment
   pub not_over : r.moment ≤ e.last
   pub asked : IsAskedFor s r.viewer r.ask
+
+-- Nobody reads the state of the number that an entry was made on, at a moment that is none before that at which it was made and none
+-- after its last.
+pub record IsCurrent (r : Reader) (e : Entry) : Type 0 where
+  pub viewer : r.viewer ≡ nobody
+  pub made_at : e.made_at ≡ r.state.number
+  pub not_before : e.made_moment ≤ r.moment
+  pub not_after : r.moment ≤ e.last

@@ -16,6 +16,6 @@ pub use filling::some_fragment;
 pub use frames::some_frame;
 pub use joining::Child;
 pub use looking::Seen;
-pub use page::{Page, page_of, render_page};
+pub use page::{Page, page_of, render_page, render_page_for};
 pub use pieces::Pieces;
 pub use whole::look_for_target;

@@ -1,11 +1,13 @@
 //! Looking for what is kept.
-ghost use Rattle.std.specs.Prelude.{◌≡◌, IfOk, OnOk, IfSome, map, option_map};
+ghost use Rattle.std.specs.Prelude.{◌≡◌, IfOk, OnOk, IfSome, IsTrue, None, map, option_map};
 ghost use Rattle.std.specs.Arc.{arc_value};
 ghost use Rattle.cache_contexts.specs.Values.{valued};
-ghost use Rattle.cache_entries.specs.Entries.{IsHere};
+ghost use Rattle.cache_entries.specs.declared.key.Subject.TheVariants as subject_is;
+ghost use Rattle.cache_entries.specs.declared.kept.Bin.TheVariants as bin_is;
+ghost use Rattle.cache_entries.specs.Entries.{HasSumOfNumber, IsFresh, IsHere};
 ghost use Rattle.page_meaning.specs.Meaning.{meaning};
-ghost use Rattle.element_entries.specs.Keys.{visit, declared_by, first_by, key_by};
-ghost use Rattle.kept_pages.specs.Houses.{Steady, Reads};
+ghost use Rattle.element_entries.specs.Keys.{visit, required, declared_by, first_by, key_by};
+ghost use Rattle.kept_pages.specs.Houses.{Steady, Reads, IsCurrent};
 ghost use Rattle.kept_pages.specs.Held.{Shelves, IsTold, has_second, looked_by, SeenOnce, SeenIn};
 
 use cache_entries::{Bin, Entry, Found, Key};
@@ -88,6 +90,76 @@ pub fn look<H: House>(
             })
         }
     }
+}
+
+/// What is kept of the whole page of the target that is asked for, where it may be shown. It stands at its first key alone, whose
+/// values are those of the required contexts.
+pub fn look_shared<H: House>(
+    alloc: Global,
+    house: &mut H,
+    reader: &Reader<'_>,
+    key: &Key,
+) -> Result<Seen, AllocError>
+    requires reads { Reads (H.sees house.old) reader.now }
+    requires is_first { key.now ≡ key_by (visit reader.now) (subject_is.Target reader.now.ask.target) required }
+    ensures steady { Steady (H.sees house.old) (H.sees house.new) }
+    ensures here { IfOk result (λ seen. IfSome seen.entry (λ e. IsHere meaning (subject_is.Target reader.now.ask.target) (visit reader.now) (arc_value e))) }
+    ensures told { IfOk result (λ seen. (shelves : Shelves) → IsTold (H.sees house.old) shelves → SeenIn reader.now shelves bin_is.Anonymous (subject_is.Target reader.now.ask.target) seen (H.sees house.new)) }
+    ensures nowhere_else { IfOk result (λ seen. seen.told ≡ None) }
+{
+    match house.look(alloc, Bin::Anonymous, key)? {
+        Found::Entry(entry) => Ok(Seen {
+            entry: if_current(alloc, reader, entry, key)?,
+            told: None,
+        }),
+        Found::Redirect(_) => Ok(Seen {
+            entry: None,
+            told: None,
+        }),
+        Found::Absent => Ok(Seen {
+            entry: None,
+            told: None,
+        }),
+    }
+}
+
+/// The page of a target, found under its key, where it is fresh for the reader: where it was made on the state that is read, nobody
+/// asks, and it isn't too early or too late to show it, nothing is compared.
+fn if_current(
+    alloc: Global,
+    reader: &Reader<'_>,
+    entry: Arc<Entry>,
+    key: &Key,
+) -> Result<Option<Arc<Entry>>, AllocError>
+    requires valued { key.now.values ≡ map (valued (visit reader.now)) required }
+    requires of_log { HasSumOfNumber reader.now.state (arc_value entry) }
+    requires current { IsCurrent reader.now (arc_value entry) → IsFresh reader.now.state reader.now.viewer reader.now.ask reader.now.moment (arc_value entry) }
+    ensures fresh { IfOk result (λ found. IfSome found (λ e. (arc_value e ≡ arc_value entry) × IsFresh reader.now.state reader.now.viewer reader.now.ask reader.now.moment (arc_value e))) }
+    ensures stale { IfOk result (λ found. found ≡ None → IsFresh reader.now.state reader.now.viewer reader.now.ask reader.now.moment (arc_value entry) → ⊥) }
+{
+    if is_current(reader, &entry) {
+        return Ok(Some(entry));
+    }
+    let contexts = first_contexts(Declared::Nothing);
+    if_fresh(
+        alloc,
+        reader,
+        entry,
+        contexts.as_slice(),
+        key.values.get().as_slice(),
+    )
+}
+
+/// Whether nobody asks, on the state of the number that an entry was made on, and it isn't too early or too late to show it.
+fn is_current(reader: &Reader<'_>, entry: &Entry) -> bool
+    ensures { IsTrue result → IsCurrent reader.now entry.now }
+{
+    let viewer = reader.viewer();
+    viewer.uid == 0
+        && viewer.session.is_none()
+        && entry.made_at == reader.state().number()
+        && entry.made_moment <= reader.moment()
+        && reader.moment() <= entry.last
 }
 
 /// Whether what varies by more than its first contexts stands at a second key in this bin. The page of a target stands at its first

@@ -11,6 +11,7 @@ ghost use Rattle.cache_entries.specs.declared.kept.Bin.TheVariants as bin_is;
 ghost use Rattle.render_canvas.specs.Board.{pieces_of};
 ghost use Rattle.render_array.specs.Shown.{IsPage, is_page_status, page_count};
 ghost use Rattle.element_entries.specs.Keys.{visit};
+ghost use Rattle.element_entries.specs.Standing.{IsStandingOf};
 ghost use Rattle.site_house.specs.House.{Moves, Stays};
 ghost use Rattle.site_house.specs.Bins.{IsSeenIn};
 ghost use Rattle.kept_pages.specs.Houses.{Steady, Reads};
@@ -29,9 +30,8 @@ use crate::whole::{look_for_target, whole_page};
 use cache_entries::{Bin, Key};
 use cacheability::{Context, OrderedSet};
 use content_state::{Ask, State, Viewer};
-use element_entries::Reader;
+use element_entries::{Reader, Standing};
 use renderer::Parts;
-use site_access::Account;
 use site_house::House;
 use std::alloc::{AllocError, Global};
 
@@ -75,8 +75,34 @@ pub fn render_page<H: House>(
     ensures at_most { IfOk result (λ p. p.built ≤ min (page_count state.now.rows ask.now now) 18446744073709551615) }
     ensures lasts { IfOk result (λ p. Lasts state.now ask.now now p.last p.status p.parts) }
 {
-    let account = Account::new(alloc, state, viewer)?;
-    let reader = Reader::with_values(alloc, state, &account, ask, now)?;
+    let standing = Standing::new(alloc, state, viewer, ask)?;
+    render_page_for(alloc, house, state, &standing, ask, now)
+}
+
+/// The page of a request, as `render_page` gives it, for the viewer of whom the account and the values of the required contexts on the
+/// state were made before. `Err` only where memory is wanting.
+pub fn render_page_for<H: House>(
+    alloc: Global,
+    house: &mut H,
+    state: &State,
+    standing: &Standing,
+    ask: &Ask,
+    now: u64,
+) -> Result<Page, AllocError>
+    requires standing { IsStandingOf state.now standing.now.account.viewer standing.now }
+    requires viewer { standing.now.account.viewer ≡ named_viewer state.now.rows ask.now.cookie now }
+    requires seen { IsSeenIn (H.sees house.old) state.now }
+    requires right { IsAsk ask.now }
+    ensures moves { Moves (H.sees house.old) (H.sees house.new) }
+    ensures stays { Stays (H.sees house.old) (H.sees house.new) }
+    ensures page { IfOk result (λ p. IsPage state.now.rows ask.now now p.status p.parts) }
+    ensures length { IfOk result (λ p. p.length ≡ length p.parts) }
+    ensures status { IfOk result (λ p. IsTrue (is_page_status p.status)) }
+    ensures built { IfOk result (λ p. Tells (record { state = state.now; viewer = standing.now.account.viewer; ask = ask.now; moment = now }) (OfRequest (visit_on state.now standing.now.account.viewer ask.now now)) (H.sees house.old) (H.sees house.new) 0 p.built) }
+    ensures at_most { IfOk result (λ p. p.built ≤ min (page_count state.now.rows ask.now now) 18446744073709551615) }
+    ensures lasts { IfOk result (λ p. Lasts state.now ask.now now p.last p.status p.parts) }
+{
+    let reader = Reader::standing(state, standing, ask, now)?;
     request_page(alloc, house, &reader)
 }
 
@@ -124,9 +150,8 @@ fn shared_page<H: House>(
     }
 }
 
-/// The page of a target for nobody's session, which is put together, and kept where it may be. It shares the pieces that it is
-/// put together from; what is kept of it has its text in few pieces of its own, or, where there is no memory for them, in
-/// those.
+/// The page of a target for nobody's session, which is put together, and kept where it may be. Its text lies in few pieces of its own,
+/// which it shares with what is kept of it, or, where there is no memory for them, in those that it is put together from.
 fn built_page<H: House>(
     alloc: Global,
     house: &mut H,
@@ -147,8 +172,8 @@ fn built_page<H: House>(
     ensures told { IfOk result (λ p. (kept : Entry) × BuiltUp reader.now met_nothing (OfWhole reader.now.ask.path (visit reader.now)) bin_is.Anonymous (subject_is.Target reader.now.ask.target) (option_copied told.entry) kept (H.sees house.old) (H.sees house.new) p.built) }
 {
     let mut filled = whole_page(alloc, house, reader)?;
-    let page = page_of(alloc, reader, Pieces::Own(&filled.joined), filled.built)?;
     let _compact = compact(alloc, &mut filled.joined);
+    let page = page_of(alloc, reader, Pieces::Own(&filled.joined), filled.built)?;
     keep_filled(alloc, house, reader, Bin::Anonymous, key, filled, told)?;
     Ok(page)
 }

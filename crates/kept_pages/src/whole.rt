@@ -18,8 +18,8 @@ ghost use Rattle.kept_pages.specs.Held.{Shelves, IsTold, IsLookedAt, SeenIn, Tel
 use crate::filling::add_parts;
 use crate::frames::some_frame;
 use crate::joining::{Child, Filled, reopen};
-use crate::looking::{Seen, look};
-use cache_entries::{Bin, Key, Subject};
+use crate::looking::{Seen, look_shared};
+use cache_entries::{Key, Subject};
 use content_rows::Duplicate;
 use element_entries::{Declared, Reader, first_key};
 use render_array::Element;
@@ -42,15 +42,8 @@ pub fn look_for_target<H: House>(
     ensures looked { IfOk result (λ looked. IsLookedAt reader.now looked.1 (option_map arc_value looked.0.told)) }
 {
     let subject = Subject::Target(reader.ask().target.duplicate(alloc)?);
-    let mut key = first_key(alloc, reader, subject, Declared::Nothing)?;
-    let seen = look(
-        alloc,
-        house,
-        reader,
-        Bin::Anonymous,
-        &mut key,
-        Declared::Nothing,
-    )?;
+    let key = first_key(alloc, reader, subject, Declared::Nothing)?;
+    let seen = look_shared(alloc, house, reader, &key)?;
     Ok((seen, key))
 }
 

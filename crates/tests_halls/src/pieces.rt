@@ -3,8 +3,9 @@ ghost use Rattle.std.specs.Prelude.{◌≡◌, ◌≤◌, ◌<◌, None, length}
 ghost use Rattle.site_io.specs.Memory.{up};
 ghost use Rattle.site_io.specs.Told.{Rose};
 
+use crate::site::state;
 use html_out::Bytes;
-use site_alone::{alone_with, starter_state};
+use site_alone::alone_with;
 use site_http::{WriteFault, serve_connection, write_parts};
 use site_io::{Ended, Failed, ListClock, ListEntropy, MemorySink, MemorySource, OpenGate, Sink};
 use std::alloc::{AllocError, Global};
@@ -67,17 +68,18 @@ impl Sink for Listing {
     }
 }
 
-const TWICE: &[u8] =
-    b"GET /node/1 HTTP/1.1\r\nHost: a\r\n\r\nGET /node/1 HTTP/1.1\r\nHost: a\r\n\r\n";
+// By somebody, and twice by nobody.
+const REQUESTS: &[u8] =
+    b"GET /node/1 HTTP/1.1\r\nHost: a\r\nCookie: SESS=abc\r\n\r\nGET /node/1 HTTP/1.1\r\nHost: a\r\n\r\nGET /node/1 HTTP/1.1\r\nHost: a\r\n\r\n";
 
 const ARTICLE: &[u8] = b"<article><div class=\"field\">Body: Hello</div></article>";
 
-// The pieces of the replies to the same request twice, over a new site, and how the connection ended.
+// The pieces of the replies over a new site with a session, and how the connection ended.
 fn written(rt: &HostRuntime, sink: &mut Listing) -> Result<Ended, AllocError> {
     let alloc = rt.alloc();
-    let state = starter_state(alloc)?;
+    let state = state(alloc)?;
     let mut house = alone_with(alloc, &state)?;
-    let mut source = MemorySource::new(Vec::from_slice(alloc, TWICE)?, 64);
+    let mut source = MemorySource::new(Vec::from_slice(alloc, REQUESTS)?, 64);
     let mut clock = ListClock::new(Vec::from_slice(alloc, &[1000])?);
     let mut entropy = ListEntropy::new(Vec::new(alloc));
     let ended = serve_connection(
@@ -133,16 +135,17 @@ fn a_page_is_written_in_its_pieces(rt: HostRuntime) {
     let mut sink = Listing::new(rt.alloc());
     assert!(rt; written(&rt, &mut sink) == Ok(Ended::Closed));
     let pieces = sink.pieces.as_slice();
-    assert!(rt; pieces.len() == 10);
-    let (first, second) = pieces.split_at(6);
+    assert!(rt; pieces.len() == 14);
+    let (first, others) = pieces.split_at(6);
     // the article is a piece by itself, and neither its beginning nor its end stands in another one
     assert!(rt; count_of(first, ARTICLE) == 1);
     assert!(rt; count_around(first, b"article>") == 1);
-    // what is kept of the page is one piece before the lines of its libraries and one behind them
-    assert!(rt; second.len() == 4);
+    // what is kept of the page for nobody is one piece before the lines of its libraries and one behind them; built, it has the same
+    let (second, third) = others.split_at(4);
     assert!(rt; count_around(second, ARTICLE) == 1);
+    assert!(rt; second == third);
     // each reply is handed on once, behind its last piece
-    assert!(rt; sink.flushed.as_slice() == [6, 10].as_slice());
+    assert!(rt; sink.flushed.as_slice() == [6, 10, 14].as_slice());
 }
 
 // A thousand pieces, which share their bytes.

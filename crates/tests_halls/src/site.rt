@@ -1,14 +1,15 @@
 //! A new site with a session, and what is wanted of it.
 ghost use Rattle.std.specs.Prelude.{◌≡◌, IfOk};
+ghost use Rattle.content_state.specs.SiteRules.{IsValidState};
 ghost use Rattle.indexed_rows.specs.Rows.{AreValidRows};
 ghost use Rattle.site_keeper.specs.Keeper.{IfTold};
 
 use cache_entries::{Key, Subject};
 use cacheability::Name;
 use content_rows::Items;
-use content_state::{Fragment, Rows};
+use content_state::{Fragment, Rows, State};
 use site_access::Shared;
-use site_files::{STARTER, read_rows};
+use site_files::{STARTER, read_rows, read_site};
 use site_hall::Engine;
 use site_io::MemorySource;
 use site_keeper::{Fail, Keeper, MemoryKeeper, Stored};
@@ -19,14 +20,27 @@ use tag_counts::Counts;
 /// A session `abc` of the first user.
 const SESSION: &[u8] = b"{\"cell\":\"session:abc\",\"expires\":2000,\"uid\":1}\n";
 
+// The lines of the rows that a site begins with, and of the session.
+fn lines(alloc: Global) -> Result<MemorySource, AllocError> {
+    let mut lines = Vec::from_slice(alloc, STARTER)?;
+    lines.extend_from_slice(SESSION)?;
+    Ok(MemorySource::new(lines, 4_096))
+}
+
 // The rows that a site begins with, and the session.
 fn rows(alloc: Global) -> Result<Rows, AllocError>
     ensures { IfOk result (λ rows. AreValidRows rows) }
 {
-    let mut lines = Vec::from_slice(alloc, STARTER)?;
-    lines.extend_from_slice(SESSION)?;
-    let mut source = MemorySource::new(lines, 4_096);
+    let mut source = lines(alloc)?;
     read_rows(alloc, &mut source).map_err(|_| AllocError)
+}
+
+/// The state of that site, at the number 0.
+pub fn state(alloc: Global) -> Result<State, AllocError>
+    ensures { IfOk result IsValidState }
+{
+    let mut source = lines(alloc)?;
+    read_site(alloc, &mut source).map_err(|_| AllocError)
 }
 
 /// What a keeper holds of that site, at the number 0.

@@ -7,6 +7,7 @@ use Rattle.cache_entries.specs.declared.key.Subject.{Subject}
 use Rattle.cache_entries.specs.declared.key.Subject.TheVariants as subject
 use Rattle.cache_entries.specs.declared.kept.Bin.TheVariants as bin
 use Rattle.cache_entries.specs.Entries.{IsClosed}
+use Rattle.cache_entries.specs.Sound.{IsAskedFor}
 use Rattle.page_meaning.specs.Meaning.{meaning}
 use Rattle.render_array.specs.declared.element.Element.TheVariants as element
 use Rattle.render_array.specs.Whole.{whole}
@@ -17,6 +18,7 @@ use Rattle.kept_pages.specs.Joins.{IsWhole}
 use Rattle.kept_pages.specs.Needed.{OfWhole}
 use Rattle.kept_pages.specs.Held.{Closes}
 use Rattle.kept_pages.proofs.Counting.{built_up, counts_target}
+use Rattle.kept_pages.proofs.Current.{nobody_by}
 use Rattle.kept_pages.proofs.Entries.{page_has_no_parts}
 use Rattle.kept_pages.proofs.FewPieces.{whole_again}
 use Rattle.kept_pages.proofs.OfFrames.{made_page}
@@ -24,7 +26,9 @@ use Rattle.kept_pages.proofs.page.built_page.Goals as goal
 
 pub page_of-requires-clause-makes : goal.page_of-requires-clause-makes
 page_of-requires-clause-makes g c =
-    made_page (visit c.args.reader.now) c.in_ok-filled.filled.joined c.in_ok-filled.ensures.whole
+    let v = visit c.args.reader.now in
+    let new = c.compact-compact.new.joined in
+    made_page v new (whole_again (whole c.args.reader.now.ask.path element.Page) v c.in_ok-filled.filled.joined new c.compact-compact.ensures.same c.in_ok-filled.ensures.whole)
 
 pub keep_filled-requires-clause-whole : goal.keep_filled-requires-clause-whole
 keep_filled-requires-clause-whole g c =
@@ -52,3 +56,9 @@ returns-clause-told g c =
           (subst (λ (needed : Cacheability). Bubbles (visit r) needed kept.cacheability) c.compact-compact.ensures.same.cacheability c.in_ok-keep_filled.ensures.says) c.in_ok-filled.ensures.told
           (λ shelves told. subst (λ (s : Subject). Closes r shelves bin.Anonymous s (option_copied c.args.told) kept (g.H.House.sees c.keep_filled.new.house)) c.requires.asked (c.in_ok-keep_filled.ensures.told shelves told)),
     )
+
+pub keep_filled-requires-clause-asked : goal.keep_filled-requires-clause-asked
+keep_filled-requires-clause-asked g c =
+    let r = c.args.reader.now in
+    subst (λ (s : Subject). IsAskedFor s r.viewer r.ask) (sym c.requires.asked)
+    (refl, nobody_by r.state.rows r.ask.cookie r.moment r.viewer c.requires.viewer c.requires.nobody)
