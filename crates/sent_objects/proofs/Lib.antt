@@ -1,4 +1,5 @@
 mod FirstItems
+mod FoundAlike
 mod Gathered
 mod InOrder
 pub mod Judged

@@ -1,4 +1,5 @@
 pub mod Brief
+pub mod Front
 pub mod Keys
 pub mod Object
 pub mod Reads

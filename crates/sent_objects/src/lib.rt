@@ -6,6 +6,7 @@
 //! so only these are kept. All of the text is read: one that breaks the grammar is none.
 #![tactic(auto)]
 
+mod fronts;
 mod inside;
 mod keys;
 mod members;

@@ -8,6 +8,7 @@ ghost use Rattle.serde_json.specs.View.{members_view};
 ghost use Rattle.sent_objects.specs.Brief.{pairs};
 ghost use Rattle.sent_objects.specs.Reads.{IsRefusal};
 
+use crate::fronts::sort_by_fronts;
 use crate::inside::{Fault, Flat, read_value};
 use json::Reader;
 use serde_json::{Map, Value};
@@ -22,10 +23,21 @@ fn push(found: &mut Vec<(String, Value)>, name: String, value: Value) -> Result<
 }
 
 /// Names in the order of their bytes; of a name that comes twice the last value.
-fn in_order(alloc: Global, found: Vec<(String, Value)>) -> Result<Map<String, Value>, AllocError>
+fn gathered(alloc: Global, found: Vec<(String, Value)>) -> Result<Map<String, Value>, AllocError>
     ensures { IfOk result (IsFromIterResult string_cmp found.items) }
 {
     found.into_iter().collect(alloc)
+}
+
+/// The same. What is mostly in order is gathered in little time, so names that come in any order are sorted before, as numbers.
+fn in_order(
+    alloc: Global,
+    mut found: Vec<(String, Value)>,
+) -> Result<Map<String, Value>, AllocError>
+    ensures { IfOk result (IsFromIterResult string_cmp found.items) }
+{
+    sort_by_fronts(&mut found)?;
+    gathered(alloc, found)
 }
 
 /// Reads the members of an object, and its end. They are put in order at once: a map that is filled
