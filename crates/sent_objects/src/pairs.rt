@@ -22,14 +22,15 @@ fn push(found: &mut Vec<(String, Value)>, name: String, value: Value) -> Result<
     Ok(())
 }
 
-/// Names in the order of their bytes; of a name that comes twice the last value.
+/// The map of these names and values; of a name that comes twice it has the last value.
 fn gathered(alloc: Global, found: Vec<(String, Value)>) -> Result<Map<String, Value>, AllocError>
     ensures { IfOk result (IsFromIterResult string_cmp found.items) }
 {
     found.into_iter().collect(alloc)
 }
 
-/// The same. What is mostly in order is gathered in little time, so names that come in any order are sorted before, as numbers.
+/// Names in the order of their bytes; of a name that comes twice the last value. What is mostly in order is gathered in little time, so
+/// names that come in any order are sorted before, as numbers.
 fn in_order(
     alloc: Global,
     mut found: Vec<(String, Value)>,
