@@ -1,5 +1,5 @@
 -- A pass at its desk takes the hall for a turn, and is at its desk again.
-use Rattle.std.proofs.Common.{◌≡◌, ◌≤◌, ◌++◌, ℕ, List, [], ◌∷◌, Bool, true, false, true≢false, Option, Some, None, refl, sym, ap, ◌∙◌, subst}
+use Rattle.std.proofs.Common.{◌≡◌, ◌≤◌, ◌++◌, ℕ, List, [], ◌∷◌, Bool, true, false, true≢false, Option, Some, None, refl, sym, ap, ◌∙◌, subst, append-nil}
 use Rattle.std.specs.Prelude.{option_map, is_some}
 use Rattle.content_state.specs.State.{State}
 use Rattle.content_state.specs.Replay.{replay}
@@ -14,9 +14,10 @@ use Rattle.turn_rule.specs.declared.notes.HallPart.{HallPart}
 use Rattle.turn_rule.specs.declared.notes.DeskPart.{DeskPart}
 use Rattle.turn_rule.specs.declared.notes.PassNote.{PassNote}
 use Rattle.turn_rule.specs.Logs.{desk_part, whole_of, Agree, StandsFor}
-use Rattle.turn_rule.specs.Steps.{zeros, given, bearing, with_hall, with_desk, with_faults, after_turn, after_forgetting, front, Knows, KnowsDesk, AgreesWith}
+use Rattle.turn_rule.specs.Steps.{zeros, given, bearing, with_hall, with_desk, with_faults, after_look, after_turn, after_forgetting, front, Knows, KnowsDesk, AgreesWith}
+use Rattle.atomic_table.specs.Table.{rest}
 use Rattle.turn_rule.proofs.Books.{of_desk}
-use Rattle.site_table.specs.Views.{Place, nothing, part_of, desk_note, pass_at, part_at}
+use Rattle.site_table.specs.Views.{Place, nothing, part_of, desk_note, pass_at, out_at, part_at}
 use Rattle.site_table.specs.Turns.{AtDesk, HasOut, HasBothOut, turned_place, forgotten_place}
 use Rattle.site_turn.specs.Edits.{hall_at, engine_at, HasHanded}
 
@@ -83,6 +84,17 @@ at_desk new pass part desk is stands rise calm knows = subst (λ (m : Place). At
 pub engine_is : (new : Place) (part : DeskPart) (desk : DeskSide) → part_at new ≡ part → engine_at new desk ≡ engine_of part.loaded.told (hall_at part) desk
 engine_is new part desk is = ap (λ (p : DeskPart). engine_of p.loaded.told (hall_at p) desk) is
 
+-- a pass that reads at its desk, and counts nothing, goes on to know the desk
+desk_seen : (found hall : HallPart) (desk : DeskPart) (p : PassNote) → Agree hall desk → KnowsDesk desk p → KnowsDesk desk (after_look zeros found hall p)
+desk_seen found hall desk p same k = record {
+  loaded = k.loaded;
+  seen = ([], sym same.log ∙ sym (append-nil hall.log));
+  whole = k.whole;
+  faults = k.faults;
+  steady = k.steady;
+  own = k.own;
+}
+
 -- ---- a turn of the hall
 
 -- a pass at its desk has taken the hall out
@@ -98,6 +110,25 @@ module _ (me took : Place) (hall : HallSide) (desk : DeskSide) (a : AtDesk me de
 
   pub both_out : (P : PassNote → DeskPart → HallPart → Type 0) → P (pass_at me) (part_at me) (part_of hall) → HasBothOut took (P (pass_at took) (part_at took))
   both_out P p = subst (λ (m : Place). HasBothOut m (P (pass_at m) (part_at m))) (sym took_is) (part_of hall, refl, p)
+
+  -- the hall went back as it was, and nothing was counted
+  module _ (after : Place) (agrees : AgreesWith (part_of hall) me.0.desk) (back : after ≡ (with_desk took.0.desk (bearing (after_look zeros (out_at took) (part_of hall) (pass_at took))), rest took.1)) where
+    looked_is : after ≡ at (part_at me) (after_look zeros (part_of hall) (part_of hall) (pass_at me))
+    looked_is = back ∙ ap (λ (m : Place). (with_desk m.0.desk (bearing (after_look zeros (out_at m) (part_of hall) (pass_at m))), rest m.1)) took_is
+
+    pub at_looked : AtDesk after desk
+    at_looked = at_desk after (after_look zeros (part_of hall) (part_of hall) (pass_at me)) (part_at me) desk looked_is a.stands a.rise a.calm
+        (desk_seen (part_of hall) (part_of hall) (part_at me) (pass_at me) (agree agrees) a.knows)
+
+    pub hands_looked : HasHanded (pass_at me).handed me after
+    hands_looked = record {
+      number = ap (λ (m : Place). (pass_at m).number) looked_is;
+      opened = ap (λ (m : Place). (pass_at m).opened) looked_is;
+      tally = ap (λ (m : Place). (pass_at m).tally) looked_is;
+      handed_is = ap (λ (m : Place). (pass_at m).handed) looked_is;
+      loaded = ap (λ (m : Place). (part_at m).loaded) looked_is;
+      faults = ap (λ (m : Place). (part_at m).faults) looked_is;
+    }
 
   -- the hall went back, and the keeper stands for its log
   module _ (after : Place) (hall' : HallSide) (desk' : DeskSide) (base : hall'.base ≡ (part_at me).loaded.base) (is_hall : IsHallSide hall') (stands : Stands (part_at me).loaded.told hall' desk') (faults : desk'.faults ≡ desk.faults) (steadfast : desk'.steadfast ≡ desk.steadfast) where
