@@ -1,6 +1,7 @@
 //! How many elements are built for the pages of a connection.
 ghost use Rattle.std.specs.Prelude.{None};
 
+use content_rows::Text;
 use site_alone::{alone_with, starter_state};
 use site_files::read_site;
 use site_hall::Alone;
@@ -65,13 +66,14 @@ const RECENT_NOW: &str =
     "{\"age\":0,\"cell\":\"listing:recent\",\"path\":null,\"promoted\":false,\"recent\":31536000,\"term\":null,\"title\":\"Recent\",\"types\":[]}\n";
 
 // Requests over a site at these moments, how many elements are built for each reply, and pieces of the replies, in order.
-#[derive(Drop)]
+#[derive(Clone, Copy)]
 struct Case {
     // The row of what stands on each page beside its content, if anything does.
     placed: &'static str,
     moments: &'static [u64],
     requests: &'static [&'static str],
-    built: [u64; 8],
+    // None where the test isn't of that.
+    built: Option<[u64; 8]>,
     pieces: &'static [&'static str],
 }
 
@@ -136,14 +138,27 @@ fn house(alloc: Global, placed: &str) -> Result<Alone<MemoryKeeper>, AllocError>
     house
 }
 
-// What a connection writes over such a site, and how many elements are built for each reply.
-fn served(rt: &HostRuntime, case: &Case) -> Result<(Vec<u8>, [u64; 8]), AllocError> {
-    let alloc = rt.alloc();
-    let mut sink = MemorySink::new(alloc, 400_000)?;
-    let mut house = house(alloc, case.placed)?;
-    let built = answered(rt, alloc, &mut house, case, &mut sink);
+// How many elements are built for each reply of a connection over such a site, and what it writes into the sink.
+fn answered_anew(
+    rt: &HostRuntime,
+    case: &Case,
+    sink: &mut MemorySink,
+) -> Result<[u64; 8], AllocError> {
+    let mut house = house(rt.alloc(), case.placed)?;
+    let built = answered(rt, rt.alloc(), &mut house, case, sink);
     drop(house);
-    Ok((Vec::from_slice(alloc, sink.bytes())?, built?))
+    built
+}
+
+// Whether what a connection over such a site writes has the pieces, and so many elements are built for each reply as are wanted.
+fn is_right(rt: &HostRuntime, case: &Case) -> Result<bool, AllocError> {
+    let mut sink = MemorySink::new(rt.alloc(), 400_000)?;
+    let built = answered_anew(rt, case, &mut sink)?;
+    let right = match case.built {
+        Some(wanted) => built == wanted,
+        None => true,
+    };
+    Ok(right && in_order(sink.bytes(), case.pieces))
 }
 
 // Whether these pieces stand in a text, one after the other.
@@ -179,90 +194,89 @@ const EDIT: &str =
 const REBUILD: &str =
     "POST /cache/rebuild HTTP/1.1\r\nHost: a\r\nCookie: SESS=abc\r\nX-CSRF-Token: ba7816bf8f01cfea414140de5dae2223\r\n\r\n";
 
+const KEPT: [Case; 8] = [
+    // A page, for visitors, and for whom all is permitted.
+    Case {
+        placed: "",
+        moments: &[1000],
+        requests: &[PAGE, PAGE, BY_ABC, BY_ABC],
+        built: Some([2, 0, 2, 0, 0, 0, 0, 0]),
+        pieces: &[],
+    },
+    // A page, for visitors, and for a cookie that names nobody.
+    Case {
+        placed: "",
+        moments: &[1000],
+        requests: &[PAGE, BY_NOBODY, PAGE, BY_NOBODY],
+        built: Some([2, 0, 0, 0, 0, 0, 0, 0]),
+        pieces: &[],
+    },
+    // A page that leads nowhere.
+    Case {
+        placed: "",
+        moments: &[1000],
+        requests: &[NOWHERE, NOWHERE],
+        built: Some([1, 0, 0, 0, 0, 0, 0, 0]),
+        pieces: &["404 Not Found", "404 Not Found"],
+    },
+    // The front page with two nodes, again, and once more after an edit of the first of them.
+    Case {
+        placed: "",
+        moments: &[1000],
+        requests: &[FRONT, FRONT, EDIT, FRONT, FRONT],
+        built: Some([4, 0, 0, 3, 0, 0, 0, 0]),
+        pieces: &[],
+    },
+    // A page, again, and once more after all that is kept was let go.
+    Case {
+        placed: "",
+        moments: &[1000],
+        requests: &[PAGE, PAGE, REBUILD, PAGE, PAGE],
+        built: Some([2, 0, 0, 2, 0, 0, 0, 0]),
+        pieces: &[],
+    },
+    // Nobody is greeted as somebody else.
+    Case {
+        placed: GREETING,
+        moments: &[1000],
+        requests: &[PAGE, PAGE, BY_ABC, BY_ABC, PAGE],
+        built: Some([3, 0, 3, 0, 0, 0, 0, 0]),
+        pieces: &[
+            "Content-Length: 330\r\n",
+            "Content-Length: 330\r\n",
+            "Content-Length: 310\r\n",
+            "<p>Hello, admin</p>",
+            "Content-Length: 310\r\n",
+            "<p>Hello, admin</p>",
+            "Content-Length: 330\r\n",
+        ],
+    },
+    // What may be shown at its own moment alone is built for each page that is kept but for it.
+    Case {
+        placed: CLOCK,
+        moments: &[1000, 1001, 1002],
+        requests: &[PAGE, PAGE, PAGE],
+        built: Some([3, 1, 1, 0, 0, 0, 0, 0]),
+        pieces: &[
+            "<time>1970-01-01T00:16:40Z</time>",
+            "<time>1970-01-01T00:16:41Z</time>",
+            "<time>1970-01-01T00:16:42Z</time>",
+        ],
+    },
+    // A clock that went back.
+    Case {
+        placed: "",
+        moments: &[100, 90],
+        requests: &[PAGE, PAGE],
+        built: Some([2, 2, 0, 0, 0, 0, 0, 0]),
+        pieces: &[],
+    },
+];
+
 #[test]
 fn what_is_kept_is_not_built(rt: HostRuntime) {
-    let cases = [
-        // A page, for visitors, and for whom all is permitted.
-        Case {
-            placed: "",
-            moments: &[1000],
-            requests: &[PAGE, PAGE, BY_ABC, BY_ABC],
-            built: [2, 0, 2, 0, 0, 0, 0, 0],
-            pieces: &[],
-        },
-        // A page, for visitors, and for a cookie that names nobody.
-        Case {
-            placed: "",
-            moments: &[1000],
-            requests: &[PAGE, BY_NOBODY, PAGE, BY_NOBODY],
-            built: [2, 0, 0, 0, 0, 0, 0, 0],
-            pieces: &[],
-        },
-        // A page that leads nowhere.
-        Case {
-            placed: "",
-            moments: &[1000],
-            requests: &[NOWHERE, NOWHERE],
-            built: [1, 0, 0, 0, 0, 0, 0, 0],
-            pieces: &["404 Not Found", "404 Not Found"],
-        },
-        // The front page with two nodes, again, and once more after an edit of the first of them.
-        Case {
-            placed: "",
-            moments: &[1000],
-            requests: &[FRONT, FRONT, EDIT, FRONT, FRONT],
-            built: [4, 0, 0, 3, 0, 0, 0, 0],
-            pieces: &[],
-        },
-        // A page, again, and once more after all that is kept was let go.
-        Case {
-            placed: "",
-            moments: &[1000],
-            requests: &[PAGE, PAGE, REBUILD, PAGE, PAGE],
-            built: [2, 0, 0, 2, 0, 0, 0, 0],
-            pieces: &[],
-        },
-        // Nobody is greeted as somebody else.
-        Case {
-            placed: GREETING,
-            moments: &[1000],
-            requests: &[PAGE, PAGE, BY_ABC, BY_ABC, PAGE],
-            built: [3, 0, 3, 0, 0, 0, 0, 0],
-            pieces: &[
-                "Content-Length: 330\r\n",
-                "Content-Length: 330\r\n",
-                "Content-Length: 310\r\n",
-                "<p>Hello, admin</p>",
-                "Content-Length: 310\r\n",
-                "<p>Hello, admin</p>",
-                "Content-Length: 330\r\n",
-            ],
-        },
-        // What may be shown at its own moment alone is built for each page that is kept but for it.
-        Case {
-            placed: CLOCK,
-            moments: &[1000, 1001, 1002],
-            requests: &[PAGE, PAGE, PAGE],
-            built: [3, 1, 1, 0, 0, 0, 0, 0],
-            pieces: &[
-                "<time>1970-01-01T00:16:40Z</time>",
-                "<time>1970-01-01T00:16:41Z</time>",
-                "<time>1970-01-01T00:16:42Z</time>",
-            ],
-        },
-        // A clock that went back.
-        Case {
-            placed: "",
-            moments: &[100, 90],
-            requests: &[PAGE, PAGE],
-            built: [2, 2, 0, 0, 0, 0, 0, 0],
-            pieces: &[],
-        },
-    ];
-    for case in &cases {
-        let (text, built) = served(&rt, case).expect(&rt, "memory");
-        assert!(rt; built == case.built);
-        assert!(rt; in_order(&text, case.pieces));
+    for case in &KEPT {
+        assert!(rt; is_right(&rt, case) == Ok(true));
     }
 }
 
@@ -280,120 +294,124 @@ const JSON_RECENT_BY_ABC: &str =
     "GET /json/listing/recent HTTP/1.1\r\nHost: a\r\nCookie: SESS=abc\r\n\r\n";
 
 // What is told as JSON is one element, whatever it tells of.
+const TOLD: [Case; 5] = [
+    // A node, for visitors, and for whom all is permitted, and once more after an edit of it.
+    Case {
+        placed: "",
+        moments: &[1000],
+        requests: &[JSON, JSON, JSON_BY_ABC, JSON_BY_ABC, EDIT, JSON, JSON],
+        built: Some([1, 0, 1, 0, 0, 1, 0, 0]),
+        pieces: &["\"title\":\"First\"", "\"title\":\"A\"", "\"title\":\"A\""],
+    },
+    // A listing of two nodes, and what isn't there, beside their pages.
+    Case {
+        placed: "",
+        moments: &[1000],
+        requests: &[
+            JSON_FRONT,
+            JSON_FRONT,
+            FRONT,
+            JSON_NOWHERE,
+            JSON_NOWHERE,
+            NOWHERE,
+            JSON_FRONT,
+        ],
+        built: Some([1, 0, 4, 1, 0, 1, 0, 0]),
+        pieces: &[
+            "{\"code\":\"no-target\"}",
+            "{\"code\":\"no-target\"}",
+            "<!DOCTYPE html>",
+        ],
+    },
+    // A listing that may be shown for a minute.
+    Case {
+        placed: RECENT,
+        moments: &[1000, 1060, 1061, 1062],
+        requests: &[JSON_RECENT, JSON_RECENT, JSON_RECENT, JSON_RECENT],
+        built: Some([1, 0, 1, 0, 0, 0, 0, 0]),
+        pieces: &[],
+    },
+    // A listing that may be shown for a minute, asked for with a session.
+    Case {
+        placed: RECENT,
+        moments: &[1000, 1060, 1061, 1062],
+        requests: &[
+            JSON_RECENT_BY_ABC,
+            JSON_RECENT_BY_ABC,
+            JSON_RECENT_BY_ABC,
+            JSON_RECENT_BY_ABC,
+        ],
+        built: Some([1, 0, 1, 0, 0, 0, 0, 0]),
+        pieces: &[],
+    },
+    // One that may be shown at its own moment alone isn't kept.
+    Case {
+        placed: RECENT_NOW,
+        moments: &[1000, 1000, 1001],
+        requests: &[JSON_RECENT, JSON_RECENT, JSON_RECENT],
+        built: Some([1, 1, 1, 0, 0, 0, 0, 0]),
+        pieces: &[],
+    },
+];
+
 #[test]
 fn what_is_told_as_json_is_kept(rt: HostRuntime) {
-    let cases = [
-        // A node, for visitors, and for whom all is permitted, and once more after an edit of it.
-        Case {
-            placed: "",
-            moments: &[1000],
-            requests: &[JSON, JSON, JSON_BY_ABC, JSON_BY_ABC, EDIT, JSON, JSON],
-            built: [1, 0, 1, 0, 0, 1, 0, 0],
-            pieces: &["\"title\":\"First\"", "\"title\":\"A\"", "\"title\":\"A\""],
-        },
-        // A listing of two nodes, and what isn't there, beside their pages.
-        Case {
-            placed: "",
-            moments: &[1000],
-            requests: &[
-                JSON_FRONT,
-                JSON_FRONT,
-                FRONT,
-                JSON_NOWHERE,
-                JSON_NOWHERE,
-                NOWHERE,
-                JSON_FRONT,
-            ],
-            built: [1, 0, 4, 1, 0, 1, 0, 0],
-            pieces: &[
-                "{\"code\":\"no-target\"}",
-                "{\"code\":\"no-target\"}",
-                "<!DOCTYPE html>",
-            ],
-        },
-        // A listing that may be shown for a minute.
-        Case {
-            placed: RECENT,
-            moments: &[1000, 1060, 1061, 1062],
-            requests: &[JSON_RECENT, JSON_RECENT, JSON_RECENT, JSON_RECENT],
-            built: [1, 0, 1, 0, 0, 0, 0, 0],
-            pieces: &[],
-        },
-        // A listing that may be shown for a minute, asked for with a session.
-        Case {
-            placed: RECENT,
-            moments: &[1000, 1060, 1061, 1062],
-            requests: &[
-                JSON_RECENT_BY_ABC,
-                JSON_RECENT_BY_ABC,
-                JSON_RECENT_BY_ABC,
-                JSON_RECENT_BY_ABC,
-            ],
-            built: [1, 0, 1, 0, 0, 0, 0, 0],
-            pieces: &[],
-        },
-        // One that may be shown at its own moment alone isn't kept.
-        Case {
-            placed: RECENT_NOW,
-            moments: &[1000, 1000, 1001],
-            requests: &[JSON_RECENT, JSON_RECENT, JSON_RECENT],
-            built: [1, 1, 1, 0, 0, 0, 0, 0],
-            pieces: &[],
-        },
-    ];
-    for case in &cases {
-        let (text, built) = served(&rt, case).expect(&rt, "memory");
-        assert!(rt; built == case.built);
-        assert!(rt; in_order(&text, case.pieces));
+    for case in &TOLD {
+        assert!(rt; is_right(&rt, case) == Ok(true));
     }
 }
 
+const LASTING: [Case; 2] = [
+    Case {
+        placed: SLOW_CLOCK,
+        moments: &[1000, 1060, 1061],
+        requests: &[PAGE, PAGE, PAGE],
+        built: None,
+        pieces: &[
+            "Content-Length: 361\r\n",
+            "<time>1970-01-01T00:16:40Z</time>",
+            "Content-Length: 361\r\n",
+            "<time>1970-01-01T00:16:40Z</time>",
+            "<time>1970-01-01T00:17:41Z</time>",
+        ],
+    },
+    // The text is kept at moment 50, and the page that it stands on at 100.
+    Case {
+        placed: SLOW_CLOCK,
+        moments: &[50, 100, 110, 111],
+        requests: &[FRONT, PAGE, PAGE, PAGE],
+        built: None,
+        pieces: &[
+            "<time>1970-01-01T00:00:50Z</time>",
+            "<time>1970-01-01T00:00:50Z</time>",
+            "<time>1970-01-01T00:00:50Z</time>",
+            "<time>1970-01-01T00:01:51Z</time>",
+        ],
+    },
+];
+
 #[test]
 fn a_page_lasts_as_long_as_what_it_shows(rt: HostRuntime) {
-    let cases = [
-        Case {
-            placed: SLOW_CLOCK,
-            moments: &[1000, 1060, 1061],
-            requests: &[PAGE, PAGE, PAGE],
-            built: [0; 8],
-            pieces: &[
-                "Content-Length: 361\r\n",
-                "<time>1970-01-01T00:16:40Z</time>",
-                "Content-Length: 361\r\n",
-                "<time>1970-01-01T00:16:40Z</time>",
-                "<time>1970-01-01T00:17:41Z</time>",
-            ],
-        },
-        // The text is kept at moment 50, and the page that it stands on at 100.
-        Case {
-            placed: SLOW_CLOCK,
-            moments: &[50, 100, 110, 111],
-            requests: &[FRONT, PAGE, PAGE, PAGE],
-            built: [0; 8],
-            pieces: &[
-                "<time>1970-01-01T00:00:50Z</time>",
-                "<time>1970-01-01T00:00:50Z</time>",
-                "<time>1970-01-01T00:00:50Z</time>",
-                "<time>1970-01-01T00:01:51Z</time>",
-            ],
-        },
-    ];
-    for case in &cases {
-        let (text, _) = served(&rt, case).expect(&rt, "memory");
-        assert!(rt; in_order(&text, case.pieces));
+    for case in &LASTING {
+        assert!(rt; is_right(&rt, case) == Ok(true));
+    }
+}
+
+// Requests to the new site at one moment, in one connection.
+fn case_of(requests: &'static [&'static str]) -> Case {
+    Case {
+        placed: "",
+        moments: &[1000],
+        requests,
+        built: None,
+        pieces: &[],
     }
 }
 
 // How often a hall is asked for what is kept, by these requests of one connection over the site.
 fn looks(rt: &HostRuntime, requests: &'static [&'static str]) -> Result<u64, AllocError> {
     let alloc = rt.alloc();
-    let case = Case {
-        placed: "",
-        moments: &[1000],
-        requests,
-        built: [0; 8],
-        pieces: &[],
-    };
+    let case = case_of(requests);
     let mut sink = MemorySink::new(alloc, 400_000)?;
     let mut house = house(alloc, case.placed)?;
     let answered = answered(rt, alloc, &mut house, &case, &mut sink).is_ok();
@@ -414,27 +432,34 @@ fn a_reply_is_given_again(rt: HostRuntime) {
     assert!(rt; by_nobody == twice.saturating_add(1));
 }
 
-// How many pages of the new site are rendered before anybody asks for them, and how many elements are built for each reply to these
+// How many pages are rendered over a house before anybody asks for them, and how many elements are built for each reply to these
 // requests then.
+fn warmed_over<H: House>(
+    rt: &HostRuntime,
+    house: &mut H,
+    targets: &[Text],
+    requests: &'static [&'static str],
+) -> Result<(u64, [u64; 8]), AllocError> {
+    let count = warm(rt.alloc(), house, targets, 1_000)?;
+    let mut sink = MemorySink::new(rt.alloc(), 400_000)?;
+    let built = answered(rt, rt.alloc(), house, &case_of(requests), &mut sink)?;
+    Ok((count, built))
+}
+
+// The same over the new site.
 fn warmed(
     rt: &HostRuntime,
     requests: &'static [&'static str],
 ) -> Result<(u64, [u64; 8]), AllocError> {
-    let alloc = rt.alloc();
-    let state = starter_state(alloc)?;
-    let targets = targets(alloc, &state)?;
-    let mut house = alone_with(alloc, &state)?;
-    let count = warm(alloc, &mut house, &targets, 1_000)?;
-    let case = Case {
-        placed: "",
-        moments: &[1000],
-        requests,
-        built: [0; 8],
-        pieces: &[],
-    };
-    let mut sink = MemorySink::new(alloc, 400_000)?;
-    let built = answered(rt, alloc, &mut house, &case, &mut sink)?;
-    Ok((count, built))
+    let state = starter_state(rt.alloc())?;
+    let targets = targets(rt.alloc(), &state);
+    let house = alone_with(rt.alloc(), &state);
+    drop(state);
+    let targets = targets?;
+    let mut house = house?;
+    let warmed = warmed_over(rt, &mut house, targets.as_slice(), requests);
+    drop(house);
+    warmed
 }
 
 // Nothing is built for a page that was rendered first, and a page that leads nowhere isn't among these.

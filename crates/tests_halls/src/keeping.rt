@@ -47,21 +47,36 @@ fn finds<R: Wait>(
     }
 }
 
+// What the hall of a site counted, whose only passes these are.
+fn tally<R: Wait>(
+    rt: &R,
+    alloc: Global,
+    site: Site<MemoryKeeper>,
+    one: Pass,
+    two: Pass,
+) -> Result<Tally, AllocError>
+    requires one { one.table ≡ site.table }
+    requires two { two.table ≡ site.table }
+{
+    let hall = closed(rt, alloc, site, one, two)?;
+    Ok(hall.tally())
+}
+
 // Whether what one pass keeps the other finds, and the hall counted what both did.
 fn is_shared<R: Wait>(rt: &R, alloc: Global) -> Result<bool, AllocError> {
     let mut site = site(alloc)?;
     let mut one = site.new_pass();
     let mut two = site.new_pass();
-    let before = finds(rt, alloc, &site, &mut two)?;
-    keep(rt, alloc, &site, &mut one)?;
-    let after = finds(rt, alloc, &site, &mut two)?;
-    let tally = closed(rt, alloc, site, one, two)?.tally();
+    let before = finds(rt, alloc, &site, &mut two);
+    let kept = keep(rt, alloc, &site, &mut one);
+    let after = finds(rt, alloc, &site, &mut two);
+    let tally = tally(rt, alloc, site, one, two)?;
     let counted = Tally {
         looks: 2,
         found: 1,
         kept: 1,
     };
-    Ok(!before && after && tally == counted)
+    Ok(before == Ok(false) && kept == Ok(()) && after == Ok(true) && tally == counted)
 }
 
 /// The first node, with a cookie that names nobody.
@@ -79,7 +94,7 @@ fn counted<R: Wait>(
     let mut two = site.new_pass();
     answered_by(rt, alloc, &site, &mut one, first);
     answered_by(rt, alloc, &site, &mut two, second);
-    Ok(closed(rt, alloc, site, one, two)?.tally())
+    tally(rt, alloc, site, one, two)
 }
 
 // A redirect that one pass keeps the other finds; and so it is with a page, which the first builds, keeping it under one key and two parts

@@ -124,21 +124,57 @@ const ROWS: &[u8] = b"{\"cell\":\"site\",\"front\":\"/node/1\",\"name\":\"Site\"
 
 const LATE: &[u8] = b"GET /node/1 HTTP/1.1\r\nHost: a\r\nCookie: SESS=abc\r\nX-Late: 1\r\n\r\n";
 
-// A house over the site that counts looks.
-fn house(alloc: Global, looks: Rc<Cell<u64>>) -> Result<Counting, AllocError> {
+// A house over the site.
+fn alone(alloc: Global) -> Result<Alone<MemoryKeeper>, AllocError> {
     let mut source = MemorySource::new(Vec::from_slice(alloc, ROWS)?, 4_096);
     let Ok(state) = read_site(alloc, &mut source) else {
         return Err(AllocError);
     };
-    let alone = alone_with(alloc, &state)?;
-    Ok(Counting { alone, looks })
+    let alone = alone_with(alloc, &state);
+    drop(state);
+    alone
+}
+
+// How a connection over a house ends that asks for a page whose parts may be sent late.
+fn ended_over<H: House>(
+    rt: &HostRuntime,
+    house: &mut H,
+    sink: &mut Noting,
+    gate: &mut Beginning,
+) -> Result<Ended, AllocError> {
+    let alloc = rt.alloc();
+    let mut source = MemorySource::new(Vec::from_slice(alloc, LATE)?, 64);
+    let mut clock = ListClock::new(Vec::from_slice(alloc, &[1000])?);
+    let mut entropy = ListEntropy::new(Vec::new(alloc));
+    Ok(serve_connection(
+        rt,
+        alloc,
+        house,
+        &mut source,
+        sink,
+        &mut clock,
+        &mut entropy,
+        gate,
+    ))
+}
+
+// The same over a house that counts looks.
+fn ended(
+    rt: &HostRuntime,
+    looks: Rc<Cell<u64>>,
+    sink: &mut Noting,
+    gate: &mut Beginning,
+) -> Result<Ended, AllocError> {
+    let alone = alone(rt.alloc())?;
+    let mut house = Counting { alone, looks };
+    let ended = ended_over(rt, &mut house, sink, gate);
+    drop(house);
+    ended
 }
 
 // Whether what is sent first was written and handed on before a part was begun, and something was looked for only then.
 fn is_sent_first(rt: &HostRuntime) -> Result<bool, AllocError> {
-    let alloc = rt.alloc();
-    let looks = Rc::new(alloc, Cell::new(0))?;
-    let mut house = house(alloc, looks.clone()?)?;
+    let looks = Rc::new(rt.alloc(), Cell::new(0))?;
     let mut sink = Noting {
         looks: looks.clone()?,
         written: None,
@@ -148,19 +184,7 @@ fn is_sent_first(rt: &HostRuntime) -> Result<bool, AllocError> {
         looks: looks.clone()?,
         begun: None,
     };
-    let mut source = MemorySource::new(Vec::from_slice(alloc, LATE)?, 64);
-    let mut clock = ListClock::new(Vec::from_slice(alloc, &[1000])?);
-    let mut entropy = ListEntropy::new(Vec::new(alloc));
-    let ended = serve_connection(
-        rt,
-        alloc,
-        &mut house,
-        &mut source,
-        &mut sink,
-        &mut clock,
-        &mut entropy,
-        &mut gate,
-    );
+    let ended = ended(rt, looks.clone()?, &mut sink, &mut gate)?;
     let Some(begun) = gate.begun else {
         return Ok(false);
     };

@@ -6,8 +6,11 @@ ghost use Rattle.site_io.specs.Told.{Rose};
 use crate::site::state;
 use html_out::Bytes;
 use site_alone::alone_with;
+use site_hall::Alone;
+use site_house::House;
 use site_http::{WriteFault, serve_connection, write_parts};
 use site_io::{Ended, Failed, ListClock, ListEntropy, MemorySink, MemorySource, OpenGate, Sink};
+use site_keeper::MemoryKeeper;
 use std::alloc::{AllocError, Global};
 use std::sync::Arc;
 
@@ -74,27 +77,42 @@ const REQUESTS: &[u8] =
 
 const ARTICLE: &[u8] = b"<article><div class=\"field\">Body: Hello</div></article>";
 
-// The pieces of the replies over a new site with a session, and how the connection ended.
-fn written(rt: &HostRuntime, sink: &mut Listing) -> Result<Ended, AllocError> {
-    let alloc = rt.alloc();
+// A house over a new site with a session.
+fn house(alloc: Global) -> Result<Alone<MemoryKeeper>, AllocError> {
     let state = state(alloc)?;
-    let mut house = alone_with(alloc, &state)?;
+    let house = alone_with(alloc, &state);
+    drop(state);
+    house
+}
+
+// How the connection with the requests ends over a house.
+fn ended_over<H: House>(
+    rt: &HostRuntime,
+    house: &mut H,
+    sink: &mut Listing,
+) -> Result<Ended, AllocError> {
+    let alloc = rt.alloc();
     let mut source = MemorySource::new(Vec::from_slice(alloc, REQUESTS)?, 64);
     let mut clock = ListClock::new(Vec::from_slice(alloc, &[1000])?);
     let mut entropy = ListEntropy::new(Vec::new(alloc));
-    let ended = serve_connection(
+    Ok(serve_connection(
         rt,
         alloc,
-        &mut house,
+        house,
         &mut source,
         sink,
         &mut clock,
         &mut entropy,
         &mut OpenGate,
-    );
+    ))
+}
+
+// The pieces of the replies over a new site with a session, and how the connection ended.
+fn written(rt: &HostRuntime, sink: &mut Listing) -> Result<Ended, AllocError> {
+    let mut house = house(rt.alloc())?;
+    let ended = ended_over(rt, &mut house, sink);
     drop(house);
-    drop(state);
-    Ok(ended)
+    ended
 }
 
 // How many of the pieces are this.

@@ -11,7 +11,7 @@ use std::alloc::Global;
 use std::sync::Arc;
 
 /// A batch in words.
-pub(crate) struct Words {
+struct Words {
     /// The rows that it sets, as JSON.
     rows: &'static [&'static str],
     /// The cell whose row it removes.
@@ -38,7 +38,7 @@ const SITE: [&str; 11] = [
 ];
 
 /// The import of the site into a new store, with a count whose bytes all differ.
-pub(crate) const BEGIN: Words = Words {
+const BEGIN: Words = Words {
     rows: &SITE,
     gone: None,
     counts: &[
@@ -59,7 +59,7 @@ pub(crate) const BEGIN: Words = Words {
 };
 
 /// The node gets another title, one more id of a node is given, and a user is gone. The head is the greatest.
-pub(crate) const EDIT: Words = Words {
+const EDIT: Words = Words {
     rows: &[
         "{\"cell\":\"node:1\",\"changed\":1000,\"created\":100,\"fields\":{\"body\":\"Hello\"},\"grants\":[],\"path\":null,\"promote\":true,\"refs\":[],\"status\":true,\"sticky\":false,\"terms\":[],\"title\":\"A\",\"type\":\"page\",\"uid\":1,\"uuid\":\"n-1\",\"vid\":2}",
         "{\"cell\":\"seq\",\"node\":3,\"term\":1,\"user\":2}",
@@ -102,7 +102,7 @@ fn counts_of(alloc: Global, words: &Words) -> Option<Items<(Tag, u64)>> {
 }
 
 /// The batch that words say.
-pub(crate) fn batch_of(alloc: Global, words: &Words) -> Option<Batch> {
+fn batch_from(alloc: Global, words: &Words) -> Option<Batch> {
     let counts = counts_of(alloc, words)?;
     let commit = Commit {
         writes: writes_of(alloc, words)?,
@@ -114,6 +114,23 @@ pub(crate) fn batch_of(alloc: Global, words: &Words) -> Option<Batch> {
         counts,
         head: words.head,
     })
+}
+
+/// A batch by its name, so that what a test is proved with has none of its words.
+#[derive(Clone, Copy)]
+pub(crate) enum Step {
+    /// The import, as `BEGIN` says.
+    Begin,
+    /// The edit after it, as `EDIT` says.
+    Edit,
+}
+
+/// The batch of this name.
+pub(crate) fn batch_of(alloc: Global, step: Step) -> Option<Batch> {
+    match step {
+        Step::Begin => batch_from(alloc, &BEGIN),
+        Step::Edit => batch_from(alloc, &EDIT),
+    }
 }
 
 /// What is held, in short.

@@ -1,9 +1,10 @@
 //! A new site is begun in a file, which is closed, opened again and found as it was begun.
 
+use crate::files::{MAKES, OPENS, Work, in_file};
 use cacheability::Tag;
 use content_rows::{Cell, Items, Row, starter};
 use content_state::{Commit, Write};
-use keeper_sqlite::{SqliteKeeper, open_keeper, open_or_make_keeper};
+use keeper_sqlite::SqliteKeeper;
 use row_json::row_to_json;
 use site_keeper::{Batch, Keeper, Stored};
 use sqlite::Alter;
@@ -44,9 +45,18 @@ fn first_import(alloc: Global) -> Option<Batch> {
 }
 
 /// Keeps the first import.
-fn begin_in<S: Alter + Drop>(alloc: Global, mut keeper: SqliteKeeper<S>) -> Option<bool> {
-    let import = first_import(alloc)?;
-    Some(keeper.apply(alloc, &import).is_ok())
+#[derive(Drop)]
+struct Beginning {
+    /// Whether it is kept, once it was made and tried.
+    begun: Option<bool>,
+}
+
+impl Work for Beginning {
+    fn work<S: Alter + Drop>(&mut self, alloc: Global, mut keeper: SqliteKeeper<S>) {
+        if let Some(import) = first_import(alloc) {
+            self.begun = Some(keeper.apply(alloc, &import).is_ok());
+        }
+    }
 }
 
 /// A row as JSON.
@@ -71,10 +81,10 @@ fn starter_rows_in(alloc: Global, stored: &Stored) -> Option<usize> {
 
 /// What is found: how many rows, how many of them are those of a new site, the count of its settings, and the number, as
 /// it is loaded and as it is told.
-fn found_in<K: Keeper>(alloc: Global, mut keeper: K) -> Option<(usize, usize, u64, u64, u64)>
-where
-    K: Drop,
-{
+type Found = (usize, usize, u64, u64, u64);
+
+/// What a keeper holds.
+fn found_by<K: Keeper>(alloc: Global, keeper: &mut K) -> Option<Found> {
     let told = keeper.head(alloc).ok()?;
     let stored = keeper.load(alloc).ok()?;
     let same = starter_rows_in(alloc, &stored)?;
@@ -82,13 +92,27 @@ where
     Some((stored.rows.len(), same, count, stored.head, told))
 }
 
+/// Finds what a keeper holds.
+#[derive(Drop)]
+struct Finding {
+    found: Option<Found>,
+}
+
+impl Work for Finding {
+    fn work<S: Alter + Drop>(&mut self, alloc: Global, mut keeper: SqliteKeeper<S>) {
+        self.found = found_by(alloc, &mut keeper);
+    }
+}
+
 #[test]
 fn a_new_site_is_found_again(rt: HostRuntime) -> Result<(), Fail> {
     let path = "begun.db";
-    let begun = begin_in(rt.alloc(), open_or_make_keeper(&rt, path)?);
-    assert_eq!(rt; begun, Some(true));
-    let found = found_in(rt.alloc(), open_keeper(&rt, path)?);
-    assert_eq!(rt; found, Some((8, 8, 1, 1, 1)));
+    let mut beginning = Beginning { begun: None };
+    in_file(&rt, path, MAKES, &mut beginning);
+    assert_eq!(rt; beginning.begun, Some(true));
+    let mut finding = Finding { found: None };
+    in_file(&rt, path, OPENS, &mut finding);
+    assert_eq!(rt; finding.found, Some((8, 8, 1, 1, 1)));
     fs::remove_file(&rt, path)?;
     let _gone = fs::remove_file(&rt, "begun.db-wal");
     Ok(())

@@ -1,6 +1,6 @@
 //! A store whose files stop at some call while an edit is kept: it is found again with the edit or without it, whole.
 
-use crate::batches::{BEGIN, BEGUN, EDIT, EDITED, Seen, batch_of, held_by};
+use crate::batches::{BEGUN, EDITED, Seen, Step, batch_of, held_by};
 use crate::written::SQLITE3;
 use keeper_sqlite::over;
 use site_keeper::{Batch, Keeper};
@@ -100,15 +100,21 @@ fn used_in<D: Disk + Drop>(
     }
 }
 
+/// What `used_in` gives of files that may stop, so that one function alone is proved of what a database in such files is made of.
+fn tried_in(
+    rt: &HostRuntime,
+    files: Files<Stopping>,
+    frames: usize,
+    batch: Option<&Batch>,
+) -> Option<(bool, Option<Seen>, Files<Stopping>)> {
+    used_in(rt, files, frames, batch)
+}
+
 /// What is found in files.
 fn found_in(rt: &HostRuntime, files: Files<Stopping>) -> Option<Seen> {
-    match used_in(rt, files, 1000, None) {
-        Some((_, seen, files)) => {
-            drop(files);
-            seen
-        }
-        None => None,
-    }
+    let (_, seen, files) = tried_in(rt, files, 1000, None)?;
+    drop(files);
+    seen
 }
 
 /// The files of a store into which the site was imported.
@@ -117,8 +123,8 @@ fn begun(rt: &HostRuntime) -> Option<Files<Stopping>> {
         log: file_of(rt.alloc(), &[], u64::MAX)?,
         db: file_of(rt.alloc(), &[], u64::MAX)?,
     };
-    let import = batch_of(rt.alloc(), &BEGIN)?;
-    let (_, _, files) = used_in(rt, files, 1000, Some(&import))?;
+    let import = batch_of(rt.alloc(), Step::Begin)?;
+    let (_, _, files) = tried_in(rt, files, 1000, Some(&import))?;
     Some(files)
 }
 
@@ -148,7 +154,7 @@ fn stop_after(
     frames: usize,
     calls: Calls,
 ) -> Option<Ended> {
-    let (kept, _, mut files) = used_in(rt, again(rt.alloc(), begun, calls)?, frames, Some(edit))?;
+    let (kept, _, mut files) = tried_in(rt, again(rt.alloc(), begun, calls)?, frames, Some(edit))?;
     let ran = answers(&mut files.log) && answers(&mut files.db);
     let written = found_in(rt, again(rt.alloc(), &files, ALL)?);
     files.log.crash();
@@ -207,45 +213,63 @@ fn calls_of(stop: Stop, count: u64) -> Calls {
     }
 }
 
-/// Files stop after each number of calls, up to the first with which none stops.
+/// Whether an edit ended as it may: it is whole, both where all that was written is there and where what was synced is there
+/// alone, and is told to be kept where no file stopped.
+fn is_right(ended: &Ended) -> bool {
+    is_whole(ended.kept, ended.written)
+        && is_whole(ended.kept, ended.synced)
+        && (ended.kept || !ended.ran)
+}
+
+/// Files stop after each number of calls, up to the first with which none stops. The first number with which the edit doesn't end
+/// as it may, or the one after all, where files stop with each.
+fn wrong_after(rt: &HostRuntime, begun: &Files<Stopping>, edit: &Batch, stop: Stop) -> Option<u64> {
+    for count in 0..=400 {
+        let ended = stop_after(rt, begun, edit, stop.frames, calls_of(stop, count));
+        if let Some(ended) = ended {
+            if !is_right(&ended) {
+                return Some(count);
+            }
+            if ended.ran {
+                return None;
+            }
+        }
+    }
+    Some(401)
+}
+
 #[test]
 fn an_edit_is_kept_whole_or_not(rt: HostRuntime) {
     let begun = begun(&rt).expect(&rt, "memory");
-    let edit = batch_of(rt.alloc(), &EDIT).expect(&rt, "memory");
-    for stop in STOPS {
-        let mut ran = false;
-        for count in 0..=400 {
-            let calls = calls_of(stop, count);
-            let Some(ended) = stop_after(&rt, &begun, &edit, stop.frames, calls) else {
-                continue;
-            };
-            assert!(rt; is_whole(ended.kept, ended.written), "{stop:?} {count}");
-            assert!(rt; is_whole(ended.kept, ended.synced), "{stop:?} {count}");
-            if ended.ran {
-                assert!(rt; ended.kept, "{stop:?} {count}");
-                ran = true;
-                break;
-            }
-        }
-        assert!(rt; ran, "{stop:?}");
+    let edit = batch_of(rt.alloc(), Step::Edit).expect(&rt, "memory");
+    for stop in &STOPS {
+        let wrong = wrong_after(&rt, &begun, &edit, *stop);
+        assert!(rt; wrong.is_none(), "{stop:?} {wrong:?}");
     }
+}
+
+/// What is held in the file that sqlite3 wrote.
+const WRITTEN: Seen = Seen {
+    rows: 1,
+    next_node: 2,
+    version: 0,
+    tags: 1,
+    sum: 5,
+    head: 7,
+    told: 7,
+};
+
+/// What is found in it.
+fn found_in_sqlite3(rt: &HostRuntime) -> Option<Seen> {
+    let files = Files {
+        log: file_of(rt.alloc(), &[], u64::MAX)?,
+        db: file_of(rt.alloc(), &SQLITE3, u64::MAX)?,
+    };
+    found_in(rt, files)
 }
 
 /// A file that sqlite3 wrote is a store.
 #[test]
 fn a_file_of_sqlite3_is_read(rt: HostRuntime) {
-    let files = Files {
-        log: file_of(rt.alloc(), &[], u64::MAX).expect(&rt, "memory"),
-        db: file_of(rt.alloc(), &SQLITE3, u64::MAX).expect(&rt, "memory"),
-    };
-    let seen = Seen {
-        rows: 1,
-        next_node: 2,
-        version: 0,
-        tags: 1,
-        sum: 5,
-        head: 7,
-        told: 7,
-    };
-    assert!(rt; found_in(&rt, files) == Some(seen));
+    assert!(rt; found_in_sqlite3(&rt) == Some(WRITTEN));
 }

@@ -1,7 +1,8 @@
 //! What a keeper over a database holds, which rows of its tables it refuses, and that it goes on after a fault.
 
-use crate::batches::{BEGIN, BEGUN, EDIT, EDITED, NOTHING, Seen, Words, batch_of, held_by};
-use keeper_sqlite::{NoKeeper, SqliteKeeper, StoreTable, open_keeper, open_or_make_keeper, over};
+use crate::batches::{BEGUN, EDITED, NOTHING, Seen, Step, batch_of, held_by};
+use crate::files::{MAKES, OPENS, Work, in_file, is_done_in};
+use keeper_sqlite::{NoKeeper, SqliteKeeper, StoreTable, over};
 use site_keeper::{Keeper, KeeperFault};
 use sqlite::{Alter, Connection, Error, MemStore};
 use std::alloc::Global;
@@ -150,24 +151,35 @@ fn loaded<S: Alter + Drop>(
     (head, keeper.faults())
 }
 
-#[test]
-fn broken_rows_are_faults(rt: HostRuntime) -> Result<(), Fail> {
-    for (row, want) in BROKEN {
-        let keeper = over(&rt, database(rt.alloc(), &[TABLES, row])?)?;
-        let (head, faults) = loaded(rt.alloc(), keeper);
-        assert_eq!(rt; head, want, "{row}");
-        assert_eq!(rt; faults, u64::from(want.is_err()), "{row}");
+/// The same of a database in memory with the two tables and a row. None where it isn't opened, or memory is wanting.
+fn loaded_with(rt: &HostRuntime, row: &str) -> Option<(Result<u64, KeeperFault>, u64)> {
+    let conn = database(rt.alloc(), &[TABLES, row]).ok()?;
+    let keeper = over(rt, conn).ok()?;
+    Some(loaded(rt.alloc(), keeper))
+}
+
+/// Whether a store with this row is loaded as that, and its keeper has failed once where it isn't loaded.
+fn is_loaded_as(rt: &HostRuntime, row: &str, want: Result<u64, KeeperFault>) -> bool {
+    match loaded_with(rt, row) {
+        Some((head, faults)) => head == want && faults == u64::from(want.is_err()),
+        None => false,
     }
-    Ok(())
+}
+
+#[test]
+fn broken_rows_are_faults(rt: HostRuntime) {
+    for (row, want) in &BROKEN {
+        assert!(rt; is_loaded_as(&rt, row, *want), "{row}");
+    }
 }
 
 /// What a keeper holds once a batch is kept.
 fn kept_by<S: Alter + Drop>(
     alloc: Global,
     keeper: &mut SqliteKeeper<S>,
-    words: &Words,
+    step: Step,
 ) -> Result<Seen, KeeperFault> {
-    let Some(batch) = batch_of(alloc, words) else {
+    let Some(batch) = batch_of(alloc, step) else {
         return Err(KeeperFault::OutOfMemory);
     };
     let kept = keeper.apply(alloc, &batch);
@@ -178,64 +190,84 @@ fn kept_by<S: Alter + Drop>(
     }
 }
 
-/// Why no keeper is opened over a database.
-fn refusal(rt: &HostRuntime, statements: &str) -> Result<Option<NoKeeper>, Error> {
-    let conn = database(rt.alloc(), &[statements])?;
+/// Why no keeper is opened over a database in memory after these statements, if it isn't. None where memory is wanting.
+fn refusal(rt: &HostRuntime, statements: &str) -> Option<Option<NoKeeper>> {
+    let conn = database(rt.alloc(), &[statements]).ok()?;
     match over(rt, conn) {
         Ok(keeper) => {
             drop(keeper);
-            Ok(None)
+            Some(None)
         }
-        Err(why) => Ok(Some(why)),
+        Err(why) => Some(Some(why)),
     }
 }
 
 /// A database that is no store is refused.
 #[test]
-fn what_is_no_store_is_refused(rt: HostRuntime) -> Result<(), Fail> {
-    assert_eq!(rt; refusal(&rt, TABLES)?, None);
-    for (statements, why) in OTHERS {
-        assert_eq!(rt; refusal(&rt, statements)?, Some(why), "{statements}");
+fn what_is_no_store_is_refused(rt: HostRuntime) {
+    assert!(rt; refusal(&rt, TABLES) == Some(None));
+    for (statements, why) in &OTHERS {
+        assert!(rt;
+            refusal(&rt, statements) == Some(Some(*why)),
+            "{statements}"
+        );
     }
-    Ok(())
 }
 
 /// What a keeper holds, if there is one, and what it holds once a batch is kept.
-fn kept_in<S: Alter + Drop>(
-    alloc: Global,
-    keeper: Result<SqliteKeeper<S>, NoKeeper>,
-    words: &Words,
-) -> [Result<Seen, KeeperFault>; 2] {
-    match keeper {
-        Ok(mut keeper) => {
-            let before = held_by(alloc, &mut keeper);
-            let after = kept_by(alloc, &mut keeper, words);
-            [before, after]
-        }
-        Err(_) => [Err(KeeperFault::Failed), Err(KeeperFault::Failed)],
+#[derive(Drop)]
+struct Keeping {
+    step: Step,
+    told: [Result<Seen, KeeperFault>; 2],
+}
+
+impl Work for Keeping {
+    fn work<S: Alter + Drop>(&mut self, alloc: Global, mut keeper: SqliteKeeper<S>) {
+        let before = held_by(alloc, &mut keeper);
+        let after = kept_by(alloc, &mut keeper, self.step);
+        self.told = [before, after];
     }
 }
 
-/// What the keeper of a file holds, where the file is made if none is there, and what it holds once a batch is kept.
-fn kept_at(rt: &HostRuntime, path: &str, words: &Words) -> [Result<Seen, KeeperFault>; 2] {
-    kept_in(rt.alloc(), open_or_make_keeper(rt, path), words)
+/// The same of the keeper of a file.
+fn kept_in(
+    rt: &HostRuntime,
+    path: &str,
+    makes: bool,
+    step: Step,
+) -> [Result<Seen, KeeperFault>; 2] {
+    let mut keeping = Keeping {
+        step,
+        told: [Err(KeeperFault::Failed), Err(KeeperFault::Failed)],
+    };
+    in_file(rt, path, makes, &mut keeping);
+    keeping.told
 }
 
-/// What the keeper of a file that is there holds, and what it holds once a batch is kept.
-fn kept_there(rt: &HostRuntime, path: &str, words: &Words) -> [Result<Seen, KeeperFault>; 2] {
-    kept_in(rt.alloc(), open_keeper(rt, path), words)
+/// Whether no keeper of a file is opened.
+fn is_refused(rt: &HostRuntime, path: &str, makes: bool, step: Step) -> bool {
+    kept_in(rt, path, makes, step) == [Err(KeeperFault::Failed), Err(KeeperFault::Failed)]
+}
+
+/// Whether the keeper of a file that is there or made holds nothing, and then what is imported.
+fn is_begun(rt: &HostRuntime, path: &str) -> bool {
+    kept_in(rt, path, MAKES, Step::Begin) == [Ok(NOTHING), Ok(BEGUN)]
+}
+
+/// Whether the keeper of a file that is there holds what was imported, and then an edit too.
+fn is_edited(rt: &HostRuntime, path: &str) -> bool {
+    kept_in(rt, path, OPENS, Step::Edit) == [Ok(BEGUN), Ok(EDITED)]
 }
 
 /// A file that is opened again holds what was kept. A file that cannot be made is refused.
 #[test]
 fn a_file_is_opened_again(rt: HostRuntime) -> Result<(), Fail> {
     let path = "kept.db";
-    let refused = Err(KeeperFault::Failed);
-    assert!(rt; kept_at(&rt, path, &BEGIN) == [Ok(NOTHING), Ok(BEGUN)]);
-    assert!(rt; kept_there(&rt, path, &EDIT) == [Ok(BEGUN), Ok(EDITED)]);
+    assert!(rt; is_begun(&rt, path));
+    assert!(rt; is_edited(&rt, path));
     fs::remove_file(&rt, path)?;
     fs::remove_file(&rt, "kept.db-wal")?;
-    assert!(rt; kept_at(&rt, "no folder/kept.db", &BEGIN) == [refused, refused]);
+    assert!(rt; is_refused(&rt, "no folder/kept.db", MAKES, Step::Begin));
     Ok(())
 }
 
@@ -243,8 +275,7 @@ fn a_file_is_opened_again(rt: HostRuntime) -> Result<(), Fail> {
 #[test]
 fn a_store_that_is_not_there_is_not_made(rt: HostRuntime) -> Result<(), Fail> {
     let path = "absent.db";
-    let refused = Err(KeeperFault::Failed);
-    assert!(rt; kept_there(&rt, path, &BEGIN) == [refused, refused]);
+    assert!(rt; is_refused(&rt, path, OPENS, Step::Begin));
     assert!(rt; !fs::exists(&rt, path)?);
     assert!(rt; !fs::exists(&rt, "absent.db-wal")?);
     Ok(())
@@ -253,15 +284,14 @@ fn a_store_that_is_not_there_is_not_made(rt: HostRuntime) -> Result<(), Fail> {
 /// A file without a store is refused: an empty one, into which SQLite writes its header, and one whose log was taken away.
 #[test]
 fn a_file_without_a_store_is_refused(rt: HostRuntime) -> Result<(), Fail> {
-    let refused = Err(KeeperFault::Failed);
     fs::write(&rt, "empty.db", "")?;
-    assert!(rt; kept_at(&rt, "empty.db", &BEGIN) == [refused, refused]);
-    assert!(rt; kept_there(&rt, "empty.db", &BEGIN) == [refused, refused]);
+    assert!(rt; is_refused(&rt, "empty.db", MAKES, Step::Begin));
+    assert!(rt; is_refused(&rt, "empty.db", OPENS, Step::Begin));
     fs::remove_file(&rt, "empty.db")?;
-    assert!(rt; kept_at(&rt, "cut.db", &BEGIN) == [Ok(NOTHING), Ok(BEGUN)]);
+    assert!(rt; is_begun(&rt, "cut.db"));
     fs::remove_file(&rt, "cut.db-wal")?;
-    assert!(rt; kept_there(&rt, "cut.db", &EDIT) == [refused, refused]);
-    assert!(rt; kept_at(&rt, "cut.db", &EDIT) == [refused, refused]);
+    assert!(rt; is_refused(&rt, "cut.db", OPENS, Step::Edit));
+    assert!(rt; is_refused(&rt, "cut.db", MAKES, Step::Edit));
     fs::remove_file(&rt, "cut.db")?;
     Ok(())
 }
@@ -269,10 +299,9 @@ fn a_file_without_a_store_is_refused(rt: HostRuntime) -> Result<(), Fail> {
 /// A log whose file was taken away is no new store either.
 #[test]
 fn a_log_without_its_file_is_refused(rt: HostRuntime) -> Result<(), Fail> {
-    let refused = Err(KeeperFault::Failed);
-    assert!(rt; kept_at(&rt, "left.db", &BEGIN) == [Ok(NOTHING), Ok(BEGUN)]);
+    assert!(rt; is_begun(&rt, "left.db"));
     fs::remove_file(&rt, "left.db")?;
-    assert!(rt; kept_at(&rt, "left.db", &EDIT) == [refused, refused]);
+    assert!(rt; is_refused(&rt, "left.db", MAKES, Step::Edit));
     assert!(rt; !fs::exists(&rt, "left.db")?);
     fs::remove_file(&rt, "left.db-wal")?;
     Ok(())
@@ -282,15 +311,15 @@ fn a_log_without_its_file_is_refused(rt: HostRuntime) -> Result<(), Fail> {
 #[test]
 fn a_database_of_other_tables_is_refused(rt: HostRuntime) -> Result<(), Fail> {
     let path = "other.db";
-    let refused = Err(KeeperFault::Failed);
-    let mut conn = Connection::open(&rt, path)?;
-    conn.execute_batch("CREATE TABLE note (id INTEGER PRIMARY KEY, title TEXT)")?;
-    drop(conn);
-    assert!(rt; kept_at(&rt, path, &BEGIN) == [refused, refused]);
-    let mut conn = Connection::open(&rt, path)?;
-    let made = conn.execute("SELECT body FROM cell_row", &[]);
-    drop(conn);
-    assert!(rt; made.is_err());
+    let made = is_done_in(
+        &rt,
+        path,
+        "CREATE TABLE note (id INTEGER PRIMARY KEY, title TEXT)",
+    );
+    assert!(rt; made == Some(true));
+    assert!(rt; is_refused(&rt, path, MAKES, Step::Begin));
+    let made = is_done_in(&rt, path, "SELECT body FROM cell_row");
+    assert!(rt; made == Some(false));
     for file in [path, "other.db-wal"] {
         let _gone = fs::remove_file(&rt, file);
     }

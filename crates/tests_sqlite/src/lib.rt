@@ -8,6 +8,8 @@ mod beginning;
 #[cfg(test)]
 mod crashes;
 #[cfg(test)]
+mod files;
+#[cfg(test)]
 mod keeping;
 #[cfg(test)]
 mod written;
