@@ -8,16 +8,20 @@ use Rattle.std.specs.declared.alloc.Global.{Global}
 use Rattle.std.proofs.lemmas.List.Elements.{All-weaker}
 use Rattle.content_state.specs.State.{State}
 use Rattle.content_state.specs.declared.ask.Ask.{Ask}
+use Rattle.content_state.specs.declared.ask.Viewer.{Viewer}
 use Rattle.content_state.specs.Ask.{IsAsk, path_of, query_of}
+use Rattle.content_state.specs.Viewer.{nobody}
+use Rattle.element_entries.specs.declared.standing.Standing.{Standing}
+use Rattle.element_entries.specs.Standing.{IsStandingOf}
 use Rattle.http_heads.specs.Reply.{reply_text}
 use Rattle.kept_pages.specs.Lasting.{Lasts}
 use Rattle.kept_pages.proofs.Entries.{seen_on, one_of_number}
 use Rattle.site_house.specs.House.{HouseView, Moves}
 use Rattle.site_house.specs.Bins.{IsSeenIn}
 use Rattle.site_http.specs.declared.desk.Desk.{Desk}
-use Rattle.site_http.specs.declared.known.KnownRequest.{KnownRequest}
+use Rattle.site_http.specs.declared.recent.Nobody.{Nobody}
 use Rattle.site_http.specs.declared.recent.RecentReply.{RecentReply}
-use Rattle.site_http.specs.Recent.{page_bytes, IsReplyUntil, Fits, IsRecent, AreRecent}
+use Rattle.site_http.specs.Recent.{page_bytes, IsReplyUntil, Fits, IsRecent, IsOfNobody, Remembered, AreRecent}
 use Rattle.site_late.specs.Heads.{media_of}
 use Rattle.site_http.specs.Reply.{IsPageReply, page_head}
 
@@ -40,12 +44,33 @@ place_on : {old new : HouseView} → Moves old new → (place : Option (Arc Rece
 place_on moves None is = tt
 place_on moves (Some reply) is = recent_on moves (arc_value reply) is
 
-pub recent_stay : {old new : HouseView} (recent : List (Option (Arc RecentReply Global)) × Option (Arc KnownRequest Global)) → Moves old new → AreRecent old recent → AreRecent new recent
+nobody_on : {old new : HouseView} → Moves old new → (o : Option Nobody) → IfSome o (IsOfNobody old) → IfSome o (IsOfNobody new)
+nobody_on moves None is = tt
+nobody_on {old} {new} moves (Some n) is = record {
+  state = is.state;
+  seen = seen_on old new is.state moves is.seen;
+  number_is = is.number_is;
+  stands = is.stands;
+}
+
+pub recent_stay : {old new : HouseView} (recent : Remembered) → Moves old new → AreRecent old recent → AreRecent new recent
 recent_stay {old} {new} recent moves are = (
   All-weaker (λ place. IfSome place (λ reply. IsRecent old (arc_value reply))) (λ place. IfSome place (λ reply. IsRecent new (arc_value reply)))
       (λ place is. place_on moves place is) recent.0 are.0,
   are.1,
+  nobody_on moves recent.2 are.2,
 )
+
+-- ---- nobody
+
+-- the state of the number is the one that nobody was met on
+pub stands_there : (house : HouseView) (n : Nobody) (state : State) → IsOfNobody house n → IsSeenIn house state → state.number ≡ n.number → IsStandingOf state nobody n.standing
+stands_there house n state is seen number =
+    subst (λ (s : State). IsStandingOf s nobody n.standing) (one_of_number house.base house.seen is.state state is.seen seen (is.number_is ∙ sym number)) is.stands
+
+-- nobody who stands there stands there as the viewer of its account
+pub stands_own : (state : State) (standing : Standing) → IsStandingOf state nobody standing → IsStandingOf state standing.account.viewer standing
+stands_own state standing stands = subst (λ (w : Viewer). IsStandingOf state w standing) (sym stands.account.viewer_is) stands
 
 -- ---- what is said again
 
@@ -56,7 +81,7 @@ said_again house reply state ask moment is seen right fits =
     subst (λ (s : State). IsPageReply s ask moment false (page_bytes reply.page) 0 []) same
     (is.again ask moment right (subst (λ (n : ℕ). Fits reply n ask moment) (ap (λ (s : State). s.number) (sym same)) fits))
 
-pub again_of : (found : Option (Arc RecentReply Global)) (places : List (Option (Arc RecentReply Global)) × Option (Arc KnownRequest Global)) (state : State) (ask : Ask) (moment : ℕ) → IsAsk ask → IfSome found (λ reply. Fits (arc_value reply) state.number ask moment) → IfSome found (λ reply. (house : HouseView) → AreRecent house places → IsRecent house (arc_value reply)) → IfSome found (λ reply. (house : HouseView) → AreRecent house places → IsSeenIn house state → IsPageReply state ask moment false (page_bytes (arc_value reply).page) 0 [])
+pub again_of : (found : Option (Arc RecentReply Global)) (places : Remembered) (state : State) (ask : Ask) (moment : ℕ) → IsAsk ask → IfSome found (λ reply. Fits (arc_value reply) state.number ask moment) → IfSome found (λ reply. (house : HouseView) → AreRecent house places → IsRecent house (arc_value reply)) → IfSome found (λ reply. (house : HouseView) → AreRecent house places → IsSeenIn house state → IsPageReply state ask moment false (page_bytes (arc_value reply).page) 0 [])
 again_of None places state ask moment right fits is = tt
 again_of (Some reply) places state ask moment right fits is = λ house are seen. said_again house (arc_value reply) state ask moment (is house are) seen right fits
 

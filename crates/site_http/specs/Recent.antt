@@ -7,8 +7,11 @@ use Rattle.std.specs.declared.alloc.Global.{Global}
 use Rattle.content_state.specs.State.{State}
 use Rattle.content_state.specs.declared.ask.Ask.{Ask}
 use Rattle.content_state.specs.Ask.{IsAsk}
+use Rattle.content_state.specs.Viewer.{nobody}
+use Rattle.element_entries.specs.Standing.{IsStandingOf}
 use Rattle.site_house.specs.House.{HouseView}
 use Rattle.site_house.specs.Bins.{IsSeenIn}
+use Rattle.site_http.specs.declared.recent.Nobody.{Nobody}
 use Rattle.site_http.specs.declared.recent.RecentReply.{RecentReply}
 use Rattle.site_http.specs.declared.recent.PageReply.{PageReply}
 use Rattle.site_http.specs.declared.recent.Given.{Given}
@@ -51,9 +54,20 @@ AreGiven house places = All (λ place. IfSome place (λ reply. IsRecent house (a
 abbrev pub IsKnownIfAny : Option (Arc KnownRequest Global) → Type 0
 IsKnownIfAny known = IfSome known (λ k. IsKnown (arc_value k))
 
--- what is remembered: replies at their places, and a request
-abbrev pub AreRecent : HouseView → List (Option (Arc RecentReply Global)) × Option (Arc KnownRequest Global) → Type 0
-AreRecent house recent = AreGiven house recent.0 × IsKnownIfAny recent.1
+-- So nobody stands on the state of the number, which the house has seen.
+pub record IsOfNobody (house : HouseView) (remembered : Nobody) : Type 0 where
+  pub state : State
+  pub seen : IsSeenIn house state
+  pub number_is : state.number ≡ remembered.number
+  pub stands : IsStandingOf state nobody remembered.standing
+
+-- what is remembered: replies at their places, a request, and nobody on one state
+abbrev pub Remembered : Type 0
+Remembered = List (Option (Arc RecentReply Global)) × Option (Arc KnownRequest Global) × Option Nobody
+
+-- each of it is so
+abbrev pub AreRecent : HouseView → Remembered → Type 0
+AreRecent house recent = AreGiven house recent.0 × IsKnownIfAny recent.1 × IfSome recent.2 (IsOfNobody house)
 
 -- the bytes of a reply that is given
 abbrev pub given_bytes : Given → List ℕ

@@ -31,7 +31,7 @@ use Rattle.std.specs.declared.alloc.Global.{Global}
 use Rattle.site_http.specs.declared.known.KnownRequest.{KnownRequest}
 use Rattle.site_http.specs.declared.recent.RecentReply.{RecentReply}
 use Rattle.site_http.specs.Known.{Begins, IsKnown, IsPlain}
-use Rattle.site_http.specs.Recent.{given_bytes, AreRecent}
+use Rattle.site_http.specs.Recent.{given_bytes, Remembered, AreRecent}
 use Rattle.site_http.specs.Reply.{Story, IsAnswer, IsLate, IsText, broken_at, listed, refusal_text}
 use Rattle.site_late.specs.Sending.{and_points}
 use Rattle.site_http.specs.Connection.{Out, Around, Gave, raised, saying, cut_at, closes_after, CountsReads, CountsWrites}
@@ -103,7 +103,7 @@ Decided (Some (next.End n)) buffer buffer-after = ⊥
 Decided (Some (next.Trouble t)) buffer buffer-after = t ≡ OutOfMemory
 
 -- a known request is one of what is remembered
-abbrev pub KnowsBy : List (Option (Arc RecentReply Global)) × Option (Arc KnownRequest Global) → Next → Type 0
+abbrev pub KnowsBy : Remembered → Next → Type 0
 KnowsBy recent (next.Known k) = (house : HouseView) → AreRecent house recent → IsKnown (arc_value k)
 KnowsBy recent (next.Request r bytes) = Unit {0}
 KnowsBy recent (next.Refused code) = Unit {0}

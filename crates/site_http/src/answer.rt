@@ -162,7 +162,7 @@ fn read<H: House, G: Gate>(
             built: 0,
         });
     }
-    let reply = reply_on(alloc, house, state, reading, ask, now, closing)?;
+    let reply = reply_on(alloc, house, recent, state, reading, ask, now, closing)?;
     let given = recent.given(alloc, ask, state.number(), now, reply.given, reply.last);
     Ok(Said {
         given,

@@ -2,7 +2,9 @@
 ghost use Rattle.std.specs.Prelude.{◌≡◌, ◌<◌, ◌↔◌, IfOk, IfSome, IsTrue};
 ghost use Rattle.std.specs.Arc.{arc_value};
 ghost use Rattle.content_state.specs.Ask.{IsAsk};
-ghost use Rattle.content_state.specs.State.{State};
+ghost use Rattle.content_state.specs.State.{State as StateView};
+ghost use Rattle.content_state.specs.Viewer.{nobody};
+ghost use Rattle.element_entries.specs.Standing.{IsStandingOf};
 ghost use Rattle.site_house.specs.House.{HouseView};
 ghost use Rattle.site_house.specs.Bins.{IsSeenIn};
 ghost use Rattle.http_heads.specs.declared.request.Request.{Request};
@@ -12,7 +14,8 @@ ghost use Rattle.site_http.specs.Recent.{given_bytes, page_bytes, Fits, IsRecent
 use crate::call::Asked;
 use crate::known::KnownRequest;
 use content_rows::{Duplicate, Text};
-use content_state::Ask;
+use content_state::{Ask, State, Viewer};
+use element_entries::Standing;
 use renderer::Parts;
 use std::alloc::{AllocError, Global};
 use std::marker::Model;
@@ -77,11 +80,20 @@ fn place_of(target: &[u8]) -> usize
     (hash % PLACES as u64) as usize
 }
 
+/// Nobody, as it stands on the state of a number.
+#[derive(Drop)]
+pub struct Nobody {
+    pub number: u64,
+    pub standing: Standing,
+}
+
 /// The replies that a worker gave not long ago and may give again, each at the place of its target, where a later one takes its
-/// place, and a request that came not long ago. Contracts see the list of these places, and the request.
+/// place, a request that came not long ago, and nobody, as it stands on the state that it asked last. Contracts see the list of these
+/// places, the request, and nobody.
 pub struct RecentReplies {
     places: Vec<Option<Arc<RecentReply>>>,
     known: Option<Arc<KnownRequest>>,
+    nobody: Option<Nobody>,
 }
 
 impl Drop for RecentReplies {
@@ -89,6 +101,7 @@ impl Drop for RecentReplies {
         let RecentReplies {
             places: _,
             known: _,
+            nobody: _,
         } = self;
     }
 }
@@ -98,15 +111,16 @@ impl Model for RecentReplies {
     ghost use Rattle.std.specs.declared.sync.Arc.{Arc};
     ghost use Rattle.std.specs.declared.alloc.Global.{Global};
     ghost use Rattle.site_http.specs.declared.known.KnownRequest.{KnownRequest};
+    ghost use Rattle.site_http.specs.declared.recent.Nobody.{Nobody};
     ghost use Rattle.site_http.specs.declared.recent.RecentReply.{RecentReply};
     ghost use Rattle.serde_json.specs.contracts.value.Value as e;
     ghost use Rattle.std.specs.Coded.{codes};
 
-    ghost Value = { List (Option (Arc RecentReply Global)) × Option (Arc KnownRequest Global) };
+    ghost Value = { List (Option (Arc RecentReply Global)) × Option (Arc KnownRequest Global) × Option Nobody };
 
     ghost coded = { Prim.hlevel (codes, e.the_row.coded) };
 
-    ghost view = { λ r. (r.places.items, r.known) };
+    ghost view = { λ r. (r.places.items, r.known, r.nobody) };
 }
 
 impl RecentReplies {
@@ -121,7 +135,37 @@ impl RecentReplies {
         Ok(RecentReplies {
             places,
             known: None,
+            nobody: None,
         })
+    }
+
+    /// Meets nobody on a state, unless it is remembered there. Something that is asked for is named. `Err` only where memory is wanting.
+    pub fn meet(&mut self, alloc: Global, state: &State, ask: &Ask) -> Result<(), AllocError>
+        ensures { (house : HouseView) → IsSeenIn house state.now → AreRecent house self.old → AreRecent house self.new }
+    {
+        if self.nobody(state.number()).is_some() {
+            return Ok(());
+        }
+        let viewer = Viewer {
+            uid: 0,
+            session: None,
+        };
+        let standing = Standing::new(alloc, state, &viewer, ask)?;
+        self.nobody = Some(Nobody {
+            number: state.number(),
+            standing,
+        });
+        Ok(())
+    }
+
+    /// Nobody, as it stands on the state of a number, where it is remembered there.
+    pub fn nobody(&self, number: u64) -> Option<&Standing>
+        ensures { IfSome result (λ standing. (house : HouseView) → (state : StateView) → AreRecent house self.now → IsSeenIn house state → state.number ≡ number → IsStandingOf state nobody standing.now) }
+    {
+        match &self.nobody {
+            Some(nobody) if nobody.number == number => Some(&nobody.standing),
+            _ => None,
+        }
     }
 
     /// The request that bytes begin with, where it is the known one.
@@ -190,7 +234,7 @@ impl RecentReplies {
         last: Option<u64>,
     ) -> Given
         ensures text { given_bytes result ≡ given_bytes given }
-        ensures recent { (house : HouseView) → (state : State) → IsSeenIn house state → state.number ≡ number → IsAsk ask.now → IfSome last (λ l. IsReplyUntil state ask.now now l (given_bytes given)) → AreRecent house self.old → AreRecent house self.new }
+        ensures recent { (house : HouseView) → (state : StateView) → IsSeenIn house state → state.number ≡ number → IsAsk ask.now → IfSome last (λ l. IsReplyUntil state ask.now now l (given_bytes given)) → AreRecent house self.old → AreRecent house self.new }
     {
         let Some(until) = last else {
             return given;
@@ -213,7 +257,7 @@ impl RecentReplies {
         page: PageReply,
     ) -> Given
         ensures text { given_bytes result ≡ page_bytes page }
-        ensures recent { (house : HouseView) → (state : State) → IsSeenIn house state → state.number ≡ number → IsAsk ask.now → IsReplyUntil state ask.now now until (page_bytes page) → AreRecent house self.old → AreRecent house self.new }
+        ensures recent { (house : HouseView) → (state : StateView) → IsSeenIn house state → state.number ≡ number → IsAsk ask.now → IsReplyUntil state ask.now now until (page_bytes page) → AreRecent house self.old → AreRecent house self.new }
     {
         let Ok(target) = ask.target.duplicate(alloc) else {
             return Given::Page(page);

@@ -6,11 +6,11 @@ ghost use Rattle.site_house.specs.Bins.{IsSeenIn};
 ghost use Rattle.site_http.specs.Kept.{Needing};
 ghost use Rattle.site_late.specs.Heads.{media_of};
 ghost use Rattle.site_http.specs.Reply.{page_head, method_body, method_text, IsPageReply, Says};
-ghost use Rattle.site_http.specs.Recent.{given_bytes, IsReplyUntil};
+ghost use Rattle.site_http.specs.Recent.{given_bytes, AreRecent, IsReplyUntil};
 ghost use Rattle.http_heads.specs.Reply.{reply_text, is_reply_status};
 
 use crate::call::Reading;
-use crate::recent::{Given, PageReply};
+use crate::recent::{Given, PageReply, RecentReplies};
 use crate::shown::shown_page;
 use content_state::{Ask, State};
 use edit_replies::{bad_json_text, media_text};
@@ -47,12 +47,11 @@ pub struct Reply {
 }
 
 /// Until when the reply of a page may be given again that may be shown until a last moment: where no cookie was sent, the
-/// connection goes on, and the page isn't long and was found. One that was built lies in many pieces; what is kept of it lies in
-/// few, and is found next time.
-fn until(ask: &Ask, closing: bool, page: &Page) -> Option<u64>
+/// connection goes on, the page isn't long, and it may be shown later than now.
+fn until(ask: &Ask, closing: bool, page: &Page, now: u64) -> Option<u64>
     ensures { IfSome result (λ last. (last ≡ page.now.last) × (closing ≡ false) × (ask.now.cookie ≡ None)) }
 {
-    if closing || ask.cookie.is_some() || page.length > LONGEST || page.built > 0 {
+    if closing || ask.cookie.is_some() || page.length > LONGEST || page.last <= now {
         None
     } else {
         Some(page.last)
@@ -63,6 +62,7 @@ fn until(ask: &Ask, closing: bool, page: &Page) -> Option<u64>
 fn page_reply<H: House>(
     alloc: Global,
     house: &mut H,
+    recent: &mut RecentReplies,
     state: &State,
     ask: &Ask,
     now: u64,
@@ -70,12 +70,14 @@ fn page_reply<H: House>(
 ) -> Result<Reply, AllocError>
     requires seen { IsSeenIn (H.sees house.old) state.now }
     requires right { IsAsk ask.now }
+    requires recent { AreRecent (H.sees house.old) recent.old }
     ensures moves { Moves (H.sees house.old) (H.sees house.new) }
     ensures stays { Stays (H.sees house.old) (H.sees house.new) }
     ensures says { IfOk result (λ r. Needing (H.sees house.old) (H.sees house.new) (λ needs. IsPageReply state.now ask.now now closing (given_bytes r.given) r.built needs)) }
     ensures again { IfOk result (λ r. IfSome r.last (λ last. IsReplyUntil state.now ask.now now last (given_bytes r.given))) }
+    ensures recent { AreRecent (H.sees house.new) recent.new }
 {
-    let page = shown_page(alloc, house, state, ask, now)?;
+    let page = shown_page(alloc, house, recent, state, ask, now)?;
     let head = ReplyHead {
         status: page.status,
         media: media_of(ask.path.as_slice()),
@@ -87,7 +89,7 @@ fn page_reply<H: House>(
         close: closing,
     };
     let head = head_of(alloc, &head)?;
-    let last = until(ask, closing, &page);
+    let last = until(ask, closing, &page, now);
     Ok(Reply {
         given: Given::Page(PageReply {
             head,
@@ -128,6 +130,7 @@ fn method_reply(alloc: Global, number: u64, closing: bool) -> Result<Reply, Allo
 pub fn reply_on<H: House>(
     alloc: Global,
     house: &mut H,
+    recent: &mut RecentReplies,
     state: &State,
     reading: Reading,
     ask: &Ask,
@@ -136,14 +139,16 @@ pub fn reply_on<H: House>(
 ) -> Result<Reply, AllocError>
     requires seen { IsSeenIn (H.sees house.old) state.now }
     requires right { IsAsk ask.now }
+    requires recent { AreRecent (H.sees house.old) recent.old }
     ensures moves { Moves (H.sees house.old) (H.sees house.new) }
     ensures stays { Stays (H.sees house.old) (H.sees house.new) }
     ensures says { IfOk result (λ r. Needing (H.sees house.old) (H.sees house.new) (λ needs. Says reading state.now ask.now now closing (given_bytes r.given) r.built needs)) }
     ensures again { IfOk result (λ r. IfSome r.last (λ last. IsReplyUntil state.now ask.now now last (given_bytes r.given))) }
+    ensures recent { AreRecent (H.sees house.new) recent.new }
 {
     match reading {
         Reading::Page => {
-            let reply = page_reply(alloc, house, state, ask, now, closing)?;
+            let reply = page_reply(alloc, house, recent, state, ask, now, closing)?;
             Ok(reply)
         }
         Reading::NoPairing => {

@@ -191,10 +191,14 @@ const NOWHERE: &str = "GET /node/9 HTTP/1.1\r\nHost: a\r\n\r\n";
 const EDIT: &str =
     "PATCH /node/1 HTTP/1.1\r\nHost: a\r\nCookie: SESS=abc\r\nX-CSRF-Token: ba7816bf8f01cfea414140de5dae2223\r\nContent-Type: application/json\r\nContent-Length: 21\r\n\r\n{\"title\":\"A\",\"vid\":1}";
 
+// Nobody may access content any more.
+const CLOSE: &str =
+    "POST /config/role/anonymous HTTP/1.1\r\nHost: a\r\nCookie: SESS=abc\r\nX-CSRF-Token: ba7816bf8f01cfea414140de5dae2223\r\nContent-Type: application/json\r\nContent-Length: 64\r\n\r\n{\"admin\":false,\"grants\":[],\"label\":\"Anonymous\",\"permissions\":[]}";
+
 const REBUILD: &str =
     "POST /cache/rebuild HTTP/1.1\r\nHost: a\r\nCookie: SESS=abc\r\nX-CSRF-Token: ba7816bf8f01cfea414140de5dae2223\r\n\r\n";
 
-const KEPT: [Case; 8] = [
+const KEPT: [Case; 9] = [
     // A page, for visitors, and for whom all is permitted.
     Case {
         placed: "",
@@ -234,6 +238,21 @@ const KEPT: [Case; 8] = [
         requests: &[PAGE, PAGE, REBUILD, PAGE, PAGE],
         built: Some([2, 0, 0, 2, 0, 0, 0, 0]),
         pieces: &[],
+    },
+    // What nobody may see is asked anew after an edit.
+    Case {
+        placed: "",
+        moments: &[1000],
+        requests: &[PAGE, BY_NOBODY, CLOSE, BY_NOBODY, PAGE, BY_ABC],
+        built: Some([2, 0, 0, 1, 0, 2, 0, 0]),
+        pieces: &[
+            "200 OK",
+            "200 OK",
+            "{\"ok\":true}",
+            "403 Forbidden",
+            "403 Forbidden",
+            "200 OK",
+        ],
     },
     // Nobody is greeted as somebody else.
     Case {
@@ -419,17 +438,17 @@ fn looks(rt: &HostRuntime, requests: &'static [&'static str]) -> Result<u64, All
     if answered { Ok(looks) } else { Err(AllocError) }
 }
 
-// A page is built, then found by one look, and then its reply is given again without any, but to whoever sends a cookie.
+// A page is built, and then its reply is given again without a look, but to whoever sends a cookie: for that it is found by one.
 #[test]
 fn a_reply_is_given_again(rt: HostRuntime) {
     let once = looks(&rt, &[PAGE]).expect(&rt, "memory");
     let twice = looks(&rt, &[PAGE, PAGE]).expect(&rt, "memory");
-    let thrice = looks(&rt, &[PAGE, PAGE, PAGE]).expect(&rt, "memory");
     let by_nobody = looks(&rt, &[PAGE, PAGE, BY_NOBODY]).expect(&rt, "memory");
+    let nobody_again = looks(&rt, &[PAGE, BY_NOBODY, BY_NOBODY, PAGE]).expect(&rt, "memory");
     assert!(rt; once > 0);
-    assert!(rt; twice == once.saturating_add(1));
-    assert!(rt; thrice == twice);
-    assert!(rt; by_nobody == twice.saturating_add(1));
+    assert!(rt; twice == once);
+    assert!(rt; by_nobody == once.saturating_add(1));
+    assert!(rt; nobody_again == once.saturating_add(2));
 }
 
 // How many pages are rendered over a house before anybody asks for them, and how many elements are built for each reply to these

@@ -1,6 +1,6 @@
 use Rattle.std.proofs.Common.{◌∙◌, [], sym}
 use Rattle.kept_pages.proofs.Entries.{seen_on}
-use Rattle.site_house.proofs.Moving.{moves_same, moves_on}
+use Rattle.site_house.proofs.Moving.{moves_same}
 use Rattle.site_late.proofs.Seen.{newest_seen}
 use Rattle.site_http.proofs.Made.{said_on, needed_on}
 use Rattle.site_http.specs.Kept.{shelves_of}
@@ -29,9 +29,6 @@ returns-in-Some-clause-says g c =
 pub returns-in-Some-clause-recent : goal.returns-in-Some-clause-recent
 returns-in-Some-clause-recent g c = recent_stay c.args.recent.now c.in_ok-newest.ensures.moves c.requires.recent
 
-pub returns-in_err-reply-clause-recent : goal.returns-in_err-reply-clause-recent
-returns-in_err-reply-clause-recent g c = recent_stay c.args.recent.now (moves_on c.in_ok-newest.ensures.moves c.reply_on.ensures.moves) c.requires.recent
-
 pub returns-clause-says : goal.returns-clause-says
 returns-clause-says g c =
     let old = g.H.House.sees c.args.house.now in
@@ -53,7 +50,10 @@ returns-clause-recent g c =
     c.given-given.ensures.recent (g.H.House.sees c.reply_on.new.house) c.deref-state.result.now
     (seen_on house (g.H.House.sees c.reply_on.new.house) c.deref-state.result.now c.reply_on.ensures.moves (newest_seen house c.deref-state.result.now is c.in_ok-newest.ensures.valid))
     (sym c.number.ensures) c.requires.right c.in_ok-reply.ensures.again
-    (recent_stay c.args.recent.now (moves_on c.in_ok-newest.ensures.moves c.reply_on.ensures.moves) c.requires.recent)
+    c.reply_on.ensures.recent
 
 pub returns-in_err-newest-clause-recent : goal.returns-in_err-newest-clause-recent
 returns-in_err-newest-clause-recent g c = recent_stay c.args.recent.now c.in_err-newest.ensures.moves c.requires.recent
+
+pub reply_on-requires-clause-recent : goal.reply_on-requires-clause-recent
+reply_on-requires-clause-recent g c = recent_stay c.args.recent.now c.in_ok-newest.ensures.moves c.requires.recent

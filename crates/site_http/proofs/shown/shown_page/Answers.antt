@@ -31,6 +31,6 @@ returns-clause-built_for g c =
         counted = told.counted 0 refl ∙ ap (λ (n : ℕ). min n 18446744073709551615) none;
         told = refl;
       };
-      kept = subst (λ (v : Viewer). KeepsFor (need v ∷ []) (shelves_of (g.H.House.sees c.args.house.now)) (shelves_of (g.H.House.sees c.render_page.new.house))) c.viewer_of-viewer.ensures
+      kept = subst (λ (v : Viewer). KeepsFor (need v ∷ []) (shelves_of (g.H.House.sees c.args.house.now)) (shelves_of (g.H.House.sees c.page_for.new.house))) c.viewer_of-viewer.ensures
           (keeps_page (reader c.viewer_of-viewer.result) told.tree c.in_ok-page.ensures.moves told.goes);
     }
