@@ -76,7 +76,7 @@ fn is_shared<R: Wait>(rt: &R, alloc: Global) -> Result<bool, AllocError> {
         found: 1,
         kept: 1,
     };
-    Ok(before == Ok(false) && kept == Ok(()) && after == Ok(true) && tally == counted)
+    Ok(before == Ok(false) && kept.is_ok() && after == Ok(true) && tally == counted)
 }
 
 /// The first node, with a cookie that names nobody.

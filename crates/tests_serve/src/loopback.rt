@@ -75,11 +75,11 @@ fn exported<P: Place>(alloc: Global, place: &mut P, store: &str) -> Result<Memor
 fn has_new_title<P: Place>(alloc: Global, place: &mut P, store: &str) -> Result<bool, AllocError> {
     let rows = exported(alloc, place, store)?;
     let title = b"\"title\":\"A\"".as_slice();
-    Ok(
-        rows.bytes()
-            .windows(title.len())
-            .any(|piece| piece == title),
-    )
+    let has_title = rows
+        .bytes()
+        .windows(title.len())
+        .any(|piece| piece == title);
+    Ok(has_title)
 }
 
 // The words that ask to serve a store at an address, with so many workers and to so many connections.
