@@ -7,6 +7,8 @@ use site_jobs::{JobEnd, export_rows, import_rows};
 use std::alloc::{AllocError, Global};
 use std::io::{BufWriter, Read, Write};
 use std::net::{SocketAddr, TcpListener, TcpStream};
+use std::sync::Wait;
+use std::thread::Threads;
 use std::time::Duration;
 use std::{fs, io, thread};
 
@@ -226,39 +228,54 @@ fn ready<P: Place>(
 }
 
 // Does what the words ask for at the place, with the input and the output of the program. The status; none where memory is wanting.
-fn status(rt: &HostRuntime, words: &[String], place: &mut SystemPlace) -> Option<u8> {
+fn status<R: Threads + Wait + Sync>(
+    rt: &HostRuntime,
+    threads: &R,
+    words: &[String],
+    place: &mut SystemPlace,
+) -> Option<u8> {
     let writer = BufWriter::new(rt.alloc(), rt.stdout()).ok()?;
     let mut output = Writing::new(writer);
     let mut input = Reading::new(rt.stdin());
-    Some(run_system(rt, rt.alloc(), words, place, &mut input, &mut output))
+    Some(run_system(threads, rt.alloc(), words, place, &mut input, &mut output))
 }
 
 // Whether the clients of a trial are answered right, and serving to them ends well.
-fn is_served(
+fn is_served<R: Threads + Wait + Sync>(
     rt: &HostRuntime,
+    threads: &R,
     address: SocketAddr,
     words: &[String],
     place: &mut SystemPlace,
     trial: Trial,
 ) -> bool {
-    let serve = || status(rt, words, place);
-    let (right, status) = thread::join(rt, || is_answered_right(rt, address, trial), serve);
+    let serve = || status(rt, threads, words, place);
+    let (right, status) = thread::join(threads, || is_answered_right(rt, address, trial), serve);
     right && status == Some(0)
 }
 
 // Whether a trial ends well at a place: the clients are answered right, and the store, which is filled before, has the new title then.
-fn ends_well(rt: &HostRuntime, place: &mut SystemPlace, trial: Trial) -> Option<bool> {
+fn ends_well<R: Threads + Wait + Sync>(
+    rt: &HostRuntime,
+    threads: &R,
+    place: &mut SystemPlace,
+    trial: Trial,
+) -> Option<bool> {
     let address = free_address(rt).ok()?;
     let words = ready(rt.alloc(), address, place, trial)?;
-    let right = is_served(rt, address, words.as_slice(), place, trial);
+    let right = is_served(rt, threads, address, words.as_slice(), place, trial);
     let edited = has_new_title(rt.alloc(), place, trial.store).ok()?;
     Some(right && edited)
 }
 
 // Whether a trial ends well at a place of the system.
-fn ends_well_here(rt: HostRuntime, trial: Trial) -> Option<bool> {
+fn ends_well_here<R: Threads + Wait + Sync>(
+    rt: HostRuntime,
+    threads: &R,
+    trial: Trial,
+) -> Option<bool> {
     let mut place = SystemPlace::new(rt).ok()?;
-    let right = ends_well(&rt, &mut place, trial);
+    let right = ends_well(&rt, threads, &mut place, trial);
     drop(place);
     right
 }
@@ -271,7 +288,7 @@ fn one_connection_edits_a_store(rt: HostRuntime) {
         limit: "1",
         reads: false,
     };
-    let right = ends_well_here(rt, trial);
+    let right = ends_well_here(rt, &rt, trial);
     let _gone = fs::remove_file(&rt, STORE);
     let _gone = fs::remove_file(&rt, LOG);
     assert!(rt; right == Some(true));
@@ -287,7 +304,7 @@ fn one_socket_reads_what_it_wrote(rt: HostRuntime) {
         limit: "4",
         reads: true,
     };
-    let right = ends_well_here(rt, trial);
+    let right = ends_well_here(rt, &rt, trial);
     let _gone = fs::remove_file(&rt, OTHER_STORE);
     let _gone = fs::remove_file(&rt, OTHER_LOG);
     assert!(rt; right == Some(true));
