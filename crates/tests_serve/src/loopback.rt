@@ -7,8 +7,6 @@ use site_jobs::{JobEnd, export_rows, import_rows};
 use std::alloc::{AllocError, Global};
 use std::io::{BufWriter, Read, Write};
 use std::net::{SocketAddr, TcpListener, TcpStream};
-use std::sync::Wait;
-use std::thread::Threads;
 use std::time::Duration;
 use std::{fs, io, thread};
 
@@ -50,7 +48,7 @@ const OTHER_STORE: &str = "asked.db";
 const OTHER_LOG: &str = "asked.db-wal";
 
 // Whether the store of this name is filled with the rows of a new site and a session.
-fn is_filled<P: Place>(alloc: Global, place: &mut P, store: &str) -> Result<bool, AllocError> {
+fn is_filled(alloc: Global, place: &mut SystemPlace, store: &str) -> Result<bool, AllocError> {
     let mut rows = Vec::from_slice(alloc, STARTER)?;
     rows.extend_from_slice(SESSION)?;
     let mut source = MemorySource::new(rows, 4_096);
@@ -64,24 +62,13 @@ fn is_filled<P: Place>(alloc: Global, place: &mut P, store: &str) -> Result<bool
 }
 
 // The rows that the store holds.
-fn exported<P: Place>(alloc: Global, place: &mut P, store: &str) -> Result<MemorySink, AllocError> {
+fn exported(alloc: Global, place: &mut SystemPlace) -> Result<MemorySink, AllocError> {
     let mut sink = MemorySink::new(alloc, 10_000)?;
-    if let Ok(mut keeper) = place.keeper(store) {
+    if let Ok(mut keeper) = place.keeper(STORE) {
         let _end = export_rows(alloc, &mut keeper, &mut sink);
         place.keeper_back(keeper);
     }
     Ok(sink)
-}
-
-// Whether the store has the new title.
-fn has_new_title<P: Place>(alloc: Global, place: &mut P, store: &str) -> Result<bool, AllocError> {
-    let rows = exported(alloc, place, store)?;
-    let title = b"\"title\":\"A\"".as_slice();
-    let has_title = rows
-        .bytes()
-        .windows(title.len())
-        .any(|piece| piece == title);
-    Ok(has_title)
 }
 
 // The words that ask to serve a store at an address, with so many workers and to so many connections.
@@ -125,15 +112,55 @@ fn edited(rt: &HostRuntime, address: SocketAddr) -> io::Result<Vec<u8>> {
     Ok(reply)
 }
 
-// Whether that is the reply that is wanted.
-fn is_edited(rt: &HostRuntime, address: SocketAddr) -> io::Result<bool> {
-    let reply = edited(rt, address)?;
-    Ok(reply.as_slice() == REPLY)
-}
-
 // An address on loopback at which nobody listens.
 fn free_address(rt: &HostRuntime) -> io::Result<SocketAddr> {
     TcpListener::bind(rt, "127.0.0.1:0")?.local_addr()
+}
+
+// The words that serve a store at an address, once the store at the place is filled; none where it can't be filled.
+fn ready(
+    rt: &HostRuntime,
+    address: SocketAddr,
+    place: &mut SystemPlace,
+    store: &str,
+    workers: &str,
+    limit: &str,
+) -> Result<Option<Vec<String>>, AllocError> {
+    let words = words(rt.alloc(), address, store, workers, limit)?;
+    let filled = is_filled(rt.alloc(), place, store)?;
+    Ok(if filled { Some(words) } else { None })
+}
+
+// Whether the reply is the one that is wanted, and the store has the new title.
+fn is_kept(alloc: Global, place: &mut SystemPlace, reply: &[u8]) -> Result<bool, AllocError> {
+    let rows = exported(alloc, place)?;
+    let title = b"\"title\":\"A\"".as_slice();
+    let has_title = rows
+        .bytes()
+        .windows(title.len())
+        .any(|piece| piece == title);
+    Ok(reply == REPLY && has_title)
+}
+
+#[test]
+fn one_connection_edits_a_store(rt: HostRuntime) {
+    let mut place = SystemPlace::new(rt).expect(&rt, "chance");
+    let address = free_address(&rt).expect(&rt, "an address");
+    let words = ready(&rt, address, &mut place, STORE, "4", "1").expect(&rt, "memory");
+    let words = words.expect(&rt, "a store");
+    let mut input = Reading::new(rt.stdin());
+    let writer = BufWriter::new(rt.alloc(), rt.stdout()).expect(&rt, "memory");
+    let mut output = Writing::new(writer);
+    let serve = || run_system(&rt, rt.alloc(), &words, &mut place, &mut input, &mut output);
+    let (reply, status) = thread::join(&rt, || edited(&rt, address), serve);
+    let kept = match reply {
+        Ok(reply) => is_kept(rt.alloc(), &mut place, &reply),
+        Err(_) => Ok(false),
+    };
+    drop(place);
+    let _gone = fs::remove_file(&rt, STORE);
+    let _gone = fs::remove_file(&rt, LOG);
+    assert!(rt; status == 0 && kept == Ok(true));
 }
 
 // Whether a request on a socket has this reply.
@@ -190,122 +217,25 @@ fn all_asked(rt: &HostRuntime, address: SocketAddr) -> io::Result<bool> {
     good
 }
 
-// How a store is served, and to whom.
-#[derive(Clone, Copy)]
-struct Trial {
-    store: &'static str,
-    workers: &'static str,
-    limit: &'static str,
-    // Whether one socket reads the page before and after the edit. Else one alone makes the edit, beside a client that says nothing.
-    reads: bool,
-}
-
-// Whether the clients of a trial are answered right at an address.
-fn is_answered_right(rt: &HostRuntime, address: SocketAddr, trial: Trial) -> bool {
-    let right = if trial.reads {
-        all_asked(rt, address)
-    } else {
-        is_edited(rt, address)
-    };
-    match right {
-        Ok(right) => right,
-        Err(_) => false,
-    }
-}
-
-// The words that serve the store of a trial at an address, once it is filled; none where it can't be filled.
-fn ready<P: Place>(
-    alloc: Global,
-    address: SocketAddr,
-    place: &mut P,
-    trial: Trial,
-) -> Option<Vec<String>> {
-    let words = words(alloc, address, trial.store, trial.workers, trial.limit).ok()?;
-    match is_filled(alloc, place, trial.store) {
-        Ok(true) => Some(words),
-        Ok(false) | Err(_) => None,
-    }
-}
-
-// Does what the words ask for at the place, with the input and the output of the program. The status; none where memory is wanting.
-fn status<R: Threads + Wait + Sync>(
-    rt: &HostRuntime,
-    threads: &R,
-    words: &[String],
-    place: &mut SystemPlace,
-) -> Option<u8> {
-    let writer = BufWriter::new(rt.alloc(), rt.stdout()).ok()?;
-    let mut output = Writing::new(writer);
-    let mut input = Reading::new(rt.stdin());
-    Some(run_system(threads, rt.alloc(), words, place, &mut input, &mut output))
-}
-
-// Whether the clients of a trial are answered right, and serving to them ends well.
-fn is_served<R: Threads + Wait + Sync>(
-    rt: &HostRuntime,
-    threads: &R,
-    address: SocketAddr,
-    words: &[String],
-    place: &mut SystemPlace,
-    trial: Trial,
-) -> bool {
-    let serve = || status(rt, threads, words, place);
-    let (right, status) = thread::join(threads, || is_answered_right(rt, address, trial), serve);
-    right && status == Some(0)
-}
-
-// Whether a trial ends well at a place: the clients are answered right, and the store, which is filled before, has the new title then.
-fn ends_well<R: Threads + Wait + Sync>(
-    rt: &HostRuntime,
-    threads: &R,
-    place: &mut SystemPlace,
-    trial: Trial,
-) -> Option<bool> {
-    let address = free_address(rt).ok()?;
-    let words = ready(rt.alloc(), address, place, trial)?;
-    let right = is_served(rt, threads, address, words.as_slice(), place, trial);
-    let edited = has_new_title(rt.alloc(), place, trial.store).ok()?;
-    Some(right && edited)
-}
-
-// Whether a trial ends well at a place of the system.
-fn ends_well_here<R: Threads + Wait + Sync>(
-    rt: HostRuntime,
-    threads: &R,
-    trial: Trial,
-) -> Option<bool> {
-    let mut place = SystemPlace::new(rt).ok()?;
-    let right = ends_well(&rt, threads, &mut place, trial);
-    drop(place);
-    right
-}
-
-#[test]
-fn one_connection_edits_a_store(rt: HostRuntime) {
-    let trial = Trial {
-        store: STORE,
-        workers: "4",
-        limit: "1",
-        reads: false,
-    };
-    let right = ends_well_here(rt, &rt, trial);
-    let _gone = fs::remove_file(&rt, STORE);
-    let _gone = fs::remove_file(&rt, LOG);
-    assert!(rt; right == Some(true));
-}
-
 // Of two workers one makes the edits. Each takes leave for one connection ahead, so there is leave for one more than the socket asks
 // for: whichever worker has it waits for that one, and the other answers the socket to its end.
 #[test]
 fn one_socket_reads_what_it_wrote(rt: HostRuntime) {
-    let trial = Trial {
-        store: OTHER_STORE,
-        workers: "2",
-        limit: "4",
-        reads: true,
-    };
-    let right = ends_well_here(rt, &rt, trial);
+    let mut place = SystemPlace::new(rt).expect(&rt, "chance");
+    let address = free_address(&rt).expect(&rt, "an address");
+    let words = ready(&rt, address, &mut place, OTHER_STORE, "2", "4").expect(&rt, "memory");
+    let words = words.expect(&rt, "a store");
+    let mut input = Reading::new(rt.stdin());
+    let writer = BufWriter::new(rt.alloc(), rt.stdout()).expect(&rt, "memory");
+    let mut output = Writing::new(writer);
+    let serve = || run_system(&rt, rt.alloc(), &words, &mut place, &mut input, &mut output);
+    let (good, status) = thread::join(&rt, || all_asked(&rt, address), serve);
+    drop(place);
     let _gone = fs::remove_file(&rt, OTHER_STORE);
     let _gone = fs::remove_file(&rt, OTHER_LOG);
-    assert!(rt; right == Some(true));
+    let good = match good {
+        Ok(good) => good,
+        Err(_) => false,
+    };
+    assert!(rt; status == 0 && good);
 }
