@@ -1,5 +1,5 @@
 #!/usr/bin/env python3
-"""Draws the plots over data/*.csv: page-instructions.svg, proof-seconds.svg, beside-nginx.svg, beside-others.svg."""
+"""Draws the plots over data/*.csv: page-instructions.svg, page-functions.svg, proof-seconds.svg, beside-nginx.svg, beside-others.svg."""
 import csv
 import math
 import os
@@ -116,6 +116,7 @@ def beside_others(name, title):
 
 def main():
     steps("page-instructions", "Instructions of one page of a new site", [("built", "rendered", BLUE), ("found", "given before", GREEN)], [1_000, 3_000, 10_000, 30_000, 100_000, 300_000], "instructions")
+    steps("page-functions", "Instructions of the publisher's front page, without the program's end", [("built", "rendered", BLUE), ("found", "found in a bin", GREEN), ("again", "given again", COLOURS["amber"][1])], [1_000, 3_000, 10_000, 30_000, 100_000, 300_000, 1_000_000, 3_000_000], "instructions")
     steps("beside-nginx", "Processor time a request, nginx = 1", [("publisher", "an article (4,433 bytes)", BLUE), ("town", "the login page (4,105 bytes)", GREEN)], [0.5, 1, 2, 5, 10, 20, 40], "times nginx's")
     bars("proof-seconds", "Processor seconds of each crate")
     beside_others("beside-others", "An article and a listing, by site and by what one would take in its place")
