@@ -1,10 +1,12 @@
 //! A keeper over a database.
-ghost use Rattle.std.specs.Prelude.{◌≡◌, ◌≤◌, None, IfOk, IfErr, OnOk, OnErr, false};
+ghost use Rattle.std.specs.Prelude.{◌≡◌, ◌≤◌, None, IfOk, IfErr, IsErrOf, OnOk, OnErr, false};
 ghost use Rattle.indexed_rows.specs.Rows.{AreValidRows};
 ghost use Rattle.keeper_sqlite.specs.Telling.{Loads, TellsHead, Applies, BeginsOver, untold};
 ghost use Rattle.site_keeper.specs.Keeper.{IfTold, CountsFault, LeavesBatch, StaysSteadfast, and_batch};
 ghost use Rattle.sqlite.specs.Held.{state};
 ghost use Rattle.table_laws.specs.Moments.{IsOver, told};
+ghost use Rattle.tables_sqlite.specs.Faults.{IfShape};
+ghost use Rattle.tables_sqlite.specs.Refusals.{IsNotToBe};
 
 use crate::site::{apply_batch, load_site, number_of_site};
 use site_keeper::{Batch, Keeper, KeeperFault, Stored};
@@ -61,22 +63,26 @@ impl<S: Alter + Drop> SqliteKeeper<S> {
 }
 
 /// A keeper over a database that holds the two tables of a store, or nothing, where they are made. What they hold stays, and
-/// new ones stand for a site of which nothing is held (`begins`). It has not failed. It is refused as `tables_sqlite` refuses
-/// a store.
+/// new ones stand for a site of which nothing is held (`begins`). It has not failed. It is refused as `tables_sqlite::over`
+/// refuses a store, for the same causes (`shape`, `refused`).
 pub fn over<S: Alter + Drop>(
     _rt: &HostRuntime,
     conn: Connection<S>,
 ) -> Result<SqliteKeeper<S>, NoKeeper>
     ensures over { IfOk result (λ keeper. (keeper.1 ≡ 0) × (keeper.0.1 ≡ 0) × IsOver (state S.Store conn) (state S.Store keeper.0.0)) }
     ensures begins { IfOk result (λ keeper. BeginsOver (state S.Store conn) (told keeper.0.1 (state S.Store keeper.0.0))) }
+    ensures shape { IfErr result (λ e. IfShape e (state S.Store conn).now.schema) }
+    ensures refused { IsErrOf result NoKeeper.Refused → IsNotToBe S.Store conn }
 {
     let six = tables_sqlite::over(conn)?;
     Ok(SqliteKeeper { six, faults: 0 })
 }
 
-/// A keeper over the store in the file at a path. It has not failed. Where no file is there, or the file was refused, it is
-/// `Refused`; what else it holds is refused as `tables_sqlite` refuses it. No file is made; SQLite writes its header into an
-/// empty one before that is refused.
+/// A keeper over the store in the file at a path. It has not failed. No clause says what is found in a file, or why one is refused:
+/// the contracts of opening it don't.
+///
+/// The code answers `Refused` where no file is there or the file was refused, and `tables_sqlite::over_tables` tests what else it
+/// holds. No file is made; SQLite writes its header into an empty one before that is refused.
 pub fn open_keeper(rt: &HostRuntime, path: &str) -> Result<FileKeeper, NoKeeper>
     ensures { IfOk result (λ keeper. keeper.1 ≡ 0) }
 {
@@ -88,8 +94,9 @@ pub fn open_keeper(rt: &HostRuntime, path: &str) -> Result<FileKeeper, NoKeeper>
 }
 
 /// A keeper over the store in the file at a path, or over a new one where neither the file nor its log is there. It has not
-/// failed. A file whose log was taken away holds no store, and is refused: only a path at which nothing stands is that of a new
-/// one.
+/// failed. As for `open_keeper`, no clause says more.
+///
+/// A file whose log was taken away holds no store, and is refused: only a path at which nothing stands is that of a new one.
 pub fn open_or_make_keeper(rt: &HostRuntime, path: &str) -> Result<FileKeeper, NoKeeper>
     ensures { IfOk result (λ keeper. keeper.1 ≡ 0) }
 {

@@ -1,10 +1,9 @@
 //! Which tables a database has.
-ghost use Rattle.std.specs.Prelude.{◌≡◌, ◌↔◌, [], ◌∷◌, None, false, true, IsTrue, IfSome, is_some};
+ghost use Rattle.std.specs.Prelude.{◌≡◌, ◌↔◌, [], ◌∷◌, None, false, true, IsTrue, IfSome, IfNone};
 ghost use Rattle.sqlite.specs.Kind.{Kind};
 ghost use Rattle.sqlite.specs.declared.types.Value.TheVariants.{Null};
 ghost use Rattle.sqlite_schema.specs.declared.schema.Kind.TheVariants as kinds;
-ghost use Rattle.sqlite_schema.specs.Names.{table_named};
-ghost use Rattle.tables_sqlite.specs.Faults.{IsThere};
+ghost use Rattle.tables_sqlite.specs.Faults.{HasOther, IsMisshapen};
 ghost use Rattle.table_laws.specs.Schema.{column_of, pairs, index_of, no_tables, two_tables, cell_row, cachetags, by_cell, by_tag};
 
 use crate::fault::StoreTable;
@@ -32,7 +31,7 @@ fn is_null(value: &Value) -> bool
 
 /// Whether this is one place, the first column's.
 fn is_first(places: &Items<usize>) -> bool
-    ensures { IsTrue result → places.now ≡ 1 ∷ [] }
+    ensures { IsTrue result ↔ (places.now ≡ 1 ∷ []) }
 {
     match places.as_slice() {
         [place] => *place == 1,
@@ -42,7 +41,7 @@ fn is_first(places: &Items<usize>) -> bool
 
 /// Whether a column has this name and kind, in a table that isn't strict, and no default.
 fn is_column(column: &Column, name: &[u8], kind: Kind, not_null: bool) -> bool
-    ensures { IsTrue result → column.now ≡ column_of name.now kind not_null }
+    ensures { IsTrue result ↔ (column.now ≡ column_of name.now kind not_null) }
 {
     is_text(&column.name, name)
         && column.kind == kind
@@ -54,14 +53,14 @@ fn is_column(column: &Column, name: &[u8], kind: Kind, not_null: bool) -> bool
 
 /// Whether no default reads the time.
 fn is_unstamped(stamps: &Stamps) -> bool
-    ensures { IsTrue result → stamps.now ≡ record { places = []; terms = []; formats = [] } }
+    ensures { IsTrue result ↔ (stamps.now ≡ record { places = []; terms = []; formats = [] }) }
 {
     stamps.places.is_empty() && stamps.terms.roots.is_empty() && stamps.formats.is_empty()
 }
 
 /// Whether the first column alone is the key, in plain order.
 fn is_keyed(table: &Table) -> bool
-    ensures { IsTrue result → (table.now.key ≡ None) × (table.now.primary ≡ 1 ∷ []) × (table.now.uniques ≡ (1 ∷ []) ∷ []) × (table.now.orders ≡ (record { digits = 0 }) ∷ []) }
+    ensures { IsTrue result ↔ ((table.now.key ≡ None) × (table.now.primary ≡ 1 ∷ []) × (table.now.uniques ≡ (1 ∷ []) ∷ []) × (table.now.orders ≡ (record { digits = 0 }) ∷ [])) }
 {
     if table.key.is_some() || !is_first(&table.primary) {
         return false;
@@ -77,7 +76,7 @@ fn is_keyed(table: &Table) -> bool
 
 /// Whether a table has no rule beyond its columns'.
 fn is_free(table: &Table) -> bool
-    ensures { IsTrue result → (table.now.checks ≡ []) × (table.now.references ≡ []) × (table.now.computed ≡ []) × (table.now.stamps ≡ record { places = []; terms = []; formats = [] }) × (table.now.is_counted ≡ false) }
+    ensures { IsTrue result ↔ ((table.now.checks ≡ []) × (table.now.references ≡ []) × (table.now.computed ≡ []) × (table.now.stamps ≡ record { places = []; terms = []; formats = [] }) × (table.now.is_counted ≡ false)) }
 {
     table.checks.roots.is_empty()
         && table.references.is_empty()
@@ -88,7 +87,7 @@ fn is_free(table: &Table) -> bool
 
 /// Whether these are the two columns of a table of a store.
 fn are_columns(columns: &Items<Column>, key: &[u8], beside: &[u8], kind: Kind) -> bool
-    ensures { IsTrue result → columns.now ≡ column_of key.now kinds.Text false ∷ column_of beside.now kind true ∷ [] }
+    ensures { IsTrue result ↔ (columns.now ≡ column_of key.now kinds.Text false ∷ column_of beside.now kind true ∷ []) }
 {
     match columns.as_slice() {
         [first, second] => {
@@ -100,7 +99,7 @@ fn are_columns(columns: &Items<Column>, key: &[u8], beside: &[u8], kind: Kind) -
 
 /// Whether this is a table of a store, at a tree.
 fn is_pairs(table: &Table, tree: u32, name: &[u8], key: &[u8], beside: &[u8], kind: Kind) -> bool
-    ensures { IsTrue result → table.now ≡ record (pairs name.now key.now beside.now kind) { tree = tree } }
+    ensures { IsTrue result ↔ (table.now ≡ record (pairs name.now key.now beside.now kind) { tree = tree }) }
 {
     is_text(&table.name, name)
         && table.tree == tree
@@ -111,7 +110,7 @@ fn is_pairs(table: &Table, tree: u32, name: &[u8], key: &[u8], beside: &[u8], ki
 
 /// Whether this is the index that comes with the key of a table.
 fn is_index(index: &Index, name: &[u8], tree: u32, table: u32) -> bool
-    ensures { IsTrue result → index.now ≡ index_of name.now tree table }
+    ensures { IsTrue result ↔ (index.now ≡ index_of name.now tree table) }
 {
     is_text(&index.name, name)
         && index.tree == tree
@@ -123,21 +122,21 @@ fn is_index(index: &Index, name: &[u8], tree: u32, table: u32) -> bool
 
 /// Whether this is the table of cells.
 fn is_cells(table: &Table) -> bool
-    ensures { IsTrue result → table.now ≡ cell_row }
+    ensures { IsTrue result ↔ (table.now ≡ cell_row) }
 {
     is_pairs(table, 0, b"cell_row", b"cell", b"body", Kind::Text)
 }
 
 /// Whether this is the table of tags.
 fn is_tags(table: &Table) -> bool
-    ensures { IsTrue result → table.now ≡ record cachetags { tree = 2 } }
+    ensures { IsTrue result ↔ (table.now ≡ record cachetags { tree = 2 }) }
 {
     is_pairs(table, 2, b"cachetags", b"tag", b"invalidations", Kind::Any)
 }
 
 /// Whether these are the two tables of a store.
 fn are_tables(tables: &Items<Table>) -> bool
-    ensures { IsTrue result → tables.now ≡ two_tables.tables }
+    ensures { IsTrue result ↔ (tables.now ≡ two_tables.tables) }
 {
     match tables.as_slice() {
         [cells, tags] => is_cells(cells) && is_tags(tags),
@@ -147,21 +146,21 @@ fn are_tables(tables: &Items<Table>) -> bool
 
 /// Whether this is the index of the cells.
 fn is_by_cell(index: &Index) -> bool
-    ensures { IsTrue result → index.now ≡ by_cell }
+    ensures { IsTrue result ↔ (index.now ≡ by_cell) }
 {
     is_index(index, b"sqlite_autoindex_cell_row_1", 1, 0)
 }
 
 /// Whether this is the index of the tags.
 fn is_by_tag(index: &Index) -> bool
-    ensures { IsTrue result → index.now ≡ by_tag }
+    ensures { IsTrue result ↔ (index.now ≡ by_tag) }
 {
     is_index(index, b"sqlite_autoindex_cachetags_1", 3, 2)
 }
 
 /// Whether these are the indexes that come with the keys of the two tables.
 fn are_indexes(indexes: &Items<Index>) -> bool
-    ensures { IsTrue result → indexes.now ≡ by_cell ∷ by_tag ∷ [] }
+    ensures { IsTrue result ↔ (indexes.now ≡ by_cell ∷ by_tag ∷ []) }
 {
     match indexes.as_slice() {
         [first, second] => is_by_cell(first) && is_by_tag(second),
@@ -171,7 +170,7 @@ fn are_indexes(indexes: &Items<Index>) -> bool
 
 /// Whether a database has just the two tables of a store.
 pub(crate) fn is_store(schema: &Schema) -> bool
-    ensures { IsTrue result → schema.now ≡ two_tables }
+    ensures { IsTrue result ↔ (schema.now ≡ two_tables) }
 {
     if !are_tables(&schema.tables) || !are_indexes(&schema.indexes) {
         return false;
@@ -188,7 +187,7 @@ pub(crate) fn is_bare(schema: &Schema) -> bool
 
 /// Whether a database has a table of this name, with other columns than these.
 fn has_other(schema: &Schema, name: &[u8], key: &[u8], beside: &[u8], kind: Kind) -> bool
-    ensures { IsTrue result → IsTrue (is_some (table_named schema.now name.now)) }
+    ensures { IsTrue result ↔ HasOther (pairs name.now key.now beside.now kind) schema.now }
 {
     let Some(at) = schema.table_named(name) else {
         return false;
@@ -201,7 +200,8 @@ fn has_other(schema: &Schema, name: &[u8], key: &[u8], beside: &[u8], kind: Kind
 
 /// Which table has the name of one of a store, but other columns; none where there is none.
 pub(crate) fn misshapen(schema: &Schema) -> Option<StoreTable>
-    ensures { IfSome result (λ table. IsThere table schema.now) }
+    ensures some { IfSome result (λ table. IsMisshapen table schema.now) }
+    ensures none { IfNone result ((table : _) → ¬ (IsMisshapen table schema.now)) }
 {
     if has_other(schema, b"cell_row", b"cell", b"body", Kind::Text) {
         return Some(StoreTable::Cells);

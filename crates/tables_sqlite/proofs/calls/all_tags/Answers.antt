@@ -1,4 +1,4 @@
-use Rattle.std.proofs.Common.{List, ◌≡◌, map, option_map, refl, sym, ap, subst, ◌∙◌, arith}
+use Rattle.std.proofs.Common.{List, map, refl, sym, ap, subst, ◌∙◌, arith}
 use Rattle.sqlite.specs.Held.{state}
 use Rattle.sqlite.specs.Order.{Row}
 use Rattle.store_six.specs.Tables.{AreAll}
