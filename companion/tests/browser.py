@@ -13,6 +13,7 @@ import json
 import os
 import select
 import shutil
+import signal
 import subprocess
 import sys
 import tempfile
@@ -65,7 +66,10 @@ class Browser:
         self._from, ours = os.pipe()
         theirs, ours = above_others(theirs), above_others(ours)
         words = [sys.executable, "-c", AT_ITS_PIPES, str(theirs), str(ours), program, *WORDS, f"--user-data-dir={self._room}", "about:blank"]
-        self._process = subprocess.Popen(words, pass_fds=(theirs, ours), stdout=subprocess.DEVNULL, stderr=subprocess.DEVNULL)
+        self._process = subprocess.Popen(
+            words, pass_fds=(theirs, ours), stdout=subprocess.DEVNULL, stderr=subprocess.DEVNULL,
+            env={**os.environ, "TMPDIR": self._room}, start_new_session=True,
+        )  # fmt: skip
         os.close(theirs)
         os.close(ours)
         target = next(it for it in self._ask("Target.getTargets")["targetInfos"] if it["type"] == "page")
@@ -78,11 +82,16 @@ class Browser:
         with contextlib.suppress(OSError, Fault):
             self._session = None
             self._ask("Browser.close")
-        self._process.kill()
+        with contextlib.suppress(ProcessLookupError):
+            os.killpg(self._process.pid, signal.SIGKILL)  # its other processes write into the room as well
         self._process.wait()
         os.close(self._to)
         os.close(self._from)
-        shutil.rmtree(self._room, ignore_errors=True)  # a process of the browser may still write there
+        for _ in range(20):
+            shutil.rmtree(self._room, ignore_errors=True)
+            if not os.path.exists(self._room):
+                break
+            time.sleep(0.1)
 
     def _messages(self, end: float) -> Iterator[dict[str, Any]]:
         """What the browser says, until some moment."""
