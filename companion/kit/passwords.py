@@ -47,12 +47,20 @@ def from_file(name: str) -> str:
     return checked(lines[0] if lines else "")
 
 
+def typed(what: str) -> str:
+    """A line typed at the terminal, which doesn't show it."""
+    try:
+        return getpass.getpass(f"{what}: ")
+    except EOFError:
+        raise Trouble(f"{what}: nothing was typed") from None
+
+
 def ask(what: str, twice: bool = False) -> str:
-    """A password typed at the terminal, which doesn't show it."""
+    """A password typed at the terminal."""
     if not sys.stdin.isatty():
         raise Trouble(f"{what}: there is no terminal to ask at; give it in a file")
-    first = getpass.getpass(f"{what}: ")
-    if twice and getpass.getpass(f"{what}, again: ") != first:
+    first = typed(what)
+    if twice and typed(f"{what}, again") != first:
         raise Trouble("the two aren't the same")
     return checked(first)
 
