@@ -214,7 +214,9 @@ fn edited<H: House>(
     let Ok(command) = command_of(alloc, edit, body, words) else {
         return Made::Fixed(memory_text(closing));
     };
-    match house.commit(alloc, ask, sent_value(csrf), &command, now) {
+    let answer = house.commit(alloc, ask, sent_value(csrf), &command, now);
+    drop(command);
+    match answer {
         Answer::Done(done, number) => Made::Done(done, number, closing),
         Answer::Refused(refusal, number) => {
             match refused_text(alloc, &refusal, number, closing) {
