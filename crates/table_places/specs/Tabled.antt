@@ -12,7 +12,7 @@ use Rattle.site_places.specs.declared.place.NoDevice.TheVariants as why
 use Rattle.site_places.specs.Place.{Known, absent, there, PlaceView}
 use Rattle.sqlite.specs.Held.{Held, state}
 use Rattle.sqlite.specs.Store.{Ghosts}
-use Rattle.told_keeper.specs.Telling.{HoldsIfClean, Telling, telling_code}
+use Rattle.table_places.specs.Telling.{HoldsIfClean, Telling, telling_code}
 
 -- The other place; the path of the store, and what the database stood for when it was handed in; the keeper over it that is to
 -- be opened, and the one that was given back last; how often it failed to open a device, and how often a keeper was given back

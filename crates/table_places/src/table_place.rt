@@ -3,14 +3,14 @@ ghost use Rattle.std.specs.Prelude.{◌≡◌, None, Some, IfErr, IfOk, IfSome, 
 ghost use Rattle.std.specs.String.{string_bytes};
 ghost use Rattle.sqlite.specs.Held.{state};
 ghost use Rattle.table_places.specs.Tabled.{table_view, CountsDevice, IsListed, ReturnedHolds};
-ghost use Rattle.told_keeper.specs.Telling.{BeganOver};
+ghost use Rattle.table_places.specs.Telling.{BeganOver};
 
+use crate::keeper::{TellingKeeper, telling};
 use keeper_sqlite::NoKeeper;
 use site_keeper::{Keeper, Stored};
 use site_places::{NoDevice, Place};
 use sqlite::{Alter, Connection};
 use std::marker::Model;
-use told_keeper::{TellingKeeper, telling};
 
 /// A place whose store lies in a database, over another place for all else. It tells what the database stood for when it was
 /// handed in, and has no other store. The store is opened once.
@@ -44,7 +44,7 @@ impl<P: Place + Drop, S: Alter + Drop> TablePlace<P, S> {
     /// The place over another one, whose store of that path lies in this database. The two tables are made where the database
     /// holds nothing. Nothing has failed yet.
     ///
-    /// The database is refused as `told_keeper` refuses one.
+    /// The database is refused as `telling` refuses one.
     pub fn new(
         rt: &HostRuntime,
         place: P,

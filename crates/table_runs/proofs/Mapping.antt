@@ -20,7 +20,7 @@ use Rattle.serve_store.specs.declared.ending.ServeEnd.TheVariants as serve_end
 use Rattle.sqlite.specs.Held.{Held, state}
 use Rattle.sqlite.specs.Store.{Ghosts}
 use Rattle.table_places.specs.Tabled.{kept_of, store_of, ReturnedHolds, Tabled}
-use Rattle.told_keeper.specs.Telling.{HoldsIfClean, Telling}
+use Rattle.table_places.specs.Telling.{HoldsIfClean, Telling}
 use Rattle.table_runs.specs.Leaves.{ImportEnds, ImportLeaves, ImportsFront, ImportsWhole, IsUnopened, LeavesEdits, LeavesImport, MayLeave, ServeEnds, ServeLeaves, ServesFrom, StoreTells, TextEnds, Told}
 use Rattle.table_runs.specs.Tables.{Left}
 

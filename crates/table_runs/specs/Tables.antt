@@ -4,7 +4,7 @@ use Rattle.site_keeper.specs.declared.stored.Stored.{Stored}
 use Rattle.sqlite.specs.Held.{Held, state}
 use Rattle.sqlite.specs.Store.{Ghosts}
 use Rattle.table_places.specs.Tabled.{Tabled}
-use Rattle.told_keeper.specs.Telling.{HoldsIfClean, Telling}
+use Rattle.table_places.specs.Telling.{HoldsIfClean, Telling}
 
 -- a keeper was given back, and its database stands for this, also after a crash
 abbrev pub Left : {P S : Type 0} → Ghosts S → Tabled P (Held S) → Stored → Type 0

@@ -2,9 +2,9 @@ use Rattle.std.proofs.Common.{◌∙◌, ap, subst, sym}
 use Rattle.site_keeper.specs.Keeper.{held_of}
 use Rattle.sqlite.specs.Held.{Held, state}
 use Rattle.table_laws.specs.Stored.{tables_of}
-use Rattle.told_keeper.proofs.Standing.{holds_by}
-use Rattle.told_keeper.proofs.keeper.TellingKeeper.into_connection.Goals as goal
-use Rattle.told_keeper.specs.Telling.{StandsIfClean, Telling}
+use Rattle.table_places.proofs.Standing.{holds_by}
+use Rattle.table_places.proofs.keeper.TellingKeeper.into_connection.Goals as goal
+use Rattle.table_places.specs.Telling.{StandsIfClean, Telling}
 
 pub returns-clause-holds : goal.returns-clause-holds
 returns-clause-holds g c =

@@ -15,7 +15,7 @@ use Rattle.sqlite.specs.State.{State, HasCleanDisk}
 use Rattle.store_six.specs.Tables.{Tables}
 use Rattle.table_laws.specs.Moments.{may_leave, told}
 use Rattle.table_laws.specs.Stored.{tables_of}
-use Rattle.told_keeper.specs.Telling.{BeganOver, HoldsIfClean, IsTelling, StandsIfClean}
+use Rattle.table_places.specs.Telling.{BeganOver, HoldsIfClean, IsTelling, StandsIfClean}
 
 -- ---- as a keeper is made
 

@@ -2,9 +2,9 @@ use Rattle.std.proofs.Common.{subst, sym}
 use Rattle.indexed_rows.specs.Rows.{AreValidRows}
 use Rattle.site_keeper.specs.Keeper.{held_of, with_batch}
 use Rattle.sqlite.specs.Held.{state}
-use Rattle.told_keeper.proofs.Standing.{still_telling}
-use Rattle.told_keeper.proofs.keeper.TellingKeeperKeeper.apply.Goals as goal
-use Rattle.told_keeper.specs.Telling.{Telling}
+use Rattle.table_places.proofs.Standing.{still_telling}
+use Rattle.table_places.proofs.keeper.TellingKeeperKeeper.apply.Goals as goal
+use Rattle.table_places.specs.Telling.{Telling}
 
 pub invariant_of-self-in-Ok : goal.invariant_of-self-in-Ok
 invariant_of-self-in-Ok g c =

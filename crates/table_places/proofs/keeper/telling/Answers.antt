@@ -1,8 +1,8 @@
 use Rattle.std.proofs.Common.{subst, sym}
 use Rattle.sqlite.specs.Held.{state}
-use Rattle.told_keeper.proofs.Standing.{began_over}
-use Rattle.told_keeper.proofs.keeper.telling.Goals as goal
-use Rattle.told_keeper.specs.Telling.{BeganOver}
+use Rattle.table_places.proofs.Standing.{began_over}
+use Rattle.table_places.proofs.keeper.telling.Goals as goal
+use Rattle.table_places.specs.Telling.{BeganOver}
 
 pub returns-clause-began : goal.returns-clause-began
 returns-clause-began g c =

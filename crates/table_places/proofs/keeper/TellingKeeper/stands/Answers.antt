@@ -2,9 +2,9 @@ use Rattle.std.proofs.Common.{◌∙◌, ap, subst}
 use Rattle.site_keeper.specs.Keeper.{held_of}
 use Rattle.sqlite.specs.Held.{state}
 use Rattle.table_laws.specs.Stored.{tables_of}
-use Rattle.told_keeper.proofs.Standing.{holds_by}
-use Rattle.told_keeper.proofs.keeper.TellingKeeper.stands.Goals as goal
-use Rattle.told_keeper.specs.Telling.{StandsIfClean, Telling}
+use Rattle.table_places.proofs.Standing.{holds_by}
+use Rattle.table_places.proofs.keeper.TellingKeeper.stands.Goals as goal
+use Rattle.table_places.specs.Telling.{StandsIfClean, Telling}
 
 pub returns : goal.returns
 returns g c =

@@ -4,7 +4,7 @@ ghost use Rattle.indexed_rows.specs.Rows.{AreValidRows};
 ghost use Rattle.site_keeper.specs.Keeper.{held_of, with_batch, CountsFault, LeavesBatch, StaysSteadfast};
 ghost use Rattle.site_keeper.specs.Memory.{made_of, with_one};
 ghost use Rattle.sqlite.specs.Held.{state};
-ghost use Rattle.told_keeper.specs.Telling.{BeganOver, HoldsIfClean};
+ghost use Rattle.table_places.specs.Telling.{BeganOver, HoldsIfClean};
 
 use keeper_sqlite::{NoKeeper, SqliteKeeper, over};
 use site_keeper::{Batch, Keeper, KeeperFault, MemoryKeeper, Stored};
@@ -25,7 +25,7 @@ pub struct TellingKeeper<S: Alter + Drop> {
 
 impl<S: Alter + Drop> Model for TellingKeeper<S> {
     ghost use Rattle.sqlite.specs.Held.{Held, held_code, state};
-    ghost use Rattle.told_keeper.specs.Telling.{Telling, telling_code, IsTelling};
+    ghost use Rattle.table_places.specs.Telling.{Telling, telling_code, IsTelling};
 
     ghost Value = { Telling (Held S) };
 
