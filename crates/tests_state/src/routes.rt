@@ -7,6 +7,134 @@ use site_lists::{list_tags, query_value};
 use std::alloc::{AllocError, Global};
 use std::test::Fail;
 
+/// The front path of a site; a path on it; what it leads to, in a word, with its number; and the tags that cover that, as texts.
+type Lead = (
+    &'static str,
+    &'static str,
+    (&'static str, u32),
+    &'static [&'static str],
+);
+
+/// Paths to pages.
+const PATHS: [Lead; 16] = [
+    ("/node", "/node/1", ("node", 1), &["node:1"]),
+    ("/node", "/about", ("node", 1), &["node:1"]),
+    (
+        "/node",
+        "/taxonomy/term/3",
+        ("term", 3),
+        &["taxonomy_term:3"],
+    ),
+    ("/node", "/user/7", ("user", 7), &["user:7"]),
+    ("/node", "/user/login", ("login", 0), &[]),
+    ("/node", "/node/01", ("nothing", 0), &["4xx-response"]),
+    (
+        "/node",
+        "/node/4",
+        ("nothing", 0),
+        &["4xx-response", "node:4"],
+    ),
+    (
+        "/node",
+        "/taxonomy/term/4",
+        ("nothing", 0),
+        &["4xx-response", "taxonomy_term:4"],
+    ),
+    (
+        "/node",
+        "/user/8",
+        ("nothing", 0),
+        &["4xx-response", "user:8"],
+    ),
+    (
+        "/node",
+        "/taxonomy/term/03",
+        ("nothing", 0),
+        &["4xx-response"],
+    ),
+    ("/node", "/About", ("nothing", 0), &["4xx-response"]),
+    ("/node", "", ("nothing", 0), &["4xx-response"]),
+    (
+        "/about",
+        "/",
+        ("node", 1),
+        &["node:1", "config:system.site"],
+    ),
+    ("/user/login", "/", ("login", 0), &["config:system.site"]),
+    (
+        "/taxonomy/term/4",
+        "/",
+        ("nothing", 0),
+        &["4xx-response", "taxonomy_term:4", "config:system.site"],
+    ),
+    (
+        "/nowhere",
+        "/",
+        ("nothing", 0),
+        &["4xx-response", "config:system.site"],
+    ),
+];
+
+/// Paths below `/json/`, and front paths there.
+const PATHS_OF_JSON: [Lead; 16] = [
+    ("/node", "/json/node/1", ("node as JSON", 1), &["node:1"]),
+    (
+        "/node",
+        "/json/term/3",
+        ("term as JSON", 3),
+        &["taxonomy_term:3"],
+    ),
+    ("/node", "/json/user/7", ("user as JSON", 7), &["user:7"]),
+    (
+        "/node",
+        "/json/listing/frontpage",
+        ("listing as JSON", 0),
+        &["config:views.view.frontpage"],
+    ),
+    (
+        "/node",
+        "/json/node/4",
+        ("nothing", 0),
+        &["4xx-response", "node:4"],
+    ),
+    (
+        "/node",
+        "/json/term/4",
+        ("nothing", 0),
+        &["4xx-response", "taxonomy_term:4"],
+    ),
+    (
+        "/node",
+        "/json/user/8",
+        ("nothing", 0),
+        &["4xx-response", "user:8"],
+    ),
+    (
+        "/node",
+        "/json/listing/none",
+        ("nothing", 0),
+        &["4xx-response"],
+    ),
+    ("/node", "/json/node/01", ("nothing", 0), &["4xx-response"]),
+    ("/node", "/json/node/1/", ("nothing", 0), &["4xx-response"]),
+    ("/node", "/json/about", ("nothing", 0), &["4xx-response"]),
+    ("/node", "/json/", ("nothing", 0), &["4xx-response"]),
+    ("/node", "/json", ("nothing", 0), &["4xx-response"]),
+    ("/node", "/jsonnode/1", ("nothing", 0), &["4xx-response"]),
+    (
+        "/json/node/1",
+        "/",
+        ("nothing", 0),
+        &["4xx-response", "node:1", "config:system.site"],
+    ),
+    (
+        "/json/listing/frontpage",
+        "/",
+        ("nothing", 0),
+        &["4xx-response", "config:system.site"],
+    ),
+];
+
 /// What a path leads to, in a word, with its number where it has one.
 fn word(route: &Route) -> (&'static str, u32) {
     match route {
@@ -23,72 +151,36 @@ fn word(route: &Route) -> (&'static str, u32) {
     }
 }
 
+/// Whether these are all tags, as texts and in their order.
+fn are_written(alloc: Global, tags: &[Tag], texts: &[&str]) -> Result<bool, AllocError> {
+    if tags.len() != texts.len() {
+        return Ok(false);
+    }
+    for (tag, text) in tags.iter().zip(texts.iter()) {
+        if tag.text(alloc)?.as_slice() != text.as_bytes() {
+            return Ok(false);
+        }
+    }
+    Ok(true)
+}
+
 /// Whether a path leads there on the site with this front path, and these tags cover it.
-fn leads(
-    alloc: Global,
-    front: &str,
-    path: &str,
-    to: (&str, u32),
-    tags: &[Tag],
-) -> Result<bool, AllocError> {
+fn leads(alloc: Global, (front, path, to, tags): Lead) -> Result<bool, AllocError> {
     let state = site(alloc, front)?;
     let found = route_of(alloc, &state, path.as_bytes());
     drop(state);
     let (route, covering) = found?;
     let (kind, number) = word(&route);
-    Ok(kind == to.0 && number == to.1 && covering.as_slice() == tags)
+    drop(route);
+    Ok(kind == to.0 && number == to.1 && are_written(alloc, covering.as_slice(), tags)?)
 }
 
 /// A number that isn't there is covered by its tag, whatever it names. `/` leads to where the front path leads, and is covered
 /// by its tags and that of the settings.
 #[test]
 fn where_paths_lead(rt: HostRuntime) {
-    // the front path, the path, the word and the number of what is there, and the tags
-    let cases: [(&str, &str, (&str, u32), &[Tag]); 16] = [
-        ("/node", "/node/1", ("node", 1), &[Tag::Node(1)]),
-        ("/node", "/about", ("node", 1), &[Tag::Node(1)]),
-        ("/node", "/taxonomy/term/3", ("term", 3), &[Tag::Term(3)]),
-        ("/node", "/user/7", ("user", 7), &[Tag::User(7)]),
-        ("/node", "/user/login", ("login", 0), &[]),
-        ("/node", "/node/01", ("nothing", 0), &[Tag::NotFound]),
-        (
-            "/node",
-            "/node/4",
-            ("nothing", 0),
-            &[Tag::NotFound, Tag::Node(4)],
-        ),
-        (
-            "/node",
-            "/taxonomy/term/4",
-            ("nothing", 0),
-            &[Tag::NotFound, Tag::Term(4)],
-        ),
-        (
-            "/node",
-            "/user/8",
-            ("nothing", 0),
-            &[Tag::NotFound, Tag::User(8)],
-        ),
-        (
-            "/node",
-            "/taxonomy/term/03",
-            ("nothing", 0),
-            &[Tag::NotFound],
-        ),
-        ("/node", "/About", ("nothing", 0), &[Tag::NotFound]),
-        ("/node", "", ("nothing", 0), &[Tag::NotFound]),
-        ("/about", "/", ("node", 1), &[Tag::Node(1), Tag::Site]),
-        ("/user/login", "/", ("login", 0), &[Tag::Site]),
-        (
-            "/taxonomy/term/4",
-            "/",
-            ("nothing", 0),
-            &[Tag::NotFound, Tag::Term(4), Tag::Site],
-        ),
-        ("/nowhere", "/", ("nothing", 0), &[Tag::NotFound, Tag::Site]),
-    ];
-    for (front, path, to, tags) in cases {
-        assert!(rt; leads(rt.alloc(), front, path, to, tags) == Ok(true));
+    for lead in PATHS {
+        assert!(rt; leads(rt.alloc(), lead) == Ok(true));
     }
 }
 
@@ -96,78 +188,8 @@ fn where_paths_lead(rt: HostRuntime) {
 /// name by that of what is not found. `/` leads nowhere where the front path is one of JSON.
 #[test]
 fn where_paths_of_json_lead(rt: HostRuntime) {
-    let frontpage = Name::new(b"frontpage").expect(&rt, "a name");
-    // the front path, the path, the word and the number of what is there, and the tags
-    let cases: [(&str, &str, (&str, u32), &[Tag]); 16] = [
-        (
-            "/node",
-            "/json/node/1",
-            ("node as JSON", 1),
-            &[Tag::Node(1)],
-        ),
-        (
-            "/node",
-            "/json/term/3",
-            ("term as JSON", 3),
-            &[Tag::Term(3)],
-        ),
-        (
-            "/node",
-            "/json/user/7",
-            ("user as JSON", 7),
-            &[Tag::User(7)],
-        ),
-        (
-            "/node",
-            "/json/listing/frontpage",
-            ("listing as JSON", 0),
-            &[Tag::Listing(frontpage)],
-        ),
-        (
-            "/node",
-            "/json/node/4",
-            ("nothing", 0),
-            &[Tag::NotFound, Tag::Node(4)],
-        ),
-        (
-            "/node",
-            "/json/term/4",
-            ("nothing", 0),
-            &[Tag::NotFound, Tag::Term(4)],
-        ),
-        (
-            "/node",
-            "/json/user/8",
-            ("nothing", 0),
-            &[Tag::NotFound, Tag::User(8)],
-        ),
-        (
-            "/node",
-            "/json/listing/none",
-            ("nothing", 0),
-            &[Tag::NotFound],
-        ),
-        ("/node", "/json/node/01", ("nothing", 0), &[Tag::NotFound]),
-        ("/node", "/json/node/1/", ("nothing", 0), &[Tag::NotFound]),
-        ("/node", "/json/about", ("nothing", 0), &[Tag::NotFound]),
-        ("/node", "/json/", ("nothing", 0), &[Tag::NotFound]),
-        ("/node", "/json", ("nothing", 0), &[Tag::NotFound]),
-        ("/node", "/jsonnode/1", ("nothing", 0), &[Tag::NotFound]),
-        (
-            "/json/node/1",
-            "/",
-            ("nothing", 0),
-            &[Tag::NotFound, Tag::Node(1), Tag::Site],
-        ),
-        (
-            "/json/listing/frontpage",
-            "/",
-            ("nothing", 0),
-            &[Tag::NotFound, Tag::Site],
-        ),
-    ];
-    for (front, path, to, tags) in cases {
-        assert!(rt; leads(rt.alloc(), front, path, to, tags) == Ok(true));
+    for lead in PATHS_OF_JSON {
+        assert!(rt; leads(rt.alloc(), lead) == Ok(true));
     }
 }
 
