@@ -1,10 +1,11 @@
-//! Tests of whole runs of the program, by cases in files: each is run by public calls alone and compared with what its file
-//! says. docs/verification/TESTS.md has the format.
+//! Tests of whole runs of the program, and of rehearsals, by cases in files: each is run by public calls alone and compared with
+//! what its file says. docs/verification/TESTS.md has the formats.
 #![tactic(auto)]
 
 mod bench;
 mod devices;
 mod place;
+mod rehearsals;
 mod run;
 mod stores;
 
@@ -17,7 +18,7 @@ use std::thread::Threads;
 use std::{fs, io};
 
 /// The files of cases.
-const FILES: [&str; 20] = [
+const FILES: [&str; 21] = [
     "program.cases",
     "jobs.cases",
     "serving.cases",
@@ -38,9 +39,10 @@ const FILES: [&str; 20] = [
     "model_comments.cases",
     "model_json.cases",
     "model_late.cases",
+    rehearsals::FILE,
 ];
 
-/// Runs a case, and tells each section of it that differs, a line each.
+/// Runs a case over whole runs of the program, and tells each section of it that differs, a line each.
 fn run_case<R: Threads + Wait + Sync>(
     rt: &R,
     alloc: Global,
@@ -59,30 +61,36 @@ fn run_case<R: Threads + Wait + Sync>(
     Ok(())
 }
 
-/// Runs these cases, and tells those that differ, and how many agree.
+/// Runs these cases of the file of that name, and tells those that differ, and how many agree.
 fn run_cases<R: Threads + Wait + Sync>(
     rt: &R,
     alloc: Global,
+    name: &str,
     cases: &[Case],
     told: &mut Vec<u8>,
 ) -> Result<(), AllocError> {
     let mut tally = Tally::new();
     for case in cases {
         tally.count_case();
-        run_case(rt, alloc, case, &mut tally, told)?;
+        if name == rehearsals::FILE {
+            rehearsals::run_case(alloc, case, &mut tally, told)?;
+        } else {
+            run_case(rt, alloc, case, &mut tally, told)?;
+        }
     }
     told.extend_from_slice(tally.told(alloc)?.as_bytes())
 }
 
-/// Runs the cases of a file, and answers what is told of them.
+/// Runs the cases of the file of that name, and answers what is told of them.
 fn run_file<R: Threads + Wait + Sync>(
     rt: &R,
     alloc: Global,
+    name: &str,
     file: &[u8],
 ) -> Result<Vec<u8>, AllocError> {
     let mut told = Vec::new(alloc);
     match read_cases(alloc, file, STARTER) {
-        Ok(cases) => run_cases(rt, alloc, cases.as_slice(), &mut told)?,
+        Ok(cases) => run_cases(rt, alloc, name, cases.as_slice(), &mut told)?,
         Err(Unread::Line(number, why)) => {
             let line = format!(in alloc; "line {number}: {why}")?;
             told.extend_from_slice(line.as_bytes())?;
@@ -96,7 +104,7 @@ fn main(rt: HostRuntime) -> io::Result<()> {
     for name in FILES {
         match fs::read(&rt, name) {
             Ok(file) => {
-                let told = run_file(&rt, rt.alloc(), file.as_slice())?;
+                let told = run_file(&rt, rt.alloc(), name, file.as_slice())?;
                 let text = String::from_utf8_lossy(rt.alloc(), told.as_slice())?;
                 println!(rt; "{name}: {text}")?;
             }

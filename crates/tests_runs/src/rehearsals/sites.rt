@@ -2,9 +2,10 @@
 ghost use Rattle.std.specs.Prelude.{IfOk};
 ghost use Rattle.indexed_rows.specs.Rows.{AreValidRows};
 
-use crate::asks::name;
-use crate::fault::Fault;
-use crate::subjects::small;
+use crate::devices::last;
+use crate::rehearsals::asks::name;
+use crate::rehearsals::fault::Fault;
+use crate::rehearsals::subjects::small;
 use cacheability::Tag;
 use case_files::{Section, number, numbers, word_list};
 use content_state::State;
@@ -15,13 +16,6 @@ use site_keeper::Stored;
 use std::alloc::{AllocError, Global};
 use std::num::NonZeroUsize;
 use tag_counts::Counts;
-
-/// The last section with that word, if there is one.
-fn last<'a>(set: &'a [Section], word: &[u8]) -> Option<&'a Section> {
-    set.iter()
-        .rev()
-        .find(|section| section.word.as_slice() == word)
-}
 
 /// The rows of the site, as a source.
 fn rows_source(alloc: Global, set: &[Section]) -> Result<MemorySource, Fault> {

@@ -1,7 +1,7 @@
 //! The keys that are looked for.
 
-use crate::fault::Fault;
-use crate::subjects::subject;
+use crate::rehearsals::fault::Fault;
+use crate::rehearsals::subjects::subject;
 use cache_contexts::{ContextValue, values};
 use cache_entries::Key;
 use cacheability::Context;

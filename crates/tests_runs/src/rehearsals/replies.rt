@@ -1,8 +1,8 @@
 //! What is answered to turns, as text.
 
-use crate::fault::Fault;
-use crate::sites::{rooms, state, stored};
-use crate::turns::{Turns, add_turns};
+use crate::rehearsals::fault::Fault;
+use crate::rehearsals::sites::{rooms, state, stored};
+use crate::rehearsals::turns::{Turns, add_turns};
 use cache_entries::Found;
 use case_files::{Section, Words};
 use site_commands::{Answer, Refusal};

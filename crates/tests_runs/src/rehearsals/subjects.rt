@@ -1,7 +1,7 @@
 //! What is built and looked for.
 
-use crate::asks::{decoded, name};
-use crate::fault::Fault;
+use crate::rehearsals::asks::{decoded, name};
+use crate::rehearsals::fault::Fault;
 use cache_entries::{Bin, Subject};
 use case_files::number;
 use content_state::{Fragment, Mode, Placing};

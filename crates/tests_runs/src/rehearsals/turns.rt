@@ -2,11 +2,11 @@
 ghost use Rattle.std.specs.Prelude.{IfOk, All};
 ghost use Rattle.site_rehearsal.specs.Rehearsed.{MayAct, MayTake};
 
-use crate::asks::{ask, moment, name};
-use crate::edits::{command, csrf, edit};
-use crate::fault::Fault;
-use crate::keys::key;
-use crate::subjects::{bin, element, small, target};
+use crate::rehearsals::asks::{ask, moment, name};
+use crate::rehearsals::edits::{command, csrf, edit};
+use crate::rehearsals::fault::Fault;
+use crate::rehearsals::keys::key;
+use crate::rehearsals::subjects::{bin, element, small, target};
 use case_files::first_word;
 use content_state::State;
 use site_rehearsal::{Act, Turn};

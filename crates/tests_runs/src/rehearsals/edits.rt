@@ -2,9 +2,9 @@
 ghost use Rattle.std.specs.Prelude.{IfOk};
 ghost use Rattle.site_commands.specs.Right.{IsRight};
 
-use crate::asks::name;
-use crate::fault::Fault;
-use crate::subjects::small;
+use crate::rehearsals::asks::name;
+use crate::rehearsals::fault::Fault;
+use crate::rehearsals::subjects::small;
 use cacheability::Name;
 use content_rows::Text;
 use edit_bodies::{body_of, command_of};

@@ -4,7 +4,7 @@ ghost use Rattle.percent_encoding.specs.Percent.{percent_decode};
 ghost use Rattle.content_rows.specs.Kinds.{IsMoment};
 ghost use Rattle.content_state.specs.Ask.{IsAsk, is_question, cut_before, query_of};
 
-use crate::fault::Fault;
+use crate::rehearsals::fault::Fault;
 use cacheability::Name;
 use case_files::number;
 use content_rows::Text;
