@@ -34,6 +34,19 @@ SECONDS = float(os.environ.get("SITEKIT_TEST_SECONDS", "60"))
 """How long a command or a request may take. A busy machine wants more."""
 TRIES = 3
 """How often a server is started: somebody else may be faster at a port that was free."""
+STARTER = b"""\
+{"cell":"site","front":"/node","name":"Site"}
+{"cell":"seq","node":2,"term":1,"user":2}
+{"cell":"type:page","fields":[{"edit":null,"label":"Body","name":"body","owner":false,"teaser":true,"view":null}],"label":"Page","submitted":false}
+{"admin":false,"cell":"role:anonymous","grants":[],"label":"Anonymous","permissions":["access content"]}
+{"admin":false,"cell":"role:authenticated","grants":[],"label":"Member","permissions":["access content"]}
+{"cell":"user:1","created":0,"digest":null,"grants":[],"name":"admin","roles":[],"salt":"","status":true,"uuid":"u-1"}
+{"cell":"node:1","changed":100,"created":100,"fields":{"body":"Hello"},"grants":[],"path":null,"promote":true,"refs":[],"status":true,"sticky":false,"terms":[],"title":"First","type":"page","uid":1,"uuid":"n-1","vid":1}
+{"age":null,"cell":"listing:frontpage","path":"/node","promoted":true,"recent":null,"term":null,"title":"Home","types":[]}
+"""
+"""The rows of the site that `replay` begins with, in the order of cells. User 1 may make every edit."""
+SESSION = b'{"cell":"session:abc","expires":4000000000,"uid":1}\n'
+"""A session of user 1, whose token is `abc`."""
 
 
 def site() -> str:
@@ -119,9 +132,9 @@ class Case(unittest.TestCase):
         return self.path("site.rows")
 
     @contextlib.contextmanager
-    def served(self, store: str, workers: int = 4) -> Iterator["Server"]:
+    def served(self, store: str, workers: int = 4, *more: str) -> Iterator["Server"]:
         """A served store, which is killed at the end."""
-        server = Server(store, workers)
+        server = Server(store, workers, *more)
         self.environment["SITEKIT_AT"] = server.address
         try:
             yield server
@@ -184,11 +197,11 @@ def free_port() -> int:
 class Server:
     """A served store on loopback."""
 
-    def __init__(self, store: str, workers: int = 4) -> None:
+    def __init__(self, store: str, workers: int = 4, *more: str) -> None:
         for _ in range(TRIES):
             self.port = free_port()
             self.address = f"http://127.0.0.1:{self.port}"
-            words = [site(), "serve", "--store", store, "--listen", f"127.0.0.1:{self.port}", "--workers", str(workers)]
+            words = [site(), "serve", "--store", store, "--listen", f"127.0.0.1:{self.port}", "--workers", str(workers), *more]
             self.process = subprocess.Popen(words, stdout=subprocess.PIPE)
             assert self.process.stdout is not None
             line = self.process.stdout.readline()
@@ -207,6 +220,12 @@ class Server:
         self.process.wait()
         assert self.process.stdout is not None
         self.process.stdout.close()
+
+    def end(self) -> tuple[int, bytes]:
+        """Waits until the program ends by itself: its status, and what it printed since it listened."""
+        assert self.process.stdout is not None
+        status = self.process.wait(SECONDS)
+        return status, self.process.stdout.read()
 
     def get(self, path: str, cookie: Optional[str] = None) -> tuple[int, str]:
         """The status and the page of a path."""

@@ -1,5 +1,0 @@
-//! A test of serving a store on a socket, by public calls alone.
-#![tactic(auto)]
-
-#[cfg(test)]
-mod loopback;
