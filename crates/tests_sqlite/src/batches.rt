@@ -152,17 +152,6 @@ pub(crate) struct Seen {
     pub(crate) told: u64,
 }
 
-/// What a new store holds.
-pub(crate) const NOTHING: Seen = Seen {
-    rows: 0,
-    next_node: 0,
-    version: 0,
-    tags: 0,
-    sum: 0,
-    head: 0,
-    told: 0,
-};
-
 /// What is held after `BEGIN`.
 pub(crate) const BEGUN: Seen = Seen {
     rows: 11,

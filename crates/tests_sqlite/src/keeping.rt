@@ -1,13 +1,10 @@
-//! What a keeper over a database holds, which rows of its tables it refuses, and that it goes on after a fault.
+//! Which rows of a database's tables a keeper over it refuses, and which databases are no store.
 
-use crate::batches::{BEGUN, EDITED, NOTHING, Seen, Step, batch_of, held_by};
-use crate::files::{MAKES, OPENS, Work, in_file, is_done_in};
+use crate::batches::held_by;
 use keeper_sqlite::{NoKeeper, SqliteKeeper, StoreTable, over};
 use site_keeper::{Keeper, KeeperFault};
 use sqlite::{Alter, Connection, Error, MemStore};
 use std::alloc::Global;
-use std::fs;
-use std::test::Fail;
 
 /// The two tables.
 const TABLES: &str =
@@ -173,23 +170,6 @@ fn broken_rows_are_faults(rt: HostRuntime) {
     }
 }
 
-/// What a keeper holds once a batch is kept.
-fn kept_by<S: Alter + Drop>(
-    alloc: Global,
-    keeper: &mut SqliteKeeper<S>,
-    step: Step,
-) -> Result<Seen, KeeperFault> {
-    let Some(batch) = batch_of(alloc, step) else {
-        return Err(KeeperFault::OutOfMemory);
-    };
-    let kept = keeper.apply(alloc, &batch);
-    drop(batch);
-    match kept {
-        Ok(()) => held_by(alloc, keeper),
-        Err(fault) => Err(fault),
-    }
-}
-
 /// Why no keeper is opened over a database in memory after these statements, if it isn't. None where memory is wanting.
 fn refusal(rt: &HostRuntime, statements: &str) -> Option<Option<NoKeeper>> {
     let conn = database(rt.alloc(), &[statements]).ok()?;
@@ -212,116 +192,4 @@ fn what_is_no_store_is_refused(rt: HostRuntime) {
             "{statements}"
         );
     }
-}
-
-/// What a keeper holds, if there is one, and what it holds once a batch is kept.
-#[derive(Drop)]
-struct Keeping {
-    step: Step,
-    told: [Result<Seen, KeeperFault>; 2],
-}
-
-impl Work for Keeping {
-    fn work<S: Alter + Drop>(&mut self, alloc: Global, mut keeper: SqliteKeeper<S>) {
-        let before = held_by(alloc, &mut keeper);
-        let after = kept_by(alloc, &mut keeper, self.step);
-        self.told = [before, after];
-    }
-}
-
-/// The same of the keeper of a file.
-fn kept_in(
-    rt: &HostRuntime,
-    path: &str,
-    makes: bool,
-    step: Step,
-) -> [Result<Seen, KeeperFault>; 2] {
-    let mut keeping = Keeping {
-        step,
-        told: [Err(KeeperFault::Failed), Err(KeeperFault::Failed)],
-    };
-    in_file(rt, path, makes, &mut keeping);
-    keeping.told
-}
-
-/// Whether no keeper of a file is opened.
-fn is_refused(rt: &HostRuntime, path: &str, makes: bool, step: Step) -> bool {
-    kept_in(rt, path, makes, step) == [Err(KeeperFault::Failed), Err(KeeperFault::Failed)]
-}
-
-/// Whether the keeper of a file that is there or made holds nothing, and then what is imported.
-fn is_begun(rt: &HostRuntime, path: &str) -> bool {
-    kept_in(rt, path, MAKES, Step::Begin) == [Ok(NOTHING), Ok(BEGUN)]
-}
-
-/// Whether the keeper of a file that is there holds what was imported, and then an edit too.
-fn is_edited(rt: &HostRuntime, path: &str) -> bool {
-    kept_in(rt, path, OPENS, Step::Edit) == [Ok(BEGUN), Ok(EDITED)]
-}
-
-/// A file that is opened again holds what was kept. A file that cannot be made is refused.
-#[test]
-fn a_file_is_opened_again(rt: HostRuntime) -> Result<(), Fail> {
-    let path = "kept.db";
-    assert!(rt; is_begun(&rt, path));
-    assert!(rt; is_edited(&rt, path));
-    fs::remove_file(&rt, path)?;
-    fs::remove_file(&rt, "kept.db-wal")?;
-    assert!(rt; is_refused(&rt, "no folder/kept.db", MAKES, Step::Begin));
-    Ok(())
-}
-
-/// Where no file is there none is made, unless a store is to be made.
-#[test]
-fn a_store_that_is_not_there_is_not_made(rt: HostRuntime) -> Result<(), Fail> {
-    let path = "absent.db";
-    assert!(rt; is_refused(&rt, path, OPENS, Step::Begin));
-    assert!(rt; !fs::exists(&rt, path)?);
-    assert!(rt; !fs::exists(&rt, "absent.db-wal")?);
-    Ok(())
-}
-
-/// A file without a store is refused: an empty one, into which SQLite writes its header, and one whose log was taken away.
-#[test]
-fn a_file_without_a_store_is_refused(rt: HostRuntime) -> Result<(), Fail> {
-    fs::write(&rt, "empty.db", "")?;
-    assert!(rt; is_refused(&rt, "empty.db", MAKES, Step::Begin));
-    assert!(rt; is_refused(&rt, "empty.db", OPENS, Step::Begin));
-    fs::remove_file(&rt, "empty.db")?;
-    assert!(rt; is_begun(&rt, "cut.db"));
-    fs::remove_file(&rt, "cut.db-wal")?;
-    assert!(rt; is_refused(&rt, "cut.db", OPENS, Step::Edit));
-    assert!(rt; is_refused(&rt, "cut.db", MAKES, Step::Edit));
-    fs::remove_file(&rt, "cut.db")?;
-    Ok(())
-}
-
-/// A log whose file was taken away is no new store either.
-#[test]
-fn a_log_without_its_file_is_refused(rt: HostRuntime) -> Result<(), Fail> {
-    assert!(rt; is_begun(&rt, "left.db"));
-    fs::remove_file(&rt, "left.db")?;
-    assert!(rt; is_refused(&rt, "left.db", MAKES, Step::Edit));
-    assert!(rt; !fs::exists(&rt, "left.db")?);
-    fs::remove_file(&rt, "left.db-wal")?;
-    Ok(())
-}
-
-/// Another program's database is refused, and its tables are left as they are.
-#[test]
-fn a_database_of_other_tables_is_refused(rt: HostRuntime) -> Result<(), Fail> {
-    let path = "other.db";
-    let made = is_done_in(
-        &rt,
-        path,
-        "CREATE TABLE note (id INTEGER PRIMARY KEY, title TEXT)",
-    );
-    assert!(rt; made == Some(true));
-    assert!(rt; is_refused(&rt, path, MAKES, Step::Begin));
-    let made = is_done_in(&rt, path, "SELECT body FROM cell_row");
-    assert!(rt; made == Some(false));
-    for file in [path, "other.db-wal"] {
-        let _gone = fs::remove_file(&rt, file);
-    }
-    Ok(())
 }

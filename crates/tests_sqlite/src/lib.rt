@@ -4,11 +4,7 @@
 #[cfg(test)]
 mod batches;
 #[cfg(test)]
-mod beginning;
-#[cfg(test)]
 mod crashes;
-#[cfg(test)]
-mod files;
 #[cfg(test)]
 mod keeping;
 #[cfg(test)]
